@@ -1,0 +1,55 @@
+-- Worked examples, computed from the definitions.
+use mathlib.Core.Path.{_≡_, refl, ap}
+use mathlib.Core.Bool.{false, false≢true}
+use mathlib.Core.List.{[], _∷_, map}
+use Rattle.record.specs.Places.{absent, place}
+use Rattle.record.specs.Refusals.{refusalNumber}
+use Rattle.record.specs.Answers.{answerOf, strictAnswerOf, outputAnswerOf}
+use Rattle.record.specs.declared.Place.{Place}
+use Rattle.record.specs.declared.Refusal.the-variants.{LineTooLong, BadSetting, NotUtf8, NoReading, TooManyElements, TooManyParams, Unsuitable, NotFound, OutputShort}
+use Rattle.record.specs.declared.Protocol.the-variants.{Rfc3164}
+use Rattle.record.specs.declared.Level.the-variants.{Unset}
+use Rattle.record.specs.declared.Stamp.the-variants.{Unstamped}
+use Rattle.record.specs.declared.Record.{Record}
+use Rattle.record.specs.declared.Reading.the-variants.{Refused}
+use Rattle.record.specs.declared.StrictReading.the-variants as strict
+use Rattle.record.specs.declared.Written.the-variants as written
+
+-- the cases in the order in which 01 checks them, and their numbers
+numbers : map refusalNumber (LineTooLong ∷ BadSetting ∷ NotUtf8 ∷ NoReading ∷ TooManyElements ∷ TooManyParams ∷ Unsuitable ∷ NotFound ∷ OutputShort ∷ [])
+    ≡ 1 ∷ 2 ∷ 3 ∷ 4 ∷ 5 ∷ 6 ∷ 7 ∷ 9 ∷ 8 ∷ []
+numbers = refl
+
+abbrev nothing : Place
+nothing = record { present = false; start = 0; len = 0 }
+
+-- the empty record, written out
+abbrev unread : Record
+unread =
+    record {
+      protocol = Rfc3164;
+      facility = Unset;
+      severity = Unset;
+      timestamp = Unstamped;
+      host = nothing;
+      app = nothing;
+      procid = nothing;
+      msgid = nothing;
+      message = record { start = 0; len = 0 };
+    }
+
+-- a refusal returns its number, the empty record and zeros
+refused : (answerOf (Refused NoReading) ≡ record { number = 4; reading = unread; elements = 0; params = 0 })
+    × (strictAnswerOf (strict.Refused TooManyParams)
+    ≡ record {
+      number = 6;
+      reading = record { common = unread; «timestamp_text» = nothing; «has_message» = false };
+      elements = 0;
+      params = 0;
+    })
+    × (outputAnswerOf (written.Refused OutputShort) ≡ record { number = 8; len = 0 })
+refused = (refl, refl, refl)
+
+-- absent and empty differ
+apart : absent ≡ place 0 0 → ⊥
+apart e = false≢true (ap (λ (p : Place). p .present) e)

@@ -1,0 +1,24 @@
+-- 01's number and values of each case of an answer. Number 0: done; a refusal returns its number, the empty record and zeros.
+use Rattle.record.specs.Refusals.{refusalNumber}
+use Rattle.record.specs.Records.{emptyRecord, emptyStrict}
+use Rattle.record.specs.declared.Reading.{Reading}
+use Rattle.record.specs.declared.Reading.the-variants.{Read, Refused}
+use Rattle.record.specs.declared.StrictReading.{StrictReading}
+use Rattle.record.specs.declared.StrictReading.the-variants as strict
+use Rattle.record.specs.declared.Written.{Written}
+use Rattle.record.specs.declared.Written.the-variants as written
+use Rattle.record.specs.declared.Answer.{Answer}
+use Rattle.record.specs.declared.StrictAnswer.{StrictAnswer}
+use Rattle.record.specs.declared.OutputAnswer.{OutputAnswer}
+
+abbrev pub answerOf : Reading → Answer
+answerOf (Read r e p) = record { number = 0; reading = r; elements = e; params = p }
+answerOf (Refused f) = record { number = refusalNumber f; reading = emptyRecord; elements = 0; params = 0 }
+
+abbrev pub strictAnswerOf : StrictReading → StrictAnswer
+strictAnswerOf (strict.Read r e p) = record { number = 0; reading = r; elements = e; params = p }
+strictAnswerOf (strict.Refused f) = record { number = refusalNumber f; reading = emptyStrict; elements = 0; params = 0 }
+
+abbrev pub outputAnswerOf : Written → OutputAnswer
+outputAnswerOf (written.Done n) = record { number = 0; len = n }
+outputAnswerOf (written.Refused f) = record { number = refusalNumber f; len = 0 }

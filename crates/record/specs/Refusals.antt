@@ -1,0 +1,24 @@
+-- The numbers a caller may get back, in the order of 01's table, which is the order in which they are checked.
+use Prim.Native.Nat.{ℕ}
+use Rattle.record.specs.declared.Refusal.{Refusal}
+use Rattle.record.specs.declared.Refusal.the-variants.{LineTooLong, BadSetting, NotUtf8, NoReading, TooManyElements, TooManyParams, Unsuitable, NotFound, OutputShort}
+
+abbrev pub refusalNumber : Refusal → ℕ
+-- line over 8,192 bytes
+refusalNumber LineTooLong = 1
+-- variant, year, offset or kind out of range
+refusalNumber BadSetting = 2
+-- line not UTF-8
+refusalNumber NotUtf8 = 3
+-- no reading
+refusalNumber NoReading = 4
+-- more elements than the element table
+refusalNumber TooManyElements = 5
+-- more parameters than the parameter table
+refusalNumber TooManyParams = 6
+-- the record, counts or tables do not suit the line
+refusalNumber Unsuitable = 7
+-- lookup finds no such parameter
+refusalNumber NotFound = 9
+-- output shorter than the result
+refusalNumber OutputShort = 8

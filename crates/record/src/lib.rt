@@ -1,0 +1,225 @@
+// What is read from a line: places, the record, the strict record; and the answers, with 01's refusals.
+ghost use mathlib.Core.Path.{_≡_};
+ghost use Rattle.record.specs.Places.{absent, place};
+ghost use Rattle.record.specs.Refusals.{refusalNumber};
+ghost use Rattle.record.specs.Records.{emptyRecord, emptyStrict};
+ghost use Rattle.record.specs.Answers.{answerOf, strictAnswerOf, outputAnswerOf};
+
+// A text of the line. An absent one has start and length 0; an empty one is present.
+pub struct Place {
+    pub present: bool,
+    pub start: usize,
+    pub len: usize,
+}
+
+// Where a message lies. A line always has one but for the strict reader, whose record says whether.
+pub struct Span {
+    pub start: usize,
+    pub len: usize,
+}
+
+pub enum Protocol {
+    Rfc3164,
+    Rfc5424(u32),
+}
+
+// A facility or a severity.
+pub enum Level {
+    Unset,
+    Set(u8),
+}
+
+// An instant, in seconds since 1970-01-01T00:00:00Z and nanoseconds, and the offset in minutes at which it is shown.
+pub struct Timestamp {
+    pub seconds: i64,
+    pub nanos: u32,
+    pub offset: i32,
+}
+
+pub enum Stamp {
+    Unstamped,
+    Stamped(Timestamp),
+}
+
+pub struct Record {
+    pub protocol: Protocol,
+    pub facility: Level,
+    pub severity: Level,
+    pub timestamp: Stamp,
+    pub host: Place,
+    pub app: Place,
+    pub procid: Place,
+    pub msgid: Place,
+    pub message: Span,
+}
+
+// What the strict reader adds: the place of the timestamp's text, and whether there is a message.
+pub struct StrictRecord {
+    pub common: Record,
+    pub timestamp_text: Place,
+    pub has_message: bool,
+}
+
+// Why a call is refused, in the order in which 01 checks.
+pub enum Refusal {
+    LineTooLong,
+    BadSetting,
+    NotUtf8,
+    NoReading,
+    TooManyElements,
+    TooManyParams,
+    Unsuitable,
+    NotFound,
+    OutputShort,
+}
+
+// What a loose reader answers: the record and both counts, or why not.
+pub enum Reading {
+    Read(Record, usize, usize),
+    Refused(Refusal),
+}
+
+// What the strict reader answers.
+pub enum StrictReading {
+    Read(StrictRecord, usize, usize),
+    Refused(Refusal),
+}
+
+// What printing and lookup answer: the length of what stands in the output, or why not.
+pub enum Written {
+    Done(usize),
+    Refused(Refusal),
+}
+
+// The same answers as 01's number (0: done) and values.
+pub struct Answer {
+    pub number: u32,
+    pub reading: Record,
+    pub elements: usize,
+    pub params: usize,
+}
+
+pub struct StrictAnswer {
+    pub number: u32,
+    pub reading: StrictRecord,
+    pub elements: usize,
+    pub params: usize,
+}
+
+pub struct OutputAnswer {
+    pub number: u32,
+    pub len: usize,
+}
+
+pub fn absent() -> Place
+    ensures { λ r. ⌜ r ≡ absent ⌝ }
+{
+    Place {
+        present: false,
+        start: 0,
+        len: 0,
+    }
+}
+
+pub fn place_at(start: usize, len: usize) -> Place
+    ensures { λ r. ⌜ r ≡ place start len ⌝ }
+{
+    Place {
+        present: true,
+        start,
+        len,
+    }
+}
+
+pub fn empty_record() -> Record
+    ensures { λ r. ⌜ r ≡ emptyRecord ⌝ }
+{
+    let none = absent();
+    Record {
+        protocol: Protocol::Rfc3164,
+        facility: Level::Unset,
+        severity: Level::Unset,
+        timestamp: Stamp::Unstamped,
+        host: none,
+        app: none,
+        procid: none,
+        msgid: none,
+        message: Span { start: 0, len: 0 },
+    }
+}
+
+pub fn empty_strict() -> StrictRecord
+    ensures { λ r. ⌜ r ≡ emptyStrict ⌝ }
+{
+    StrictRecord {
+        common: empty_record(),
+        timestamp_text: absent(),
+        has_message: false,
+    }
+}
+
+pub fn refusal_number(r: Refusal) -> u32
+    ensures { λ n. ⌜ n ≡ refusalNumber r ⌝ }
+{
+    match r {
+        Refusal::LineTooLong => 1,
+        Refusal::BadSetting => 2,
+        Refusal::NotUtf8 => 3,
+        Refusal::NoReading => 4,
+        Refusal::TooManyElements => 5,
+        Refusal::TooManyParams => 6,
+        Refusal::Unsuitable => 7,
+        Refusal::NotFound => 9,
+        Refusal::OutputShort => 8,
+    }
+}
+
+pub fn answer_of(r: Reading) -> Answer
+    ensures { λ a. ⌜ a ≡ answerOf r ⌝ }
+{
+    match r {
+        Reading::Read(reading, elements, params) => Answer {
+            number: 0,
+            reading,
+            elements,
+            params,
+        },
+        Reading::Refused(refusal) => Answer {
+            number: refusal_number(refusal),
+            reading: empty_record(),
+            elements: 0,
+            params: 0,
+        },
+    }
+}
+
+pub fn strict_answer_of(r: StrictReading) -> StrictAnswer
+    ensures { λ a. ⌜ a ≡ strictAnswerOf r ⌝ }
+{
+    match r {
+        StrictReading::Read(reading, elements, params) => StrictAnswer {
+            number: 0,
+            reading,
+            elements,
+            params,
+        },
+        StrictReading::Refused(refusal) => StrictAnswer {
+            number: refusal_number(refusal),
+            reading: empty_strict(),
+            elements: 0,
+            params: 0,
+        },
+    }
+}
+
+pub fn output_answer_of(w: Written) -> OutputAnswer
+    ensures { λ a. ⌜ a ≡ outputAnswerOf w ⌝ }
+{
+    match w {
+        Written::Done(len) => OutputAnswer { number: 0, len },
+        Written::Refused(refusal) => OutputAnswer {
+            number: refusal_number(refusal),
+            len: 0,
+        },
+    }
+}
