@@ -1,0 +1,125 @@
+-- `fractionAt`: what it answers, on which text, and a fraction brought to nine digits.
+use Prim.Native.Nat.{ℕ, suc, _+_, _-_, _*_, _^_, _≤_, _<_}
+use mathlib.Core.Path.{_≡_, sym, ap, _∙_}
+use mathlib.Core.Bool.{false, _&&_, and-false}
+use mathlib.Core.List.{List, _++_}
+use native.Mathlib.Nat.{pow-zero, pow-suc, one-le-pow, mul-one, mul-assoc, add-mul, mul-le-mul-right, pow-le-pow-right, lt-of-lt-of-le}
+use native.Mathlib.Numerals.{add-one}
+use native.Mathlib.Omega.{arith}
+use lib.Dec.{leb}
+use lib.ListN.{length, take}
+use lib.Pow.{pow-add}
+use lib.Seq.{take-append-seam}
+use mir.Syntax.{w32}
+use mir.Val.{Fits}
+use borrow.Author.Tests.{le-leb, lt-leb, leb-true}
+use Rattle.base.specs.Runs.{All}
+use Rattle.base.proofs.Tests.{both, by-test}
+use Rattle.base.proofs.Runs.{run-le, run-text}
+use Rattle.digits.specs.Digits.{isDigit, digitRun, decimal, numberAt, fractionAt}
+use Rattle.digits.specs.declared.Number.{Number}
+use Rattle.digits.specs.declared.Number.the-variants.{Nothing, Value}
+use Rattle.digits.proofs.Choices.{chosen, not-chosen}
+use Rattle.digits.proofs.Decimals.{decimal-front-lt}
+use Rattle.digits.proofs.Numbers.{IsNumber, number-is}
+
+-- `v` of `n` digits, brought to `k` digits as `w`
+pub record Scaled (v n w k : ℕ) : Type 0 where
+  pub from : n ≤ k
+  pub upto : k ≤ 9
+  pub is : w ≡ v * 10 ^ (k - n)
+  pub small : w < 10 ^ k
+
+pub scaled-start : (v n : ℕ) → (n ≤ 9) × (v < 10 ^ n) → Scaled v n v n
+scaled-start v n h =
+    let z : n - n ≡ 0 = omega arith in
+    record { from = omega arith; upto = h .0; is = rw (z, pow-zero, mul-one); small = h .1 }
+
+module _ (v n w k : ℕ) (c : Scaled v n w k) (h : k < 9) where
+  pub scaled-fits : Fits w32 (w * 10)
+  scaled-fits =
+      let l : w < 10 ^ 8 = lt-of-lt-of-le (c .small) (pow-le-pow-right (omega arith) {i = k} {j = 8} (omega arith)) in
+      record { fits = omega arith }
+
+  pub scaled-more : Scaled v n (w * 10) (k + 1)
+  scaled-more =
+      let p : k + 1 - n ≡ suc (k - n) = omega (arith, c .from) in
+      record {
+        from = omega (arith, c .from);
+        upto = omega arith;
+        is = rw (p, pow-suc, ← mul-assoc, c .is);
+        small = rw (add-one k, pow-suc) (omega (arith, c .small));
+      }
+
+pub scaled-all : (v n w k : ℕ) → Scaled v n w k → 9 ≤ k → w ≡ v * 10 ^ (9 - n)
+scaled-all v n w k c h = let e : k ≡ 9 = omega (arith, c .upto) in c .is ∙ ap (λ (j : ℕ). v * 10 ^ (j - n)) e
+
+pub ruleset scaled-laws = (scaled-start, scaled-fits, scaled-more, scaled-all)
+
+pub record IsFraction (most : ℕ) (s : List ℕ) (v n : ℕ) : Type 0 where
+  pub whole : n ≡ digitRun s
+  pub value : v ≡ decimal (take n s) * 10 ^ (9 - n)
+  pub some : 1 ≤ n
+  pub few : n ≤ most
+
+module _ (most : ℕ) (s : List ℕ) (v n : ℕ) (e : fractionAt most s ≡ Value v n) where
+  pub fraction-is : IsFraction most s v n
+  unfolding fractionAt
+  fraction-is =
+      let k = digitRun s in
+      let c = chosen _ _ _ _ _ e in
+      let t = both (leb 1 k) (leb k most) (c .test) in
+      record {
+        whole = sym (c .len);
+        value = sym (c .value) ∙ ap (λ (i : ℕ). decimal (take i s) * 10 ^ (9 - i)) (c .len);
+        some = omega (arith, leb-true 1 k (t .0), c .len);
+        few = omega (arith, leb-true k most (t .1), c .len);
+      }
+
+  pub fraction-len : most ≤ 9 → (1 ≤ n) × (n ≤ most) × (n ≤ length s) × (v < 10 ^ 9)
+  fraction-len h =
+      let i = fraction-is in
+      let d = decimal (take n s) in
+      let p = 10 ^ (9 - n) in
+      let l : suc d * p ≤ 10 ^ n * p = mul-le-mul-right p (decimal-front-lt s n (omega (arith, i .whole))) in
+      let k : n + (9 - n) ≡ 9 = omega (arith, i .few) in
+      let q : 10 ^ n * p ≡ 10 ^ 9 = sym (pow-add 10 n (9 - n)) ∙ ap (λ (j : ℕ). 10 ^ j) k in
+      let z : 1 ≤ p = one-le-pow (9 - n) 10 (omega arith) in
+      (i .some, i .few, omega (arith, i .whole, run-le isDigit s), rw (i .value) (omega (arith, q, add-mul 1 d p)))
+
+-- digits, and behind them a byte that is none
+pub fraction-text : (most : ℕ) (t r : List ℕ) → All isDigit t → 1 ≤ length t → length t ≤ most → digitRun r ≡ 0
+    → fractionAt most (t ++ r) ≡ Value (decimal t * 10 ^ (9 - length t)) (length t)
+unfolding fractionAt
+fraction-text most t r a h g z = rw (run-text isDigit t r a z, take-append-seam t r, le-leb 1 (length t) h, le-leb (length t) most g)
+
+-- a number of nine digits at most is read, and then counted
+module _ (most : ℕ) (s : List ℕ) (h : most ≤ 9) (f : Number) (ef : f ≡ numberAt 999999999 s) where
+  pub fraction-none : f ≡ Nothing → Nothing ≡ fractionAt most s
+  unfolding numberAt fractionAt
+  fraction-none e = rw (few (digitRun s) (decimal-front-lt s (digitRun s) (omega arith)) (not-chosen _ _ _ (sym ef ∙ e)))
+    where
+      few : (k : ℕ) → decimal (take k s) < 10 ^ k → (leb 1 k && leb (decimal (take k s)) 999999999) ≡ false → (leb 1 k && leb k most) ≡ false
+      few k l t =
+          by-test (λ b. (leb 1 k && b) ≡ false) (leb k most)
+          (λ m. let g : 10 ^ k ≤ 10 ^ 9 = pow-le-pow-right (omega arith) {i = k} {j = 9} (omega (arith, leb-true k most m)) in
+          rw (le-leb (decimal (take k s)) 999999999 (omega arith)) at t)
+          (λ m. and-false (leb 1 k))
+
+  module _ (v n : ℕ) (ev : f ≡ Value v n) where
+    is : IsNumber 999999999 s v n
+    is = number-is 999999999 s v n (sym ef ∙ ev)
+
+    pub fraction-many : most < n → Nothing ≡ fractionAt most s
+    unfolding fractionAt
+    fraction-many l = rw (← is .whole, lt-leb n most l, and-false)
+
+    module _ (l : n ≤ most) where
+      pub fraction-small : v < 10 ^ n
+      fraction-small = rw (is .value) (decimal-front-lt s n (omega (arith, is .whole)))
+
+      pub fraction-value : (w : ℕ) → w ≡ v * 10 ^ (9 - n) → Value w n ≡ fractionAt most s
+      unfolding fractionAt
+      fraction-value w e = rw (← is .whole, ← is .value, le-leb n most l, le-leb 1 n (is .some), e)
+
+pub ruleset fraction-laws = (fraction-none, fraction-many, fraction-small, fraction-value)

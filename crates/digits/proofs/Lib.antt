@@ -1,0 +1,7 @@
+pub mod Fronts
+pub mod Decimals
+pub mod Choices
+pub mod Numbers
+pub mod Fixed
+pub mod Fractions
+pub mod Examples
