@@ -1,9 +1,8 @@
 -- A table or an output whose front is filled, an entry at a time.
-use Prim.Native.Nat.{ℕ, suc, _+_, _≤_, _<_}
+use Prim.Native.Nat.{suc, _≤_, _<_}
 use mathlib.Core.Path.{_≡_, refl, sym, ap, _∙_}
-use mathlib.Core.List.{List, [], _∷_, _++_, append-assoc}
+use mathlib.Core.List.{List, [], _∷_, _++_}
 use native.Mathlib.Omega.{arith}
-use native.Mathlib.Numerals.{add-one}
 use lib.ListN.{length, set, drop, length-append, length-drop}
 use lib.Seq.{drop-cons, set-append-seam, append-snoc}
 use Rattle.base.specs.Fills.{filled}

@@ -1,22 +1,18 @@
 -- Digits, and the numbers that they write.
 use Prim.Native.Nat.{ℕ, _+_, _-_, _*_, _^_, _≤_, _<_}
-use mathlib.Core.Path.{_≡_, refl, sym, ap, _∙_}
-use mathlib.Core.Bool.{Bool, true, false, not}
+use mathlib.Core.Path.{_≡_, refl, ap, _∙_}
+use mathlib.Core.Bool.{true}
 use mathlib.Core.List.{List, [], _∷_, _++_}
 use native.Mathlib.Nat.{pow-succ', mul-assoc, add-mul, mul-le-mul-right}
 use native.Mathlib.Omega.{arith}
 use lib.Dec.{leb}
 use lib.ListN.{length, take}
 use lib.Seq.{take-add}
-use borrow.Author.Tests.{leb-true, not-false}
+use borrow.Author.Tests.{leb-true}
 use Rattle.base.specs.Runs.{All}
 use Rattle.base.proofs.Tests.{both}
 use Rattle.digits.specs.Digits.{isDigit, digitRun, decimalFrom, decimal}
-use Rattle.digits.proofs.Fronts.{run-front, run-front-length}
-
--- what a test that is left says
-pub told : (t x : Bool) → t ≡ x → not t ≡ false → x ≡ true
-told t x e q = sym e ∙ not-false t q
+use Rattle.base.proofs.Runs.{run-front, run-front-length}
 
 -- what a digit is
 module _ (b : ℕ) (e : isDigit b ≡ true) where

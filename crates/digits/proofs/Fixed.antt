@@ -11,13 +11,13 @@ use mir.Syntax.{w32}
 use mir.Val.{Fits}
 use borrow.Author.Tests.{le-leb, lt-leb, leb-true, leb-false, not-true}
 use Rattle.base.specs.Runs.{All}
-use Rattle.base.proofs.Runs.{run-le, run-yes}
+use Rattle.base.proofs.Runs.{run-le, run-yes, run-front-length, run-split, run-least, run-stop}
 use Rattle.digits.specs.Digits.{isDigit, digitRun, decimalFrom, decimal, fixedAt}
 use Rattle.digits.specs.declared.Number.{Number}
 use Rattle.digits.specs.declared.Number.the-variants.{Nothing, Value}
 use Rattle.digits.proofs.Choices.{chosen, not-chosen}
-use Rattle.digits.proofs.Decimals.{told, decimal-append, decimal-front, decimal-front-lt}
-use Rattle.digits.proofs.Fronts.{run-front-length, run-split, run-least, run-stop}
+use Rattle.base.proofs.Tests.{told}
+use Rattle.digits.proofs.Decimals.{decimal-append, decimal-front, decimal-front-lt}
 
 pub record IsFixed (k : ℕ) (s : List ℕ) (v n : ℕ) : Type 0 where
   pub len : n ≡ k

@@ -1,4 +1,3 @@
-pub mod Fronts
 pub mod Decimals
 pub mod Choices
 pub mod Numbers

@@ -11,13 +11,13 @@ use lib.Seq.{take-suc, take-append-seam}
 use borrow.Author.Tests.{le-leb, lt-leb, leb-true, not-true}
 use Rattle.base.specs.Choose.{if_then_else_}
 use Rattle.base.specs.Runs.{All}
-use Rattle.base.proofs.Tests.{both}
+use Rattle.base.proofs.Tests.{both, told}
 use Rattle.base.proofs.Runs.{run-le, run-text, run-on, run-off, run-out}
 use Rattle.digits.specs.Digits.{isDigit, digitRun, decimalFrom, decimal, numberAt}
 use Rattle.digits.specs.declared.Number.{Number}
 use Rattle.digits.specs.declared.Number.the-variants.{Nothing, Value}
 use Rattle.digits.proofs.Choices.{chosen}
-use Rattle.digits.proofs.Decimals.{told, decimal-append, decimal-more}
+use Rattle.digits.proofs.Decimals.{decimal-append, decimal-more}
 
 pub record IsNumber (max : ℕ) (s : List ℕ) (v n : ℕ) : Type 0 where
   pub whole : n ≡ digitRun s

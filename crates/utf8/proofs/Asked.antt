@@ -10,7 +10,8 @@ use Rattle.base.specs.Choose.{if_then_else_, within}
 use Rattle.utf8.specs.Rfc3629.{Utf8Char, utf8-1, utf8-2, utf8-3-E0, utf8-3-E1, utf8-3-ED, utf8-3-EE, utf8-4-F0, utf8-4-F1, utf8-4-F4}
 use Rattle.utf8.specs.Lead.{asks, leadOf}
 use Rattle.utf8.specs.declared.Lead.{Lead}
-use Rattle.utf8.proofs.Leads.{orders, lead-1, lead-2, lead-E1, lead-EE, lead-F1}
+use Rattle.base.proofs.Ranges.{orders}
+use Rattle.utf8.proofs.Leads.{lead-1, lead-2, lead-E1, lead-EE, lead-F1}
 
 -- `k` bytes, the first of them from `lo` to `hi` and the others tails
 pub data Tails : ℕ → ℕ → ℕ → List ℕ → Type 0 where

@@ -10,12 +10,12 @@ use borrow.Author.Tests.{leb-true, le-leb, le-ltb}
 use Rattle.base.specs.Choose.{if_then_else_, within}
 use Rattle.base.specs.Runs.{All}
 use Rattle.base.proofs.Tests.{both, by-test}
-use Rattle.base.proofs.Ranges.{inside}
+use Rattle.base.proofs.Ranges.{inside, orders}
 use Rattle.base.proofs.Runs.{all-at}
 use Rattle.utf8.specs.Rfc3629.{isTail, Utf8Char}
 use Rattle.utf8.specs.Lead.{leadOf, wellFormed, charLen}
 use Rattle.utf8.specs.declared.Lead.{Lead}
-use Rattle.utf8.proofs.Leads.{orders, lead-tail}
+use Rattle.utf8.proofs.Leads.{lead-tail}
 use Rattle.utf8.proofs.Asked.{Tails, done, more, Asked, asked, asked-for, char-of, asks-some, lead-bounds}
 
 -- either the character is there that the lead byte asks for, or none

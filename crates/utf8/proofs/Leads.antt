@@ -1,18 +1,10 @@
 -- What a lead byte asks for, range by range.
 use Prim.Native.Nat.{ℕ, _≤_}
 use mathlib.Core.Path.{_≡_}
-use mathlib.Core.Bool.{true}
 use native.Mathlib.Omega.{arith}
-use lib.Dec.{leb}
-use borrow.Author.Tests.{leb-true, ne-eqb}
-use Rattle.base.specs.Choose.{within}
-use Rattle.base.proofs.Tests.{both}
+use borrow.Author.Tests.{ne-eqb}
 use Rattle.base.proofs.Ranges.{inside, below, above}
 use Rattle.utf8.specs.Lead.{asks, leadOf}
-
--- what a test of a range that held says
-pub orders : (lo hi x : ℕ) → within lo hi x ≡ true → (lo ≤ x) × (x ≤ hi)
-orders lo hi x h = let (p, q) = both (leb lo x) (leb x hi) h in (leb-true lo x p, leb-true x hi q)
 
 module _ (b : ℕ) where
   pub lead-1 : b ≤ 0x7F → leadOf b ≡ asks 1 0 0

@@ -1,5 +1,5 @@
 use borrow.Author.Needs.{needs}
-use Rattle.digits.proofs.Decimals.{told}
+use Rattle.base.proofs.Tests.{told}
 use Rattle.digits.proofs.Fixed.{two-laws}
 use Rattle.digits.proofs.two_digits.Statement.{statement}
 use Rattle.digits.proofs.two_digits.Tie as tie

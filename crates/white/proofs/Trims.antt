@@ -1,0 +1,181 @@
+-- The walk from the back, `text_end`, and where a trimmed text lies.
+use Prim.Native.Nat.{ℕ, zero, suc, _+_, _-_, _≤_, _<_}
+use mathlib.Core.Path.{_≡_, refl, sym, ap, _∙_}
+use mathlib.Core.Bool.{Bool, true, false}
+use mathlib.Core.List.{List, [], _∷_}
+use native.Mathlib.Decide.{decLe}
+use native.Mathlib.Omega.{arith}
+use lib.Dec.{eqb}
+use lib.ListN.{length, take, drop, length-drop}
+use lib.Seq.{drop-drop, drop-length}
+use borrow.Author.Tests.{eq-eqb, ne-eqb, eqb-true, eqb-false, le-leb, lt-leb}
+use Rattle.base.proofs.Tests.{clash, by-if}
+use Rattle.white.specs.White.{whiteLen}
+use Rattle.white.specs.Trim.{whiteFrom, whiteRun, textEnd, trimmed}
+use Rattle.white.specs.Before.{endsWhite, whiteBefore}
+use Rattle.white.specs.declared.Ends.{Ends}
+use Rattle.white.proofs.Blanks.{Blank, Last, ends, together, last-behind, meets}
+use Rattle.white.proofs.Walks.{run-more}
+
+-- The end of the text is the first place behind which there are white characters alone
+pub end-first : (s : List ℕ) (k : ℕ) → Blank (drop k s) → textEnd s ≤ k
+unfolding textEnd
+end-first [] k b = omega arith
+end-first (x ∷ s) zero b = rw (eq-eqb _ _ b) (omega arith)
+end-first (x ∷ s) (suc k) b =
+    let l = end-first s k b in
+    by-if (λ n. n ≤ suc k) (eqb (whiteRun (x ∷ s)) (length (x ∷ s))) 0 (suc (textEnd s)) (λ e. omega arith) (λ e. omega arith)
+
+pub end-more : (x : ℕ) (s : List ℕ) → (Blank (x ∷ s) → ⊥) → textEnd (x ∷ s) ≡ suc (textEnd s)
+unfolding textEnd
+end-more x s h = rw (ne-eqb (whiteRun (x ∷ s)) (length (x ∷ s)) h)
+
+pub end-blank : (s : List ℕ) → Blank (drop (textEnd s) s)
+unfolding textEnd whiteFrom
+end-blank [] = refl
+end-blank (x ∷ s) =
+    by-if (λ n. Blank (drop n (x ∷ s))) (eqb (whiteRun (x ∷ s)) (length (x ∷ s))) 0 (suc (textEnd s)) (λ e. eqb-true _ _ e) (λ e. end-blank s)
+
+pub blank-none : (s : List ℕ) → Blank (drop (length s) s)
+unfolding whiteFrom
+blank-none s = rw (drop-length s)
+
+pub end-le : (s : List ℕ) → textEnd s ≤ length s
+end-le s = end-first s (length s) (blank-none s)
+
+-- The loop of `text_end`: what `white_before` answers, and what it says of the place
+thrice : (P : ℕ → Type 0) → P 1 → P 2 → P 3 → (n : ℕ) → 1 ≤ n → n ≤ 3 → P n
+thrice P a b c zero l m = absurd (omega arith)
+thrice P a b c (suc zero) l m = a
+thrice P a b c (suc (suc zero)) l m = b
+thrice P a b c (suc (suc (suc zero))) l m = c
+thrice P a b c (suc (suc (suc (suc n)))) l m = absurd (omega arith)
+
+-- what an answer `w` says of place `e`
+record Answers (s : List ℕ) (e w : ℕ) : Type 0 where
+  found : (w ≡ 0 → ⊥) → endsWhite s e w ≡ true
+  none : w ≡ 0 → Last s e → ⊥
+
+module _ (s : List ℕ) (e : ℕ) where
+  answer : (n : ℕ) → (n ≡ 0 → ⊥) → endsWhite s e n ≡ true → Answers s e n
+  answer n z h = record { found = λ _. h; none = λ q. absurd (z q) }
+
+  no-answer : endsWhite s e 1 ≡ false → endsWhite s e 2 ≡ false → endsWhite s e 3 ≡ false → Answers s e 0
+  no-answer p q r =
+      record {
+        found = λ z. absurd (z refl);
+        none = λ z l. clash (sym (l .there) ∙ thrice (λ n. endsWhite s e n ≡ false) p q r (l .size) (l .some) (l .most));
+      }
+
+  before-is : Answers s e (whiteBefore s e)
+  unfolding whiteBefore
+  before-is =
+      by-if (Answers s e) (endsWhite s e 1) 1 _ (answer 1 (omega arith))
+      (λ p. by-if (Answers s e) (endsWhite s e 2) 2 _ (answer 2 (omega arith))
+      (λ q. by-if (Answers s e) (endsWhite s e 3) 3 0 (answer 3 (omega arith))
+      (λ r. no-answer p q r)))
+
+module _ (s : List ℕ) (e : ℕ) (b : Blank (drop e s)) where
+  pub end-start : e ≤ 0 → e ≡ textEnd s
+  end-start z = omega (arith, end-first s e b)
+
+  module _ (l : e ≤ length s) (w : ℕ) (q : w ≡ whiteBefore s e) where
+    answers : Answers s e w
+    answers = rw q (before-is s e)
+
+    pub before-le : (w ≡ 0 → ⊥) → w ≤ e
+    before-le z = ends s e w (answers .found z) .0
+
+    pub end-next : (w ≡ 0 → ⊥) → Blank (drop (e - w) s)
+    end-next z =
+        let (o, h) = ends s e w (answers .found z) in
+        let r = drop (e - w) s in
+        let f : w ≤ length r = simp length-drop (omega arith) in
+        let m = run-more r w (sym (together r w f z h)) z in
+        let p : e - w + w ≡ e = omega arith in
+        let d : drop w r ≡ drop e s = drop-drop w (e - w) s ∙ ap (λ (k : ℕ). drop k s) p in
+        omega (arith, ap whiteRun d, ap length d, b, length-drop w r)
+
+    pub end-here : w ≡ 0 → e ≡ textEnd s
+    end-here z = go (decLe e (textEnd s))
+      where
+        t : ℕ
+        t = textEnd s
+
+        go : Dec (e ≤ textEnd s) → e ≡ textEnd s
+        go (yes h) = omega (arith, end-first s e b)
+        go (no h) =
+            let m = e - t in
+            let p : t + m ≡ e = omega arith in
+            let d : drop m (drop t s) ≡ drop e s = drop-drop m t s ∙ ap (λ (k : ℕ). drop k s) p in
+            let met = meets (drop t s) m (omega (arith, end-blank s, length-drop t s)) (rw d b) in
+            absurd (answers .none z (last-behind s t m e p (met .last (omega arith))))
+
+pub ruleset end-laws = (blank-none, end-start, before-le, end-next, end-here)
+
+-- What `ends_white` and `white_before` answer
+module _ (s : List ℕ) (e n : ℕ) where
+  pub ends-past : e < n → false ≡ endsWhite s e n
+  unfolding endsWhite
+  ends-past h = rw (lt-leb n e h)
+
+  pub ends-is : n ≤ e → (w : ℕ) → w ≡ whiteLen (take (e - (e - n)) (drop (e - n) s)) → eqb w n ≡ endsWhite s e n
+  unfolding endsWhite
+  ends-is h w q = let p : e - (e - n) ≡ n = omega arith in rw (q, p, le-leb n e h)
+
+pub ruleset ends-laws = (ends-past, ends-is)
+
+module _ (s : List ℕ) (e : ℕ) (p : Bool) (ep : p ≡ endsWhite s e 1) where
+  pub before-1 : p ≡ true → 1 ≡ whiteBefore s e
+  unfolding whiteBefore
+  before-1 h = rw (← ep, h)
+
+  module _ (p1 : p ≡ false) (q : Bool) (eq : q ≡ endsWhite s e 2) where
+    pub before-2 : q ≡ true → 2 ≡ whiteBefore s e
+    unfolding whiteBefore
+    before-2 h = rw (← ep, p1, ← eq, h)
+
+    module _ (q1 : q ≡ false) (r : Bool) (er : r ≡ endsWhite s e 3) where
+      pub before-3 : r ≡ true → 3 ≡ whiteBefore s e
+      unfolding whiteBefore
+      before-3 h = rw (← ep, p1, ← eq, q1, ← er, h)
+
+      pub before-0 : r ≡ false → 0 ≡ whiteBefore s e
+      unfolding whiteBefore
+      before-0 h = rw (← ep, p1, ← eq, q1, ← er, h)
+
+pub ruleset before-laws = (before-1, before-2, before-3, before-0)
+
+-- The trimmed text
+module _ (s : List ℕ) (n : ℕ) (e : n ≡ textEnd s) where
+  pub trimmed-none : n ≡ 0 → record { start = 0; end = 0 } ≡ trimmed s
+  unfolding trimmed
+  trimmed-none z = rw (← e, z)
+
+  pub trimmed-some : (n ≡ 0 → ⊥) → (m : ℕ) → m ≡ whiteRun s → record { start = m; end = n } ≡ trimmed s
+  unfolding trimmed
+  trimmed-some z m f = rw (← e, ne-eqb n 0 z, f)
+
+pub ruleset trim-laws = (trimmed-none, trimmed-some)
+
+-- white characters at the front end before the text does, if there is any text
+pub run-before-end : (s : List ℕ) → (textEnd s ≡ 0 → ⊥) → whiteRun s ≤ textEnd s
+run-before-end s z = go (decLe (whiteRun s) (textEnd s))
+  where
+    go : Dec (whiteRun s ≤ textEnd s) → whiteRun s ≤ textEnd s
+    go (yes h) = h
+    go (no h) =
+        let met = meets s (textEnd s) (omega arith) (end-blank s) in
+        absurd (z (omega (arith, end-first s 0 (met .blank))))
+
+-- where the trimmed text lies: what a caller of `trim` needs to take the part
+pub record Lies (s : List ℕ) (p : Ends) : Type 0 where
+  pub ordered : p .start ≤ p .end
+  pub inside : p .end ≤ length s
+
+pub lies : (s : List ℕ) (p : Ends) → p ≡ trimmed s → Lies s p
+unfolding trimmed
+lies s p e =
+    rw e (by-if (Lies s) (eqb (textEnd s) 0) (record { start = 0; end = 0 }) (record { start = whiteRun s; end = textEnd s })
+    (λ q. record { ordered = omega arith; inside = omega arith })
+    (λ q. record { ordered = run-before-end s (eqb-false (textEnd s) 0 q); inside = end-le s }))

@@ -1,0 +1,4 @@
+pub mod White
+pub mod Trim
+pub mod Before
+pub mod Characters
