@@ -1,0 +1,230 @@
+-- Worked examples: RFC 5424 section 6.5, 01's strict lines, and what the reader answers to some of them.
+use Prim.Native.Nat.{ℕ}
+use Prim.Native.String.{String}
+use mathlib.Core.Path.{_≡_, refl}
+use mathlib.Core.Bool.{true, false}
+use mathlib.Core.List.{List, [], _∷_, _++_, map}
+use mathlib.Core.Option.{Option, none, some}
+use lib.ListN.{replicate}
+use lib.IntN.{pos, negℤ}
+use Rattle.base.specs.Bytes.{bytes}
+use Rattle.base.specs.Runs.{run}
+use Rattle.base.proofs.Tests.{clash}
+use Rattle.utf8.specs.Lead.{leadOf, utf8From}
+use Rattle.digits.specs.Digits.{decimalFrom}
+use Rattle.calendar.specs.Calendar.{validDate, validTime, monthDays, leap, yearDays, daysBeforeYear, daysOfMonths, dayNumber}
+use Rattle.calendar.specs.Instant.{localSeconds, secondsOf}
+use Rattle.record.specs.Places.{absent, place}
+use Rattle.record.specs.declared.Protocol.the-variants.{Rfc5424}
+use Rattle.record.specs.declared.Level.the-variants.{Set}
+use Rattle.record.specs.declared.Stamp.the-variants.{Stamped}
+use Rattle.grammar.specs.Line.{Param, Element, Offset, Timestamp, Division, Each, Derives}
+use Rattle.grammar.specs.Parse.{Parsed, choose, closed, only, manyFrom, _next_, into, repeat, fixed, stop, untilQuote, allLeft, atEnd, pri, version, priVersion, date, clock, secfrac, zone, offset, full, timestamp, names, value, param, element, structured, message, header, parse}
+use Rattle.grammar.specs.Parse.Parsed.{failed, found}
+use Rattle.grammar.specs.Reading.{dataAt, recordOf, elementRows, paramRows}
+use Rattle.grammar.proofs.Lines.{parse-sound, none-derived}
+
+-- ---- what the grammar says of a line
+
+-- a line, and its division or none
+abbrev Example : Type 0
+Example = List ℕ × Option Division
+
+abbrev Derived : List ℕ → Option Division → Type 0
+Derived line none = (d : Division) → Derives line d → ⊥
+Derived line (some d) = Derives line d
+
+abbrev divided : Parsed Division → Option Division
+divided failed = none
+divided (found d n) = some d
+
+-- what the parser finds, computed
+verdict : List ℕ → Option Division
+unfolding run leadOf utf8From decimalFrom validDate validTime monthDays leap choose closed only manyFrom _next_ into repeat fixed stop untilQuote allLeft atEnd pri version priVersion date clock secfrac zone offset full timestamp names value param element structured message header parse
+verdict line = divided (parse line)
+
+derived : (line : List ℕ) (p : Parsed Division) (o : Option Division) → parse line ≡ p → divided p ≡ o → Derived line o
+derived line failed none e h = none-derived line e
+derived line failed (some d) e h = let z : true ≡ false = cc in clash z
+derived line (found d n) none e h = let z : true ≡ false = cc in clash z
+derived line (found d n) (some c) e h = parse-sound line c n (let z : d ≡ c = cc in rw (← z) e)
+
+-- each line of a table has the division that the table says
+abbrev Holds : List Example → Type 0
+Holds = Each (λ (x : Example). Derived (x .0) (x .1))
+
+-- a table of examples holds where the parser's answers are the table's
+told : (t : List Example) → map (λ (x : Example). verdict (x .0)) t ≡ map (λ (x : Example). x .1) t → Holds t
+unfolding verdict
+told [] h = tt
+told (x ∷ t) h = (derived (x .0) (parse (x .0)) (x .1) refl cc, told t cc)
+
+-- ---- fields by their texts
+
+-- EF BB BF
+mark : List ℕ
+mark = 0xEF ∷ 0xBB ∷ 0xBF ∷ []
+
+abbrev clockAt : (year month day hour minute second : String) → Option (List ℕ) → Offset → Option Timestamp
+clockAt y m d h i s f o = some (record { year = bytes y; month = bytes m; day = bytes d; hour = bytes h; minute = bytes i; second = bytes s; secfrac = f; offset = o })
+
+abbrev pair : String → String → Param
+pair n v = record { name = bytes n; value = bytes v }
+
+abbrev group : String → List Param → Element
+group i ps = record { id = bytes i; params = ps }
+
+abbrev division : String → Option Timestamp → (host app procid msgid : String) → List Element → Option (List ℕ) → Division
+division p t h a i m es msg =
+    record { prival = bytes p; version = bytes "1"; timestamp = t; hostname = bytes h; appName = bytes a; procid = bytes i; msgid = bytes m; elements = es; message = msg }
+
+-- ---- RFC 5424 section 6.5
+
+october : Option Timestamp
+october = clockAt "2003" "10" "11" "22" "14" "15" (some (bytes "003")) Offset.utc
+
+august : Option Timestamp
+august = clockAt "2003" "08" "24" "05" "14" "15" (some (bytes "000003")) (Offset.west (bytes "07") (bytes "00"))
+
+event : Element
+event = group "exampleSDID@32473" (pair "iut" "3" ∷ pair "eventSource" "Application" ∷ pair "eventID" "1011" ∷ [])
+
+priority : Element
+priority = group "examplePriority@32473" (pair "class" "high" ∷ [])
+
+first : Division
+first = division "34" october "mymachine.example.com" "su" "-" "ID47" [] (some (mark ++ bytes "'su root' failed for lonvick on /dev/pts/8"))
+
+second : Division
+second = division "165" august "192.0.2.1" "myproc" "8710" "-" [] (some (bytes "%% It's time to make the do-nuts."))
+
+third : Division
+third = division "165" october "mymachine.example.com" "evntslog" "-" "ID47" (event ∷ []) (some (mark ++ bytes "An application event log entry..."))
+
+fourth : Division
+fourth = division "165" october "mymachine.example.com" "evntslog" "-" "ID47" (event ∷ priority ∷ []) none
+
+rfc : List Example
+rfc =
+    (bytes "<34>1 2003-10-11T22:14:15.003Z mymachine.example.com su - ID47 - " ++ mark ++ bytes "'su root' failed for lonvick on /dev/pts/8", some first)
+    ∷ (bytes "<165>1 2003-08-24T05:14:15.000003-07:00 192.0.2.1 myproc 8710 - - %% It's time to make the do-nuts.", some second)
+    ∷ (bytes "<165>1 2003-10-11T22:14:15.003Z mymachine.example.com evntslog - ID47 [exampleSDID@32473 iut=\"3\" eventSource=\"Application\" eventID=\"1011\"] " ++ mark ++ bytes "An application event log entry...", some third)
+    ∷ (bytes "<165>1 2003-10-11T22:14:15.003Z mymachine.example.com evntslog - ID47 [exampleSDID@32473 iut=\"3\" eventSource=\"Application\" eventID=\"1011\"][examplePriority@32473 class=\"high\"]", some fourth)
+    ∷ []
+
+rfc-examples : Holds rfc
+unfolding verdict rfc first second third fourth october august event priority mark
+rfc-examples = told rfc refl
+
+-- ---- 01's strict rules
+
+-- with the version 1 and nothing in the other fields
+abbrev data-of : List Element → Option (List ℕ) → Option Division
+data-of es m = some (division "1" none "-" "-" "-" "-" es m)
+
+abbrev stamped : Option Timestamp → Option Division
+stamped t = some (division "1" t "-" "-" "-" "-" [] none)
+
+abbrev letters : ℕ → List ℕ
+letters n = replicate n 120
+
+-- fields of so many bytes
+abbrev wide : (host app procid msgid : ℕ) → List ℕ
+wide h a p m = bytes "<1>1 - " ++ letters h ++ 32 ∷ letters a ++ 32 ∷ letters p ++ 32 ∷ letters m ++ bytes " -"
+
+strict : List Example
+strict =
+    (bytes "<34>1 - gate7 reader 42 TAP [t@32473 ms=\"212\"] ok", some (division "34" none "gate7" "reader" "42" "TAP" (group "t@32473" (pair "ms" "212" ∷ []) ∷ []) (some (bytes "ok"))))
+    ∷ (bytes "<192>1 - gate7 reader 42 TAP - ok", none)
+    ∷ (bytes "", none)
+    ∷ (bytes "<191>1 - h: - - - -", some (division "191" none "h:" "-" "-" "-" [] none))
+    ∷ (bytes "<0>1 - - - - - -", some (division "0" none "-" "-" "-" "-" [] none))
+    ∷ (bytes "<01>1 - - - - - -", none)
+    ∷ (bytes "<>1 - - - - - -", none)
+    ∷ (bytes "<1>0 - - - - - -", none)
+    ∷ (bytes "<1>01 - - - - - -", none)
+    ∷ (bytes "<1>1000 - - - - - -", none)
+    ∷ (bytes "<1>1  - - - - - -", none)
+    ∷ (bytes " <1>1 - - - - - -", none)
+    ∷ (bytes "<1>1 2024-02-29T00:00:00Z - - - - -", stamped (clockAt "2024" "02" "29" "00" "00" "00" none Offset.utc))
+    ∷ (bytes "<1>1 2023-02-29T00:00:00Z - - - - -", none)
+    ∷ (bytes "<1>1 2024-02-29t00:00:00Z - - - - -", none)
+    ∷ (bytes "<1>1 2024-02-29T00:00:00z - - - - -", none)
+    ∷ (bytes "<1>1 2024-02-29T00:00:60Z - - - - -", none)
+    ∷ (bytes "<1>1 2024-02-29T24:00:00Z - - - - -", none)
+    ∷ (bytes "<1>1 2024-02-29T00:00:00.Z - - - - -", none)
+    ∷ (bytes "<1>1 2024-02-29T00:00:00.1234567Z - - - - -", none)
+    ∷ (bytes "<1>1 2024-02-29T00:00:00.123456+23:59 - - - - -", stamped (clockAt "2024" "02" "29" "00" "00" "00" (some (bytes "123456")) (Offset.east (bytes "23") (bytes "59"))))
+    ∷ (bytes "<1>1 2024-02-29T00:00:00+24:00 - - - - -", none)
+    ∷ (bytes "<1>1 2024-02-29T00:00:00-00:60 - - - - -", none)
+    ∷ (bytes "<1>1 2024-02-29T00:00:00 - - - - -", none)
+    ∷ (bytes "<1>1 - - - - - [id a=\"x\\]y\" b=\"\"][id c=\"\\n\"]", data-of (group "id" (pair "a" "x\\]y" ∷ pair "b" "" ∷ []) ∷ group "id" (pair "c" "\\n" ∷ []) ∷ []) none)
+    ∷ (bytes "<1>1 - - - - - [id a=\"x]y\"]", none)
+    ∷ (bytes "<1>1 - - - - - [id a=\"x\\\"]", none)
+    ∷ (bytes "<1>1 - - - - - [id a=\"\\\\\"]", data-of (group "id" (pair "a" "\\\\" ∷ []) ∷ []) none)
+    ∷ (bytes "<1>1 - - - - - [id  a=\"x\"]", none)
+    ∷ (bytes "<1>1 - - - - - [id a=\"x\" ]", none)
+    ∷ (bytes "<1>1 - - - - - [id a=\"x\"", none)
+    ∷ (bytes "<1>1 - - - - - [id] [id]", data-of (group "id" [] ∷ []) (some (bytes "[id]")))
+    ∷ (bytes "<1>1 - - - - - []", none)
+    ∷ (bytes "<1>1 - - - - - [id a=\"" ++ 0xFF ∷ bytes "\"]", none)
+    ∷ (bytes "<1>1 - - - - - -x", none)
+    ∷ (bytes "<1>1 - - - - - - ", data-of [] (some []))
+    ∷ (bytes "<1>1 - - - - - - " ++ mark, data-of [] (some mark))
+    ∷ (bytes "<1>1 - - - - - - " ++ mark ++ 0xFF ∷ [], none)
+    ∷ (bytes "<1>1 - - - - - - " ++ 0xFF ∷ mark, data-of [] (some (0xFF ∷ mark)))
+    ∷ (wide 255 48 128 32, some (record { prival = bytes "1"; version = bytes "1"; timestamp = none; hostname = letters 255; appName = letters 48; procid = letters 128; msgid = letters 32; elements = []; message = none }))
+    ∷ (wide 256 48 128 32, none)
+    ∷ (wide 255 49 128 32, none)
+    ∷ (wide 255 48 129 32, none)
+    ∷ (wide 255 48 128 33, none)
+    ∷ (bytes "<1>1 - - - - - [" ++ letters 32 ++ 32 ∷ letters 32 ++ bytes "=\"\"]", data-of (record { id = letters 32; params = record { name = letters 32; value = [] } ∷ [] } ∷ []) none)
+    ∷ (bytes "<1>1 - - - - - [" ++ letters 33 ++ 32 ∷ letters 32 ++ bytes "=\"\"]", none)
+    ∷ (bytes "<1>1 - - - - - [" ++ letters 32 ++ 32 ∷ letters 33 ++ bytes "=\"\"]", none)
+    ∷ []
+
+strict-examples : Holds strict
+unfolding verdict strict mark
+strict-examples = told strict refl
+
+-- ---- the record and the tables
+
+first-record : recordOf first ≡ record {
+  common = record {
+    protocol = Rfc5424 1;
+    facility = Set 4;
+    severity = Set 2;
+    timestamp = Stamped (record { seconds = pos 1065910455; nanos = 3000000; offset = pos 0 });
+    host = place 31 21;
+    app = place 53 2;
+    procid = absent;
+    msgid = place 58 4;
+    message = record { start = 65; len = 45 };
+  };
+  «timestamp_text» = place 6 24;
+  «has_message» = true;
+}
+unfolding recordOf decimalFrom secondsOf localSeconds dayNumber daysBeforeYear daysOfMonths yearDays monthDays leap first october mark
+first-record = refl
+
+second-stamp : recordOf second .common .timestamp ≡ Stamped (record { seconds = pos 1061727255; nanos = 3000; offset = negℤ (pos 420) })
+unfolding recordOf decimalFrom secondsOf localSeconds dayNumber daysBeforeYear daysOfMonths yearDays monthDays leap second august
+second-stamp = refl
+
+-- no message: absent, of start and length 0
+fourth-message : (recordOf fourth .«has_message» ≡ false) × (recordOf fourth .common .message ≡ record { start = 0; len = 0 })
+unfolding recordOf fourth
+fourth-message = (refl, refl)
+
+fourth-elements : elementRows (dataAt fourth) (fourth .elements) ≡ (71 ∷ 17 ∷ []) ∷ (139 ∷ 21 ∷ []) ∷ []
+unfolding fourth october event priority
+fourth-elements = refl
+
+fourth-params : paramRows 0 (dataAt fourth) (fourth .elements) ≡
+    (0 ∷ 89 ∷ 3 ∷ 94 ∷ 1 ∷ [])
+    ∷ (0 ∷ 97 ∷ 11 ∷ 110 ∷ 11 ∷ [])
+    ∷ (0 ∷ 123 ∷ 7 ∷ 132 ∷ 4 ∷ [])
+    ∷ (1 ∷ 161 ∷ 5 ∷ 168 ∷ 4 ∷ [])
+    ∷ []
+unfolding fourth october event priority
+fourth-params = refl

@@ -1,0 +1,4 @@
+pub mod Abnf
+pub mod Line
+pub mod Reading
+pub mod Parse
