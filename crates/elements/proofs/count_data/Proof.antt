@@ -1,0 +1,41 @@
+use borrow.Author.Needs.{needs}
+use Rattle.elements.proofs.Counting.{data-laws}
+use Rattle.elements.proofs.count_data.Statement.{statement}
+use Rattle.elements.proofs.count_data.Tie as tie
+
+is-at-requires : tie.Need-is-at-requires
+is-at-requires c κs = search needs
+
+returns : tie.Need-returns
+returns c = search (data-laws, needs)
+
+elements-requires : tie.Need-elements-requires
+elements-requires c κs = search needs
+
+enum-known-len : tie.Need-enum-known-len
+enum-known-len c = search needs
+
+enum-told : tie.Need-enum-told
+enum-told c = search needs
+
+returns-2 : tie.Need-returns-2
+returns-2 c = search (data-laws, needs)
+
+returns-3 : tie.Need-returns-3
+returns-3 c = search (data-laws, needs)
+
+returns-4 : tie.Need-returns-4
+returns-4 c = search (data-laws, needs)
+
+pub count-data-spec : {M : Type 1} → statement M
+count-data-spec =
+    tie.close
+    (tie.spec
+    is-at-requires
+    returns
+    elements-requires
+    enum-known-len
+    enum-told
+    returns-2
+    returns-3
+    returns-4)

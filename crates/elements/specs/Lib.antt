@@ -1,0 +1,4 @@
+pub mod Counts
+pub mod Sizes
+pub mod Entries
+pub mod Filling

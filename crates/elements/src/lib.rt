@@ -1,0 +1,354 @@
+// The structured data and the message of a strict line: a first pass that reads and counts, and a second that fills the lent tables.
+ghost use mathlib.Core.Path.{_≡_};
+ghost use mathlib.Core.Bool.{false};
+ghost use Prim.Native.Nat.{_+_, _≤_, _<_};
+ghost use lib.ListN.{length};
+ghost use Rattle.base.specs.Runs.{run};
+ghost use Rattle.base.specs.Fills.{filled};
+ghost use Rattle.grammar.specs.Abnf.{sdNameByte};
+ghost use Rattle.grammar.specs.Parse as parse;
+ghost use Rattle.grammar.specs.Reading.{elementRows, paramRows};
+ghost use Rattle.elements.specs.Counts.{countsOf, tailOf};
+ghost use Rattle.elements.specs.Sizes.{sizeOf, blockOf, paramsIn};
+ghost use Rattle.elements.specs.Entries.{nameAt, valueAt, holding, entryAt, Lies};
+ghost use Rattle.elements.specs.Filling.{elementsAt, Fillable};
+
+// The structured data at the front of a part: how many bytes, elements and parameters.
+pub enum Counts {
+    NoData,
+    IsData {
+        len: usize,
+        elements: usize,
+        params: usize,
+    },
+}
+
+// What stands behind the structured data: nothing, or a space and a message of so many bytes.
+pub enum Tail {
+    NoTail,
+    NoMessage,
+    IsMessage(usize),
+}
+
+// A piece of the structured data at the front of a part: how many bytes it takes.
+enum Size {
+    Missing,
+    Bytes(usize),
+}
+
+// An element, or what is behind its id: how many bytes and parameters.
+enum Block {
+    NoBlock,
+    IsBlock { len: usize, params: usize },
+}
+
+// How many bytes of a name stand in front.
+fn name_run(s: &[u8]) -> usize
+    ensures { λ r. ⌜ r ≡ run sdNameByte (now (s .entry)) ⌝ }
+{
+    let mut i = 0;
+    while i < s.len() {
+        let b = s[i];
+        if (33 <= b) & (b <= 126) & !((b == 61) | (b == 93) | (b == 34)) {
+            i += 1;
+        } else {
+            return i;
+        }
+    }
+    i
+}
+
+fn name(s: &[u8]) -> Size
+    ensures { λ r. ⌜ r ≡ sizeOf (parse.sdName (now (s .entry))) ⌝ }
+{
+    let n = name_run(s);
+    if (1 <= n) & (n <= 32) {
+        Size::Bytes(n)
+    } else {
+        Size::Missing
+    }
+}
+
+// Where a value stops: at a bare '"' or ']', or at the end.
+fn stop(s: &[u8]) -> usize
+    ensures { λ r. ⌜ r ≡ parse.stop false (now (s .entry)) ⌝ }
+{
+    let mut i = 0;
+    let mut paired = false;
+    while i < s.len() {
+        let b = s[i];
+        if !paired & ((b == 34) | (b == 93)) {
+            return i;
+        }
+        paired = !paired & (b == 92);
+        i += 1;
+    }
+    i
+}
+
+// A value and its closing quote.
+fn value(s: &[u8]) -> Size
+    ensures { λ r. ⌜ r ≡ sizeOf (parse.value (now (s .entry))) ⌝ }
+{
+    let n = stop(s);
+    if !base::is_at(s, n, 34) {
+        return Size::Missing;
+    }
+    if !utf8::is_utf8(&s[0..n]) {
+        return Size::Missing;
+    }
+    Size::Bytes(n + 1)
+}
+
+// A value and both its quotes.
+fn quoted(s: &[u8]) -> Size
+    ensures { λ r. ⌜ r ≡ sizeOf (parse.behind 34 parse.value (now (s .entry))) ⌝ }
+{
+    if !base::is_at(s, 0, 34) {
+        return Size::Missing;
+    }
+    let Size::Bytes(n) = value(base::past(s, 1)) else {
+        return Size::Missing;
+    };
+    Size::Bytes(n + 1)
+}
+
+// A parameter, behind its space.
+fn param(s: &[u8]) -> Size
+    ensures { λ r. ⌜ r ≡ sizeOf (parse.param (now (s .entry))) ⌝ }
+{
+    let Size::Bytes(n) = name(s) else {
+        return Size::Missing;
+    };
+    if !base::is_at(s, n, 61) {
+        return Size::Missing;
+    }
+    let j = n + 1;
+    let Size::Bytes(m) = quoted(base::past(s, j)) else {
+        return Size::Missing;
+    };
+    Size::Bytes(j + m)
+}
+
+// The parameters of an element, and its ']'.
+fn params(s: &[u8]) -> Block
+    ensures { λ r. ⌜ r ≡ blockOf length (parse.closed (parse.many 32 parse.param) 93 (now (s .entry))) ⌝ }
+{
+    let mut i = 0;
+    let mut count = 0;
+    while i < s.len() {
+        let b = s[i];
+        let j = i + 1;
+        if b == 93 {
+            return Block::IsBlock {
+                len: j,
+                params: count,
+            };
+        }
+        if b != 32 {
+            return Block::NoBlock;
+        }
+        let Size::Bytes(n) = param(base::past(s, j)) else {
+            return Block::NoBlock;
+        };
+        i = j + n;
+        count += 1;
+    }
+    Block::NoBlock
+}
+
+// An element, behind its '['.
+fn element(s: &[u8]) -> Block
+    ensures { λ r. ⌜ r ≡ blockOf paramsIn (parse.element (now (s .entry))) ⌝ }
+{
+    let Size::Bytes(n) = name(s) else {
+        return Block::NoBlock;
+    };
+    let Block::IsBlock { len, params } = params(base::past(s, n)) else {
+        return Block::NoBlock;
+    };
+    Block::IsBlock {
+        len: n + len,
+        params,
+    }
+}
+
+// The elements up to what is none.
+fn elements(s: &[u8]) -> Counts
+    ensures { λ r. ⌜ r ≡ countsOf (parse.many 91 parse.element (now (s .entry))) ⌝ }
+{
+    let mut i = 0;
+    let mut elements = 0;
+    let mut all = 0;
+    while i < s.len() {
+        let b = s[i];
+        let j = i + 1;
+        if b != 91 {
+            return Counts::IsData {
+                len: i,
+                elements,
+                params: all,
+            };
+        }
+        let Block::IsBlock { len, params } = element(base::past(s, j)) else {
+            return Counts::NoData;
+        };
+        i = j + len;
+        elements += 1;
+        all += params;
+    }
+    Counts::IsData {
+        len: i,
+        elements,
+        params: all,
+    }
+}
+
+pub fn count_data(s: &[u8]) -> Counts
+    ensures { λ r. ⌜ r ≡ countsOf (parse.structured (now (s .entry))) ⌝ }
+{
+    if base::is_at(s, 0, 45) {
+        return Counts::IsData {
+            len: 1,
+            elements: 0,
+            params: 0,
+        };
+    }
+    let Counts::IsData {
+        len,
+        elements,
+        params,
+    } = elements(s)
+    else {
+        return Counts::NoData;
+    };
+    if elements == 0 {
+        return Counts::NoData;
+    }
+    Counts::IsData {
+        len,
+        elements,
+        params,
+    }
+}
+
+// Is the message one of any bytes, or a byte order mark and then UTF-8?
+fn is_message(m: &[u8]) -> bool
+    ensures { λ r. ⌜ r ≡ parse.isMessage (now (m .entry)) ⌝ }
+{
+    if !base::is_at(m, 0, 0xEF) {
+        return true;
+    }
+    if !base::is_at(m, 1, 0xBB) {
+        return true;
+    }
+    if !base::is_at(m, 2, 0xBF) {
+        return true;
+    }
+    utf8::is_utf8(base::past(m, 3))
+}
+
+pub fn read_tail(s: &[u8]) -> Tail
+    ensures { λ r. ⌜ r ≡ tailOf (parse.message (now (s .entry))) ⌝ }
+{
+    if s.len() == 0 {
+        return Tail::NoMessage;
+    }
+    if !base::is_at(s, 0, 32) {
+        return Tail::NoTail;
+    }
+    let m = base::past(s, 1);
+    if !is_message(m) {
+        return Tail::NoTail;
+    }
+    Tail::IsMessage(m.len())
+}
+
+// What stands at a place of the structured data, by the byte there: an id behind '[', a parameter behind a space, or neither; and the place behind it.
+struct Entry {
+    pub opens: bool,
+    pub holds: bool,
+    pub name: usize,
+    pub value: usize,
+    pub next: usize,
+}
+
+// How many bytes of a name stand behind the byte at `at`.
+fn name_at(line: &[u8], at: usize) -> usize
+    requires { ⌜ at < length (now line) ⌝ }
+    ensures { λ r. ⌜ r ≡ nameAt (now (line .entry)) at ⌝ }
+{
+    name_run(base::past(line, at + 1))
+}
+
+// The parameter behind the space at `at`.
+fn held(line: &[u8], at: usize) -> Entry
+    requires { ⌜ at + nameAt (now line) at + valueAt (now line) at + 4 ≤ length (now line) ⌝ }
+    ensures { λ r. ⌜ r ≡ holding at (nameAt (now (line .entry)) at) (valueAt (now (line .entry)) at) ⌝ }
+{
+    let n = name_at(line, at);
+    let m = stop(base::past(line, at + n + 3));
+    Entry {
+        opens: false,
+        holds: true,
+        name: n,
+        value: m,
+        next: at + n + m + 4,
+    }
+}
+
+fn next(line: &[u8], at: usize) -> Entry
+    requires { ⌜ Lies (now line) at ⌝ }
+    ensures { λ r. ⌜ r ≡ entryAt (now (line .entry)) at ⌝ }
+{
+    if base::is_at(line, at, 91) {
+        let n = name_at(line, at);
+        return Entry {
+            opens: true,
+            holds: false,
+            name: n,
+            value: 0,
+            next: at + n + 1,
+        };
+    }
+    if base::is_at(line, at, 32) {
+        return held(line, at);
+    }
+    Entry {
+        opens: false,
+        holds: false,
+        name: 0,
+        value: 0,
+        next: at + 1,
+    }
+}
+
+// The rows of the structured data that stands at `at` and takes `len` bytes, into both tables.
+pub fn fill_data(
+    line: &[u8],
+    at: usize,
+    len: usize,
+    elements: &mut [[usize; 2]],
+    params: &mut [[usize; 5]],
+)
+    requires { ⌜ Fillable (now line) at len (now elements) (now params) ⌝ }
+    ensures { λ _. ⌜ now (elements .exit) ≡ filled (elementRows at (elementsAt (now (line .entry)) at)) (now (elements .entry)) ⌝ }
+    ensures { λ _. ⌜ now (params .exit) ≡ filled (paramRows 0 at (elementsAt (now (line .entry)) at)) (now (params .entry)) ⌝ }
+{
+    let end = at + len;
+    let mut i = at;
+    let mut e = 0;
+    let mut p = 0;
+    while i < end {
+        let s = next(line, i);
+        let n = s.name;
+        if s.opens {
+            elements[e] = [i + 1, n];
+            e += 1;
+        } else if s.holds {
+            params[p] = [e - 1, i + 1, n, i + n + 3, s.value];
+            p += 1;
+        }
+        i = s.next;
+    }
+}

@@ -1,0 +1,4 @@
+pub mod Writes
+pub mod Numerals
+pub mod Pieces
+mod Examples

@@ -1,0 +1,3 @@
+pub mod Levels
+pub mod Readers
+pub mod Examples
