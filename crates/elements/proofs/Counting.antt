@@ -11,14 +11,13 @@ use mir.Syntax.{w64}
 use mir.Val.{Fits}
 use borrow.Author.Tests.{eq-eqb, ne-eqb, le-leb, lt-leb}
 use Rattle.base.specs.Choose.{isAt}
-use Rattle.base.proofs.Tests.{clash}
 use Rattle.base.proofs.Parts.{ended, at-past}
 use Rattle.grammar.specs.Line.{Param, Element, eachThen, paramThen}
 use Rattle.grammar.specs.Parse.{Parsed, Reader, choose, closed, only, itemAnd, many, _next_, into, sdName, param, element, structured}
 use Rattle.grammar.specs.Parse.Parsed.{failed, found}
 use Rattle.grammar.specs.Reading.{paramCount}
 use Rattle.grammar.proofs.Readers.{found-within, closed-reads, many-end, many-item, many-failed, many-reads}
-use Rattle.grammar.proofs.Data.{param-reads, element-reads}
+use Rattle.grammar.proofs.Data.{param-reads, element-reads, data-reads}
 use Rattle.elements.specs.Counts.{countsOf}
 use Rattle.elements.specs.Sizes.{sizeOf, blockOf, paramsIn}
 use Rattle.elements.specs.declared.Size.{Size}
@@ -27,7 +26,8 @@ use Rattle.elements.specs.declared.Block.{Block}
 use Rattle.elements.specs.declared.Block.the-variants.{NoBlock, IsBlock}
 use Rattle.elements.specs.declared.Counts.{Counts}
 use Rattle.elements.specs.declared.Counts.the-variants.{NoData, IsData}
-use Rattle.elements.proofs.Pieces.{finds, misses, name-within}
+use Rattle.elements.proofs.Answers.{finds, misses, FindsBlock, finds-block, misses-block, FindsData, finds-data, misses-data}
+use Rattle.elements.proofs.Pieces.{name-within}
 
 -- ---- items one after the other
 
@@ -142,27 +142,6 @@ pub ruleset params-laws = (params-start, params-out, params-close, params-other,
 
 -- ---- an element
 
--- what an answer says of what the parser finds
-record FindsBlock {A : Type 0} (count : A → ℕ) (o : Parsed A) (n k : ℕ) : Type 0 where
-  value : A
-  is : o ≡ found value n
-  counted : k ≡ count value
-
-module _ {A : Type 0} (count : A → ℕ) (o : Parsed A) (g : Block) (e : g ≡ blockOf count o) where
-  finds-block : {n k : ℕ} → g ≡ IsBlock n k → FindsBlock count o n k
-  finds-block {n} {k} h = go o (sym h ∙ e)
-    where
-      go : (o : Parsed A) → IsBlock n k ≡ blockOf count o → FindsBlock count o n k
-      go failed q = let z : true ≡ false = cc in clash z
-      go (found a m) q = record { value = a; is = cc; counted = cc }
-
-  misses-block : g ≡ NoBlock → o ≡ failed
-  misses-block h = go o (sym h ∙ e)
-    where
-      go : (o : Parsed A) → NoBlock ≡ blockOf count o → o ≡ failed
-      go failed q = refl
-      go (found a m) q = let z : true ≡ false = cc in clash z
-
 module _ (s : List ℕ) (g : Size) (eg : g ≡ sizeOf (sdName s)) where
   pub element-no-name : g ≡ Missing → NoBlock ≡ blockOf paramsIn (element s)
   unfolding element into _next_
@@ -270,12 +249,6 @@ pub ruleset elements-laws = (elements-start, elements-out, elements-other, eleme
 
 -- ---- the structured data
 
-record FindsData (o : Parsed (List Element)) (m n k : ℕ) : Type 0 where
-  value : List Element
-  is : o ≡ found value m
-  counted : n ≡ length value
-  params-counted : k ≡ paramCount value
-
 module _ (s : List ℕ) (t : Bool) (et : t ≡ isAt s 0 45) where
   pub data-nil : t ≡ true → IsData 1 0 0 ≡ countsOf (structured s)
   unfolding structured choose
@@ -284,19 +257,11 @@ module _ (s : List ℕ) (t : Bool) (et : t ≡ isAt s 0 45) where
   module _ (h : t ≡ false) (g : Counts) (eg : g ≡ countsOf (many 91 element s)) where
     pub data-bad : g ≡ NoData → NoData ≡ countsOf (structured s)
     unfolding structured choose only
-    data-bad b = rw (← et, h, go (many 91 element s) (sym b ∙ eg))
-      where
-        go : (o : Parsed (List Element)) → NoData ≡ countsOf o → o ≡ failed
-        go failed q = refl
-        go (found es m) q = let z : true ≡ false = cc in clash z
+    data-bad b = rw (← et, h, misses-data (many 91 element s) g eg b)
 
     module _ (m n k : ℕ) (b : g ≡ IsData m n k) where
       all-here : FindsData (many 91 element s) m n k
-      all-here = go (many 91 element s) (sym b ∙ eg)
-        where
-          go : (o : Parsed (List Element)) → IsData m n k ≡ countsOf o → FindsData o m n k
-          go failed q = let z : true ≡ false = cc in clash z
-          go (found es l) q = record { value = es; is = cc; counted = cc; params-counted = cc }
+      all-here = finds-data (many 91 element s) g eg b
 
       pub data-empty : n ≡ 0 → NoData ≡ countsOf (structured s)
       unfolding structured choose only
@@ -311,3 +276,7 @@ module _ (s : List ℕ) (t : Bool) (et : t ≡ isAt s 0 45) where
           rw (← et, h, f .is, le-leb 1 (length (f .value)) (omega (arith, f .counted))) (ap₂ (IsData m) (f .counted) (f .params-counted))
 
 pub ruleset data-laws = (data-nil, data-bad, data-empty, data-is)
+
+-- what is counted lies within the text
+pub data-within : (s : List ℕ) (g : Counts) (m n k : ℕ) → g ≡ countsOf (structured s) → g ≡ IsData m n k → m ≤ length s
+data-within s g m n k e h = let f = finds-data (structured s) g e h in found-within data-reads s (f .value) m (f .is)

@@ -1,3 +1,5 @@
+pub mod Answers
+pub mod Values
 pub mod Pieces
 pub mod Counting
 pub mod Messages

@@ -1,49 +1,26 @@
 -- Names, values and parameters: what their readers answer.
-use Prim.Native.Nat.{ℕ, suc, _+_, _-_, _^_, _≤_, _<_}
-use mathlib.Core.Path.{_≡_, refl, sym, ap, _∙_}
+use Prim.Native.Nat.{ℕ, _+_, _-_, _^_, _≤_, _<_}
+use mathlib.Core.Path.{_≡_, sym, ap, _∙_}
 use mathlib.Core.Bool.{Bool, true, false, not, _&&_}
-use mathlib.Core.List.{List, [], _∷_}
+use mathlib.Core.List.{List}
 use native.Mathlib.Omega.{arith}
-use lib.Dec.{leb, eqb}
-use lib.ListN.{length, getD, take, drop, length-drop}
+use lib.Dec.{leb}
+use lib.ListN.{length, drop, length-drop}
 use mir.Syntax.{w64}
 use mir.Val.{Fits}
 use borrow.Author.Tests.{not-true, not-false}
-use Rattle.base.specs.Choose.{if_then_else_, isAt}
+use Rattle.base.specs.Choose.{isAt}
 use Rattle.base.specs.Runs.{run}
-use Rattle.base.proofs.Tests.{clash, by-test}
-use Rattle.base.proofs.Parts.{step, ended, at-below}
-use Rattle.utf8.specs.Lead.{isUtf8}
+use Rattle.base.proofs.Parts.{at-below}
 use Rattle.grammar.specs.Abnf.{sdNameByte}
-use Rattle.grammar.specs.Line.{bare}
-use Rattle.grammar.specs.Parse.{Parsed, choose, behind, closed, only, _next_, into, repeat, stop, untilQuote, value, sdName, param}
-use Rattle.grammar.specs.Parse.Parsed.{failed, found}
+use Rattle.grammar.specs.Parse.{choose, behind, closed, _next_, into, repeat, value, sdName, param}
 use Rattle.grammar.proofs.Readers.{found-within, behind-reads}
 use Rattle.grammar.proofs.Bytes.{repeat-reads}
 use Rattle.grammar.proofs.Data.{value-reads}
 use Rattle.elements.specs.Sizes.{sizeOf}
 use Rattle.elements.specs.declared.Size.{Size}
 use Rattle.elements.specs.declared.Size.the-variants.{Missing, Bytes}
-
--- what an answer says of what the parser finds
-pub record Finds {A : Type 0} (o : Parsed A) (n : ℕ) : Type 0 where
-  pub value : A
-  pub is : o ≡ found value n
-
-module _ {A : Type 0} (o : Parsed A) (g : Size) (e : g ≡ sizeOf o) where
-  pub finds : {n : ℕ} → g ≡ Bytes n → Finds o n
-  finds {n} h = go o (sym h ∙ e)
-    where
-      go : (o : Parsed A) → Bytes n ≡ sizeOf o → Finds o n
-      go failed q = let z : true ≡ false = cc in clash z
-      go (found a m) q = record { value = a; is = cc }
-
-  pub misses : g ≡ Missing → o ≡ failed
-  misses h = go o (sym h ∙ e)
-    where
-      go : (o : Parsed A) → Missing ≡ sizeOf o → o ≡ failed
-      go failed q = refl
-      go (found a m) q = let z : true ≡ false = cc in clash z
+use Rattle.elements.proofs.Answers.{finds, misses}
 
 -- ---- a name
 
@@ -59,73 +36,7 @@ module _ (s : List ℕ) (n : ℕ) (e : n ≡ run sdNameByte s) where
 pub name-within : (s : List ℕ) (g : Size) (n : ℕ) → g ≡ sizeOf (sdName s) → g ≡ Bytes n → n ≤ length s
 name-within s g n e h = let f = finds (sdName s) g e h in found-within (repeat-reads 32 sdNameByte) s (f .value) n (f .is)
 
--- ---- where a value stops
-
-stop-cons : (paired : Bool) (b : ℕ) (s : List ℕ) → stop paired (b ∷ s) ≡ (if not paired && bare b then 0 else suc (stop (not paired && eqb b 92) s))
-unfolding stop
-stop-cons true b s = refl
-stop-cons false b s = refl
-
-stop-none : (paired : Bool) → stop paired [] ≡ 0
-unfolding stop
-stop-none paired = refl
-
--- `i` bytes are passed
-pub record Stopping (s : List ℕ) (paired : Bool) (i : ℕ) : Type 0 where
-  pub passed : i ≤ length s
-  pub whole : stop false s ≡ i + stop paired (drop i s)
-
-pub stop-start : (s : List ℕ) → Stopping s false 0
-stop-start s = record { passed = omega arith; whole = omega arith }
-
-module _ (s : List ℕ) (paired : Bool) (i : ℕ) (w : Stopping s paired i) where
-  pub stop-out : length s ≤ i → i ≡ stop false s
-  stop-out h = let q : stop paired (drop i s) ≡ 0 = ap (stop paired) (ended s i h) ∙ stop-none paired in omega (arith, w .whole)
-
-  module _ (h : i < length s) where
-    pub stop-here : (not paired && bare (getD s i 0)) ≡ true → i ≡ stop false s
-    stop-here t = let q : stop paired (drop i s) ≡ 0 = rw (step s i h, stop-cons, t) in omega (arith, w .whole)
-
-    pub stop-on : (not paired && bare (getD s i 0)) ≡ false → Stopping s (not paired && eqb (getD s i 0) 92) (i + 1)
-    stop-on t =
-        let q : stop paired (drop i s) ≡ suc (stop (not paired && eqb (getD s i 0) 92) (drop (i + 1) s)) = rw (step s i h, stop-cons, t) in
-        record { passed = omega arith; whole = omega (arith, w .whole) }
-
-pub ruleset stop-laws = (stop-start, stop-out, stop-here, stop-on)
-
-pub stop-within : (s : List ℕ) (n : ℕ) → n ≡ stop false s → n ≤ length s
-stop-within s n e = omega (arith, e, stop-le false s)
-  where
-    stop-le : (paired : Bool) (s : List ℕ) → stop paired s ≤ length s
-    stop-le paired [] = omega (arith, stop-none paired)
-    stop-le paired (b ∷ s) =
-        let l = stop-le (not paired && eqb b 92) s in
-        rw stop-cons (by-test (λ t. (if t then 0 else suc (stop (not paired && eqb b 92) s)) ≤ suc (length s)) (not paired && bare b) (λ e. omega arith) (λ e. omega arith))
-
 -- ---- a value
-
-module _ (s : List ℕ) (n : ℕ) (e : n ≡ stop false s) (t : Bool) (et : t ≡ isAt s n 34) where
-  pub value-open : not t ≡ true → Missing ≡ sizeOf (value s)
-  unfolding value only untilQuote
-  value-open h = rw (← e, ← et, not-true t h)
-
-  module _ (h : not t ≡ false) where
-    pub value-fits : length s < 2 ^ 64 → Fits w64 (n + 1)
-    value-fits l = let k = at-below s n 33 (sym et ∙ not-false t h) in record { fits = omega arith }
-
-    module _ (u : Bool) (part : u ≡ isUtf8 (take (n - 0) s)) where
-      eu : u ≡ isUtf8 (take n s)
-      eu = let z : n - 0 ≡ n = omega arith in part ∙ ap (λ (k : ℕ). isUtf8 (take k s)) z
-
-      pub value-no : not u ≡ true → Missing ≡ sizeOf (value s)
-      unfolding value only untilQuote
-      value-no k = rw (← e, ← et, not-false t h, ← eu, not-true u k)
-
-      pub value-is : not u ≡ false → Bytes (n + 1) ≡ sizeOf (value s)
-      unfolding value only untilQuote
-      value-is k = rw (← e, ← et, not-false t h, ← eu, not-false u k)
-
-pub ruleset value-laws = (stop-within, value-open, value-fits, value-no, value-is)
 
 pub value-within : (s : List ℕ) (g : Size) (n : ℕ) → g ≡ sizeOf (value s) → g ≡ Bytes n → n ≤ length s
 value-within s g n e h = let f = finds (value s) g e h in found-within value-reads s (f .value) n (f .is)

@@ -86,18 +86,45 @@ fn stop(s: &[u8]) -> usize
     i
 }
 
-// A value and its closing quote.
+// A value and its closing quote. One walk asks for UTF-8 and for the escapes; both stand in ASCII, which is answered first.
 fn value(s: &[u8]) -> Size
     ensures { λ r. ⌜ r ≡ sizeOf (parse.value (now (s .entry))) ⌝ }
 {
-    let n = stop(s);
-    if !base::is_at(s, n, 34) {
-        return Size::Missing;
+    let mut paired = false;
+    let mut more: usize = 0;
+    let mut low: u8 = 0x80;
+    let mut high: u8 = 0xBF;
+    let mut i = 0;
+    while i < s.len() {
+        let b = s[i];
+        i += 1;
+        if (more == 0) & (b < 0x80) {
+            if !paired & (b == 34) {
+                return Size::Bytes(i);
+            }
+            if !paired & (b == 93) {
+                return Size::Missing;
+            }
+            paired = !paired & (b == 92);
+        } else if more == 0 {
+            let l = utf8::lead_of(b);
+            if l.len == 0 {
+                return Size::Missing;
+            }
+            more = l.len - 1;
+            low = l.low;
+            high = l.high;
+            paired = false;
+        } else {
+            if (b < low) | (high < b) {
+                return Size::Missing;
+            }
+            more -= 1;
+            low = 0x80;
+            high = 0xBF;
+        }
     }
-    if !utf8::is_utf8(&s[0..n]) {
-        return Size::Missing;
-    }
-    Size::Bytes(n + 1)
+    Size::Missing
 }
 
 // A value and both its quotes.
@@ -204,6 +231,7 @@ fn elements(s: &[u8]) -> Counts
     }
 }
 
+// Reads the structured data at the front of a part, and counts what is in it.
 pub fn count_data(s: &[u8]) -> Counts
     ensures { λ r. ⌜ r ≡ countsOf (parse.structured (now (s .entry))) ⌝ }
 {
@@ -248,6 +276,7 @@ fn is_message(m: &[u8]) -> bool
     utf8::is_utf8(base::past(m, 3))
 }
 
+// Reads what is behind the structured data, to the end.
 pub fn read_tail(s: &[u8]) -> Tail
     ensures { λ r. ⌜ r ≡ tailOf (parse.message (now (s .entry))) ⌝ }
 {
@@ -266,11 +295,11 @@ pub fn read_tail(s: &[u8]) -> Tail
 
 // What stands at a place of the structured data, by the byte there: an id behind '[', a parameter behind a space, or neither; and the place behind it.
 struct Entry {
-    pub opens: bool,
-    pub holds: bool,
-    pub name: usize,
-    pub value: usize,
-    pub next: usize,
+    opens: bool,
+    holds: bool,
+    name: usize,
+    value: usize,
+    next: usize,
 }
 
 // How many bytes of a name stand behind the byte at `at`.

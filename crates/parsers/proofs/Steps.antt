@@ -26,7 +26,7 @@ use Rattle.parsers.specs.declared.Pos.the-variants.{NoPos, IsPos}
 
 -- A byte
 module _ (s : List ℕ) (at b : ℕ) (p : 0 < b) where
-  at-there : isAt s at b ≡ true → at < length s
+  pub at-there : isAt s at b ≡ true → at < length s
   at-there h = go b p h
     where
       go : (b : ℕ) → 0 < b → isAt s at b ≡ true → at < length s

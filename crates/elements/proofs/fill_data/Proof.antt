@@ -52,7 +52,7 @@ add-e : tie.Need-add-e Inv-loop μ-loop
 add-e c = let t = opened c in omega arith
 
 sub-t18 : tie.Need-sub-t18 Inv-loop μ-loop
-sub-t18 c = held c .opened
+sub-t18 c = let t = held c in omega arith
 
 add-t19 : tie.Need-add-t19 Inv-loop μ-loop
 add-t19 c = let t = held c in omega arith

@@ -1,3 +1,4 @@
+-- `elements::params` meets its contract. The invariant: the parameters are those that were passed, and those of the rest. Assumes nothing.
 use borrow.Author.Needs.{needs}
 use Prim.Native.Nat.{_-_}
 use lib.ListN.{length}

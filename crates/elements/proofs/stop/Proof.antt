@@ -2,7 +2,7 @@
 use Prim.Native.Nat.{_-_}
 use lib.ListN.{length}
 use borrow.Author.Needs.{needs}
-use Rattle.elements.proofs.Pieces.{Stopping, stop-laws}
+use Rattle.elements.proofs.Values.{Stopping, stop-laws}
 use Rattle.elements.proofs.stop.Statement.{statement}
 use Rattle.elements.proofs.stop.Tie as tie
 
