@@ -86,7 +86,7 @@ fn stop(s: &[u8]) -> usize
     i
 }
 
-// A value and its closing quote. One walk asks for UTF-8 and for the escapes; both stand in ASCII, which is answered first.
+// A value and its closing quote, in one walk that asks for the escapes and for UTF-8. ASCII, which all escapes are, is answered first.
 fn value(s: &[u8]) -> Size
     ensures { λ r. ⌜ r ≡ sizeOf (parse.value (now (s .entry))) ⌝ }
 {

@@ -1,0 +1,4 @@
+pub mod Compared
+pub mod Unescaping
+pub mod Finding
+pub mod Answers

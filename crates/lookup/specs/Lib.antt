@@ -1,0 +1,3 @@
+pub mod Unescape
+pub mod Lookup
+pub mod Steps

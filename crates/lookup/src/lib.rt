@@ -1,0 +1,229 @@
+// Lookup: the unescaped value of the first parameter with a given element id and name.
+use record::Place;
+use record::Record;
+use record::Refusal;
+use record::Written;
+ghost use mathlib.Core.Path.{_≡_};
+ghost use mathlib.Core.Bool.{true, _&&_};
+ghost use mathlib.Core.List.{[]};
+ghost use Prim.Native.Nat.{_+_, _≤_, _<_};
+ghost use lib.ListN.{length, getD, take};
+ghost use Rattle.base.specs.Fills.{filled};
+ghost use Rattle.base.specs.Texts.{textAt, sameText};
+ghost use Rattle.output.specs.Fits.{Fits};
+ghost use Rattle.output.specs.Output.{Wrote};
+ghost use Rattle.suits.specs.Suits.{tablesSuit};
+ghost use Rattle.lookup.specs.Unescape.{unescaped};
+ghost use Rattle.lookup.specs.Lookup.{idText, Looks};
+ghost use Rattle.lookup.specs.Steps.{adds, bytesOf, Finds, Gives};
+
+fn same_text(a: &[u8], b: &[u8]) -> bool
+    ensures { λ r. ⌜ r ≡ sameText (now (a .entry)) (now (b .entry)) ⌝ }
+{
+    if a.len() != b.len() {
+        return false;
+    }
+    let mut i = 0;
+    while i < a.len() {
+        if a[i] != b[i] {
+            return false;
+        }
+        i += 1;
+    }
+    true
+}
+
+// Is the place's text the text?
+fn text_is(line: &[u8], start: usize, len: usize, text: &[u8]) -> bool
+    requires { ⌜ start + len ≤ length (now line) ⌝ }
+    ensures { λ r. ⌜ r ≡ sameText (textAt (now (line .entry)) start len) (now (text .entry)) ⌝ }
+{
+    let end = start + len;
+    same_text(&line[start..end], text)
+}
+
+// Has element `k` the id? `same` says so of element `last`, so that an id is compared once for all its parameters.
+fn id_is(line: &[u8], elements: &[[usize; 2]], id: &[u8], last: usize, same: bool, k: usize) -> bool
+    requires { ⌜ k < length (now elements) ⌝ }
+    requires { ⌜ getD (getD (now elements) k []) 0 0 + getD (getD (now elements) k []) 1 0 ≤ length (now line) ⌝ }
+    requires { ⌜ (k ≡ last → same ≡ sameText (idText (now line) (now elements) k) (now id)) ⌝ }
+    ensures { λ r. ⌜ r ≡ sameText (idText (now (line .entry)) (now (elements .entry)) k) (now (id .entry)) ⌝ }
+{
+    if k == last {
+        return same;
+    }
+    let row = elements[k];
+    text_is(line, row[0], row[1], id)
+}
+
+// Is this the parameter, where its element has the id?
+fn matches(line: &[u8], name: &[u8], same: bool, row: [usize; 5]) -> bool
+    requires { ⌜ getD row 1 0 + getD row 2 0 ≤ length (now line) ⌝ }
+    ensures { λ r. ⌜ r ≡ (same && sameText (textAt (now (line .entry)) (getD row 1 0) (getD row 2 0)) (now (name .entry))) ⌝ }
+{
+    if !same {
+        return false;
+    }
+    text_is(line, row[1], row[2], name)
+}
+
+// The place of the value; absent where no parameter matches.
+fn find(
+    line: &[u8],
+    element_count: usize,
+    param_count: usize,
+    elements: &[[usize; 2]],
+    params: &[[usize; 5]],
+    id: &[u8],
+    name: &[u8],
+) -> Place
+    requires { ⌜ tablesSuit (now line) «element_count» «param_count» (now elements) (now params) ≡ true ⌝ }
+    ensures { λ r. ⌜ Finds (now (line .entry)) (now (elements .entry)) (now (id .entry)) (now (name .entry)) (take «param_count» (now (params .entry))) r ⌝ }
+{
+    let mut last = element_count;
+    let mut same = false;
+    let mut i = 0;
+    while i < param_count {
+        let row = params[i];
+        let k = row[0];
+        same = id_is(line, elements, id, last, same, k);
+        last = k;
+        if matches(line, name, same, row) {
+            return record::place_at(row[3], row[4]);
+        }
+        i += 1;
+    }
+    record::absent()
+}
+
+// What a byte of a value adds: nothing, one byte, or a backslash and a byte.
+enum Added {
+    Nothing,
+    One(u8),
+    Pair(u8),
+}
+
+// `taken`: the byte before is a backslash that takes this one.
+fn turn(loose: bool, taken: bool, b: u8) -> Added
+    ensures { λ r. ⌜ bytesOf r ≡ adds loose taken b ⌝ }
+{
+    if !taken {
+        if b == b'\\' {
+            return Added::Nothing;
+        }
+        return Added::One(b);
+    }
+    if (b == b'"') | (b == b'\\') | (b == b']') {
+        return Added::One(b);
+    }
+    if loose & (b == b'n') {
+        return Added::One(b'\n');
+    }
+    Added::Pair(b)
+}
+
+fn added_len(added: Added) -> usize
+    ensures { λ r. ⌜ r ≡ length (bytesOf added) ⌝ }
+{
+    match added {
+        Added::Nothing => 0,
+        Added::One(_) => 1,
+        Added::Pair(_) => 2,
+    }
+}
+
+fn put_added(out: &mut [u8], at: usize, added: Added) -> usize
+    requires { ⌜ Fits (now out) at (bytesOf added) ⌝ }
+    ensures { λ r. ⌜ Wrote (now (out .entry)) at (bytesOf added) r (now (out .exit)) ⌝ }
+{
+    match added {
+        Added::Nothing => at,
+        Added::One(b) => output::put(out, at, b),
+        Added::Pair(b) => {
+            let next = output::put(out, at, b'\\');
+            output::put(out, next, b)
+        }
+    }
+}
+
+// The length of the value unescaped.
+fn unescaped_len(v: &[u8], loose: bool) -> usize
+    ensures { λ r. ⌜ r ≡ length (unescaped loose (now (v .entry))) ⌝ }
+{
+    let mut n = 0;
+    let mut taken = false;
+    let mut i = 0;
+    while i < v.len() {
+        let b = v[i];
+        n += added_len(turn(loose, taken, b));
+        taken = !taken & (b == b'\\');
+        i += 1;
+    }
+    if taken & !loose {
+        return n + 1;
+    }
+    n
+}
+
+// The value unescaped, at the front of the output.
+fn put_unescaped(out: &mut [u8], v: &[u8], loose: bool)
+    requires { ⌜ Fits (now out) 0 (unescaped loose (now v)) ⌝ }
+    ensures { λ _. ⌜ now (out .exit) ≡ filled (unescaped loose (now (v .entry))) (now (out .entry)) ⌝ }
+{
+    let mut at = 0;
+    let mut taken = false;
+    let mut i = 0;
+    while i < v.len() {
+        let b = v[i];
+        at = put_added(out, at, turn(loose, taken, b));
+        taken = !taken & (b == b'\\');
+        i += 1;
+    }
+    if taken & !loose {
+        output::put(out, at, b'\\');
+    }
+}
+
+// Refusal 8, or the value unescaped.
+fn give(v: &[u8], loose: bool, out: &mut [u8]) -> Written
+    ensures { λ w. ⌜ Gives loose (now (v .entry)) (now (out .entry)) w (now (out .exit)) ⌝ }
+{
+    let n = unescaped_len(v, loose);
+    if out.len() < n {
+        return Written::Refused(Refusal::OutputShort);
+    }
+    put_unescaped(out, v, loose);
+    Written::Done(n)
+}
+
+pub fn lookup(
+    line: &[u8],
+    r: Record,
+    element_count: usize,
+    param_count: usize,
+    elements: &[[usize; 2]],
+    params: &[[usize; 5]],
+    id: &[u8],
+    name: &[u8],
+    kind: u32,
+    out: &mut [u8],
+) -> Written
+    ensures { λ w. ⌜ Looks (now (line .entry)) r «element_count» «param_count» (now (elements .entry)) (now (params .entry)) (now (id .entry)) (now (name .entry)) kind (now (out .entry)) w (now (out .exit)) ⌝ }
+{
+    if 8192 < line.len() {
+        return Written::Refused(Refusal::LineTooLong);
+    }
+    if 1 < kind {
+        return Written::Refused(Refusal::BadSetting);
+    }
+    if !suits::is_suitable(line, r, element_count, param_count, elements, params) {
+        return Written::Refused(Refusal::Unsuitable);
+    }
+    let value = find(line, element_count, param_count, elements, params, id, name);
+    if !value.present {
+        return Written::Refused(Refusal::NotFound);
+    }
+    let start = value.start;
+    let end = start + value.len;
+    give(&line[start..end], kind == 0, out)
+}
