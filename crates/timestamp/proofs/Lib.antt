@@ -6,3 +6,5 @@ pub mod Zones
 pub mod Stamps
 pub mod Forms
 pub mod Within
+pub mod Answers
+pub mod Examples

@@ -10,13 +10,13 @@ use lib.ListN.{length, getD, take, drop, length-map, length-take, length-drop}
 use borrow.Author.Tests.{eq-eqb, ne-eqb, eqb-true, ltb-true, leb-true}
 use mir.Syntax.{w8}
 use mir.Val.{Fits}
+use Rattle.base.specs.Texts.{sameText}
 use Rattle.base.specs.Choose.{if_then_else_, within}
 use Rattle.base.proofs.Tests.{clash, both, by-if}
 use Rattle.base.proofs.Parts.{step}
 use Rattle.parsers.specs.declared.Num.{Num}
 use Rattle.parsers.specs.declared.Num.the-variants.{NoNum, IsNum}
 use Rattle.timestamp.specs.Month.{lower, monthNames, namedFrom, monthOf, monthFrom}
-use Rattle.base.specs.Texts.{sameText}
 
 -- A letter in lower case
 module _ (b : ℕ) (t : Bool) (e : t ≡ within 65 90 b) where

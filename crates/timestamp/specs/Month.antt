@@ -4,8 +4,8 @@ use mathlib.Core.List.{List, [], _∷_, map}
 use lib.Dec.{eqb}
 use lib.ListN.{take, drop}
 use Rattle.base.specs.Choose.{if_then_else_, within}
-use Rattle.base.specs.Bytes.{bytes}
 use Rattle.base.specs.Texts.{sameText}
+use Rattle.base.specs.Bytes.{bytes}
 use Rattle.parsers.specs.declared.Num.{Num}
 use Rattle.parsers.specs.declared.Num.the-variants.{NoNum, IsNum}
 

@@ -7,10 +7,10 @@ is-alone-requires : tie.Need-is-alone-requires
 is-alone-requires c κs = search needs
 
 returns : tie.Need-returns
-returns c = search (absent-is, given-is, needs)
+returns c = search absent-is
 
 returns-2 : tie.Need-returns-2
-returns-2 c = search (absent-is, given-is, needs)
+returns-2 c = search given-is
 
 pub or-absent-spec : {M : Type 1} → statement M
 or-absent-spec = tie.close (tie.spec is-alone-requires returns returns-2)
