@@ -35,217 +35,141 @@ use Rattle.header.specs.declared.NamesAt.{NamesAt}
 use Rattle.header.specs.declared.NamesAt.the-variants.{NoNames, AreNames}
 use Rattle.header.proofs.Steps.{Fails, Finds}
 
--- For each answer: what it is where nothing is found, and where something is; and what was found, from the answer.
-module _ {A : Type 0} (f : A → ℕ) {p : Reader A} {s : List ℕ} where
-  pub value-failed : Fails p s → Nothing ≡ valueOf f (p s)
-  value-failed w = rw (w .is)
+-- What an answer m of the code is where nothing is found, and what was found, from the answer.
+module _ {A R : Type 0} (m : Parsed A → R) {p : Reader A} {s : List ℕ} where
+  pub failed-answer : Fails p s → m failed ≡ m (p s)
+  failed-answer w = ap m (sym (w .is))
 
-  pub value-found : {v n : ℕ} → Finds (λ a. f a ≡ v) n p s → Value v n ≡ valueOf f (p s)
-  value-found w = rw (w .is, w .has)
+  pub found-answer : {P : A → Type 0} {n : ℕ} {x : R} → Finds P n p s → ((a : A) → P a → x ≡ m (found a n)) → x ≡ m (p s)
+  found-answer w h = h (w .value) (w .has) ∙ ap m (sym (w .is))
 
-  module _ {r : Number} (e : r ≡ valueOf f (p s)) where
-    pub value-none : r ≡ Nothing → Fails p s
-    value-none h = go (p s) refl (sym h ∙ e)
+  module _ {r : R} (e : r ≡ m (p s)) where
+    pub none-found : ((a : A) (n : ℕ) → r ≡ m (found a n) → ⊥) → Fails p s
+    none-found h = go (p s) refl e
       where
-        go : (x : Parsed A) → p s ≡ x → Nothing ≡ valueOf f x → Fails p s
+        go : (x : Parsed A) → p s ≡ x → r ≡ m x → Fails p s
         go failed q g = record { is = q }
-        go (found a n) q g = let z : true ≡ false = cc in clash z
+        go (found a n) q g = absurd (h a n g)
+
+    pub some-found : {P : A → Type 0} {n : ℕ} → (r ≡ m failed → ⊥) → ((a : A) (k : ℕ) → r ≡ m (found a k) → (k ≡ n) × P a) → Finds P n p s
+    some-found {P} {n} h k = go (p s) refl e
+      where
+        go : (x : Parsed A) → p s ≡ x → r ≡ m x → Finds P n p s
+        go failed q g = absurd (h g)
+        go (found a l) q g = let f = k a l g in record { value = a; is = q ∙ ap (found a) (f .0); has = f .1 }
+
+module _ {A : Type 0} (f : A → ℕ) {p : Reader A} {s : List ℕ} where
+  pub value-found : {v n : ℕ} → Finds (λ a. f a ≡ v) n p s → Value v n ≡ (valueOf f) (p s)
+  value-found w = found-answer (valueOf f) w (λ a h. rw h)
+
+  module _ {r : Number} (e : r ≡ (valueOf f) (p s)) where
+    pub value-none : r ≡ Nothing → Fails p s
+    value-none h = none-found (valueOf f) e (λ a n q. let z : true ≡ false = cc in clash z)
 
     pub value-some : {v n : ℕ} → r ≡ Value v n → Finds (λ a. f a ≡ v) n p s
-    value-some {v} {n} h = go (p s) refl (sym h ∙ e)
-      where
-        go : (x : Parsed A) → p s ≡ x → Value v n ≡ valueOf f x → Finds (λ a. f a ≡ v) n p s
-        go failed q g = let z : true ≡ false = cc in clash z
-        go (found a m) q g = let l : m ≡ n = cc in record { value = a; is = q ∙ ap (found a) l; has = cc }
+    value-some h = some-found (valueOf f) e (λ q. let z : true ≡ false = cc in clash z) (λ a k q. (cc, cc))
 
-abbrev pub Two : ℕ → ℕ → List ℕ × List ℕ → Type 0
-Two a b t = (decimal (t .0) ≡ a) × (decimal (t .1) ≡ b)
+abbrev pub Pair : ℕ → ℕ → List ℕ × List ℕ → Type 0
+Pair a b t = (decimal (t .0) ≡ a) × (decimal (t .1) ≡ b)
 
 module _ {p : Reader (List ℕ × List ℕ)} {s : List ℕ} where
-  pub pair-failed : Fails p s → NoPair ≡ pairOf (p s)
-  pair-failed w = rw (w .is)
-
-  pub pair-found : {a b n : ℕ} → Finds (Two a b) n p s → IsPair a b n ≡ pairOf (p s)
-  pair-found w = rw (w .is, w .has .0, w .has .1)
+  pub pair-found : {x y n : ℕ} → Finds (Pair x y) n p s → IsPair x y n ≡ pairOf (p s)
+  pair-found w = found-answer pairOf w (λ a h. rw (h .0, h .1))
 
   module _ {r : PairAt} (e : r ≡ pairOf (p s)) where
     pub pair-none : r ≡ NoPair → Fails p s
-    pair-none h = go (p s) refl (sym h ∙ e)
-      where
-        go : (x : Parsed (List ℕ × List ℕ)) → p s ≡ x → NoPair ≡ pairOf x → Fails p s
-        go failed q g = record { is = q }
-        go (found a n) q g = let z : true ≡ false = cc in clash z
+    pair-none h = none-found pairOf e (λ a n q. let z : true ≡ false = cc in clash z)
 
-    pub pair-some : {a b n : ℕ} → r ≡ IsPair a b n → Finds (Two a b) n p s
-    pair-some {a} {b} {n} h = go (p s) refl (sym h ∙ e)
-      where
-        go : (x : Parsed (List ℕ × List ℕ)) → p s ≡ x → IsPair a b n ≡ pairOf x → Finds (Two a b) n p s
-        go failed q g = let z : true ≡ false = cc in clash z
-        go (found t m) q g = let l : m ≡ n = cc in record { value = t; is = q ∙ ap (found t) l; has = (cc, cc) }
+    pub pair-some : {x y n : ℕ} → r ≡ IsPair x y n → Finds (Pair x y) n p s
+    pair-some h = some-found pairOf e (λ q. let z : true ≡ false = cc in clash z) (λ a k q. (cc, (cc, cc)))
 
-abbrev pub Are : ℕ → ℕ → ℕ → Three → Type 0
-Are a b c t = (decimal (t .0) ≡ a) × Two b c (t .1)
+abbrev pub Triple : ℕ → ℕ → ℕ → Three → Type 0
+Triple a b c t = (decimal (t .0) ≡ a) × Pair b c (t .1)
 
 module _ {p : Reader Three} {s : List ℕ} where
-  pub triple-failed : Fails p s → NoTriple ≡ tripleOf (p s)
-  triple-failed w = rw (w .is)
-
-  pub triple-found : {a b c n : ℕ} → Finds (Are a b c) n p s → IsTriple a b c n ≡ tripleOf (p s)
-  triple-found w = rw (w .is, w .has .0, w .has .1 .0, w .has .1 .1)
+  pub triple-found : {x y z n : ℕ} → Finds (Triple x y z) n p s → IsTriple x y z n ≡ tripleOf (p s)
+  triple-found w = found-answer tripleOf w (λ a h. rw (h .0, h .1 .0, h .1 .1))
 
   module _ {r : TripleAt} (e : r ≡ tripleOf (p s)) where
     pub triple-none : r ≡ NoTriple → Fails p s
-    triple-none h = go (p s) refl (sym h ∙ e)
-      where
-        go : (x : Parsed Three) → p s ≡ x → NoTriple ≡ tripleOf x → Fails p s
-        go failed q g = record { is = q }
-        go (found a n) q g = let z : true ≡ false = cc in clash z
+    triple-none h = none-found tripleOf e (λ a n q. let z : true ≡ false = cc in clash z)
 
-    pub triple-some : {a b c n : ℕ} → r ≡ IsTriple a b c n → Finds (Are a b c) n p s
-    triple-some {a} {b} {c} {n} h = go (p s) refl (sym h ∙ e)
-      where
-        go : (x : Parsed Three) → p s ≡ x → IsTriple a b c n ≡ tripleOf x → Finds (Are a b c) n p s
-        go failed q g = let z : true ≡ false = cc in clash z
-        go (found t m) q g = let l : m ≡ n = cc in record { value = t; is = q ∙ ap (found t) l; has = (cc, (cc, cc)) }
+    pub triple-some : {x y z n : ℕ} → r ≡ IsTriple x y z n → Finds (Triple x y z) n p s
+    triple-some h = some-found tripleOf e (λ q. let z : true ≡ false = cc in clash z) (λ a k q. (cc, (cc, (cc, cc))))
 
 module _ {p : Reader Offset} {s : List ℕ} where
-  pub offset-failed : Fails p s → NoOffset ≡ offsetAt (p s)
-  offset-failed w = rw (w .is)
-
   pub offset-found : {z : ℤ} {n : ℕ} → Finds (λ o. offsetOf o ≡ z) n p s → IsOffset z n ≡ offsetAt (p s)
-  offset-found w = rw (w .is, w .has)
+  offset-found w = found-answer offsetAt w (λ a h. rw h)
 
   module _ {r : OffsetAt} (e : r ≡ offsetAt (p s)) where
     pub offset-none : r ≡ NoOffset → Fails p s
-    offset-none h = go (p s) refl (sym h ∙ e)
-      where
-        go : (x : Parsed Offset) → p s ≡ x → NoOffset ≡ offsetAt x → Fails p s
-        go failed q g = record { is = q }
-        go (found a n) q g = let z : true ≡ false = cc in clash z
+    offset-none h = none-found offsetAt e (λ a n q. let z : true ≡ false = cc in clash z)
 
     pub offset-some : {z : ℤ} {n : ℕ} → r ≡ IsOffset z n → Finds (λ o. offsetOf o ≡ z) n p s
-    offset-some {z} {n} h = go (p s) refl (sym h ∙ e)
-      where
-        go : (x : Parsed Offset) → p s ≡ x → IsOffset z n ≡ offsetAt x → Finds (λ o. offsetOf o ≡ z) n p s
-        go failed q g = let y : true ≡ false = cc in clash y
-        go (found t m) q g = let l : m ≡ n = cc in record { value = t; is = q ∙ ap (found t) l; has = cc }
+    offset-some h = some-found offsetAt e (λ q. let z : true ≡ false = cc in clash z) (λ a k q. (cc, cc))
 
-abbrev pub Ends : ℕ → ℤ → Option (List ℕ) × Offset → Type 0
-Ends v z t = (nanosOf (t .0) ≡ v) × (offsetOf (t .1) ≡ z)
+abbrev pub Ending : ℕ → ℤ → Option (List ℕ) × Offset → Type 0
+Ending v z t = (nanosOf (t .0) ≡ v) × (offsetOf (t .1) ≡ z)
 
 module _ {p : Reader (Option (List ℕ) × Offset)} {s : List ℕ} where
-  pub ending-failed : Fails p s → NoEnding ≡ endingAt (p s)
-  ending-failed w = rw (w .is)
-
-  pub ending-found : {v n : ℕ} {z : ℤ} → Finds (Ends v z) n p s → IsEnding v z n ≡ endingAt (p s)
-  ending-found w = rw (w .is, w .has .0, w .has .1)
+  pub ending-found : {v n : ℕ} {z : ℤ} → Finds (Ending v z) n p s → IsEnding v z n ≡ endingAt (p s)
+  ending-found w = found-answer endingAt w (λ a h. rw (h .0, h .1))
 
   module _ {r : EndingAt} (e : r ≡ endingAt (p s)) where
     pub ending-none : r ≡ NoEnding → Fails p s
-    ending-none h = go (p s) refl (sym h ∙ e)
-      where
-        go : (x : Parsed (Option (List ℕ) × Offset)) → p s ≡ x → NoEnding ≡ endingAt x → Fails p s
-        go failed q g = record { is = q }
-        go (found a n) q g = let z : true ≡ false = cc in clash z
+    ending-none h = none-found endingAt e (λ a n q. let z : true ≡ false = cc in clash z)
 
-    pub ending-some : {v n : ℕ} {z : ℤ} → r ≡ IsEnding v z n → Finds (Ends v z) n p s
-    ending-some {v} {n} {z} h = go (p s) refl (sym h ∙ e)
-      where
-        go : (x : Parsed (Option (List ℕ) × Offset)) → p s ≡ x → IsEnding v z n ≡ endingAt x → Finds (Ends v z) n p s
-        go failed q g = let y : true ≡ false = cc in clash y
-        go (found t m) q g = let l : m ≡ n = cc in record { value = t; is = q ∙ ap (found t) l; has = (cc, cc) }
+    pub ending-some : {v n : ℕ} {z : ℤ} → r ≡ IsEnding v z n → Finds (Ending v z) n p s
+    ending-some h = some-found endingAt e (λ q. let z : true ≡ false = cc in clash z) (λ a k q. (cc, (cc, cc)))
 
 module _ {p : Reader (Option Timestamp)} {s : List ℕ} where
-  pub stamp-failed : Fails p s → NoStamp ≡ stampAt (p s)
-  stamp-failed w = rw (w .is)
-
   pub stamp-found : {x : Stamp} {n : ℕ} → Finds (λ t. stampOf t ≡ x) n p s → IsStamp x n ≡ stampAt (p s)
-  stamp-found w = rw (w .is, w .has)
+  stamp-found w = found-answer stampAt w (λ a h. rw h)
 
   module _ {r : StampAt} (e : r ≡ stampAt (p s)) where
     pub stamp-none : r ≡ NoStamp → Fails p s
-    stamp-none h = go (p s) refl (sym h ∙ e)
-      where
-        go : (x : Parsed (Option Timestamp)) → p s ≡ x → NoStamp ≡ stampAt x → Fails p s
-        go failed q g = record { is = q }
-        go (found a n) q g = let z : true ≡ false = cc in clash z
+    stamp-none h = none-found stampAt e (λ a n q. let z : true ≡ false = cc in clash z)
 
     pub stamp-some : {x : Stamp} {n : ℕ} → r ≡ IsStamp x n → Finds (λ t. stampOf t ≡ x) n p s
-    stamp-some {x} {n} h = go (p s) refl (sym h ∙ e)
-      where
-        go : (y : Parsed (Option Timestamp)) → p s ≡ y → IsStamp x n ≡ stampAt y → Finds (λ t. stampOf t ≡ x) n p s
-        go failed q g = let z : true ≡ false = cc in clash z
-        go (found t m) q g = let l : m ≡ n = cc in record { value = t; is = q ∙ ap (found t) l; has = cc }
+    stamp-some h = some-found stampAt e (λ q. let z : true ≡ false = cc in clash z) (λ a k q. (cc, cc))
 
 module _ (at : ℕ) {p : Reader (List ℕ)} {s : List ℕ} where
-  pub field-failed : Fails p s → NoField ≡ fieldAt at (p s)
-  field-failed w = rw (w .is)
+  pub field-found : {x : Place} {n : ℕ} → Finds (λ t. placeOf at t ≡ x) n p s → IsField x n ≡ (fieldAt at) (p s)
+  field-found w = found-answer (fieldAt at) w (λ a h. rw h)
 
-  pub field-found : {x : Place} {n : ℕ} → Finds (λ t. placeOf at t ≡ x) n p s → IsField x n ≡ fieldAt at (p s)
-  field-found w = rw (w .is, w .has)
-
-  module _ {r : FieldAt} (e : r ≡ fieldAt at (p s)) where
+  module _ {r : FieldAt} (e : r ≡ (fieldAt at) (p s)) where
     pub field-none : r ≡ NoField → Fails p s
-    field-none h = go (p s) refl (sym h ∙ e)
-      where
-        go : (x : Parsed (List ℕ)) → p s ≡ x → NoField ≡ fieldAt at x → Fails p s
-        go failed q g = record { is = q }
-        go (found a n) q g = let z : true ≡ false = cc in clash z
+    field-none h = none-found (fieldAt at) e (λ a n q. let z : true ≡ false = cc in clash z)
 
     pub field-some : {x : Place} {n : ℕ} → r ≡ IsField x n → Finds (λ t. placeOf at t ≡ x) n p s
-    field-some {x} {n} h = go (p s) refl (sym h ∙ e)
-      where
-        go : (y : Parsed (List ℕ)) → p s ≡ y → IsField x n ≡ fieldAt at y → Finds (λ t. placeOf at t ≡ x) n p s
-        go failed q g = let z : true ≡ false = cc in clash z
-        go (found t m) q g = let l : m ≡ n = cc in record { value = t; is = q ∙ ap (found t) l; has = cc }
+    field-some h = some-found (fieldAt at) e (λ q. let z : true ≡ false = cc in clash z) (λ a k q. (cc, cc))
 
--- texts one behind the other, each with its space, from `at` on
 abbrev pub Ids : ℕ → Place → Place → List ℕ × List ℕ → Type 0
 Ids at x y t = (placeOf at (t .0) ≡ x) × (placeOf (at + length (t .0) + 1) (t .1) ≡ y)
 
 module _ (at : ℕ) {p : Reader (List ℕ × List ℕ)} {s : List ℕ} where
-  pub ids-failed : Fails p s → NoIds ≡ idsAt at (p s)
-  ids-failed w = rw (w .is)
+  pub ids-found : {x y : Place} {n : ℕ} → Finds (Ids at x y) n p s → AreIds x y n ≡ (idsAt at) (p s)
+  ids-found w = found-answer (idsAt at) w (λ a h. rw (h .0, h .1))
 
-  pub ids-found : {x y : Place} {n : ℕ} → Finds (Ids at x y) n p s → AreIds x y n ≡ idsAt at (p s)
-  ids-found w = rw (w .is, w .has .0, w .has .1)
-
-  module _ {r : IdsAt} (e : r ≡ idsAt at (p s)) where
+  module _ {r : IdsAt} (e : r ≡ (idsAt at) (p s)) where
     pub ids-none : r ≡ NoIds → Fails p s
-    ids-none h = go (p s) refl (sym h ∙ e)
-      where
-        go : (x : Parsed (List ℕ × List ℕ)) → p s ≡ x → NoIds ≡ idsAt at x → Fails p s
-        go failed q g = record { is = q }
-        go (found a n) q g = let z : true ≡ false = cc in clash z
+    ids-none h = none-found (idsAt at) e (λ a n q. let z : true ≡ false = cc in clash z)
 
     pub ids-some : {x y : Place} {n : ℕ} → r ≡ AreIds x y n → Finds (Ids at x y) n p s
-    ids-some {x} {y} {n} h = go (p s) refl (sym h ∙ e)
-      where
-        go : (z : Parsed (List ℕ × List ℕ)) → p s ≡ z → AreIds x y n ≡ idsAt at z → Finds (Ids at x y) n p s
-        go failed q g = let b : true ≡ false = cc in clash b
-        go (found t m) q g = let l : m ≡ n = cc in record { value = t; is = q ∙ ap (found t) l; has = (cc, cc) }
+    ids-some h = some-found (idsAt at) e (λ q. let z : true ≡ false = cc in clash z) (λ a k q. (cc, (cc, cc)))
 
 abbrev pub Four : ℕ → Place → Place → Place → Place → Names → Type 0
-Four at x y z w t = (placeOf at (t .0) ≡ x) × ((placeOf (at + length (t .0) + 1) (t .1 .0) ≡ y) × Ids (at + length (t .0) + 1 + length (t .1 .0) + 1) z w (t .1 .1))
+Four at x y z w t =
+    let app = at + length (t .0) + 1 in
+    (placeOf at (t .0) ≡ x) × ((placeOf app (t .1 .0) ≡ y) × Ids (app + length (t .1 .0) + 1) z w (t .1 .1))
 
 module _ (at : ℕ) {p : Reader Names} {s : List ℕ} where
-  pub names-failed : Fails p s → NoNames ≡ namesAt at (p s)
-  names-failed w = rw (w .is)
+  pub names-found : {x y z w : Place} {n : ℕ} → Finds (Four at x y z w) n p s → AreNames x y z w n ≡ (namesAt at) (p s)
+  names-found f = found-answer (namesAt at) f (λ a h. rw (h .0, h .1 .0, h .1 .1 .0, h .1 .1 .1))
 
-  pub names-found : {x y z v : Place} {n : ℕ} → Finds (Four at x y z v) n p s → AreNames x y z v n ≡ namesAt at (p s)
-  names-found w = rw (w .is, w .has .0, w .has .1 .0, w .has .1 .1 .0, w .has .1 .1 .1)
-
-  module _ {r : NamesAt} (e : r ≡ namesAt at (p s)) where
+  module _ {r : NamesAt} (e : r ≡ (namesAt at) (p s)) where
     pub names-none : r ≡ NoNames → Fails p s
-    names-none h = go (p s) refl (sym h ∙ e)
-      where
-        go : (x : Parsed Names) → p s ≡ x → NoNames ≡ namesAt at x → Fails p s
-        go failed q g = record { is = q }
-        go (found a n) q g = let z : true ≡ false = cc in clash z
+    names-none h = none-found (namesAt at) e (λ a n q. let z : true ≡ false = cc in clash z)
 
-    pub names-some : {x y z v : Place} {n : ℕ} → r ≡ AreNames x y z v n → Finds (Four at x y z v) n p s
-    names-some {x} {y} {z} {v} {n} h = go (p s) refl (sym h ∙ e)
-      where
-        go : (o : Parsed Names) → p s ≡ o → AreNames x y z v n ≡ namesAt at o → Finds (Four at x y z v) n p s
-        go failed q g = let b : true ≡ false = cc in clash b
-        go (found t m) q g = let l : m ≡ n = cc in record { value = t; is = q ∙ ap (found t) l; has = (cc, (cc, (cc, cc))) }
+    pub names-some : {x y z w : Place} {n : ℕ} → r ≡ AreNames x y z w n → Finds (Four at x y z w) n p s
+    names-some h = some-found (namesAt at) e (λ q. let z : true ≡ false = cc in clash z) (λ a k q. (cc, (cc, (cc, (cc, cc)))))

@@ -10,7 +10,7 @@ use lib.Seq.{length-take-le}
 use mir.Syntax.{w64}
 use mir.Val.{Fits}
 use Rattle.base.specs.Choose.{if_then_else_, within, isAt}
-use Rattle.base.proofs.Tests.{by-test}
+use Rattle.base.proofs.Tests.{by-test, told}
 use Rattle.base.proofs.Runs.{run-le}
 use Rattle.digits.specs.Digits.{isDigit, digitRun, decimal, fixedAt, fractionAt}
 use Rattle.digits.specs.declared.Number.{Number}
@@ -27,8 +27,8 @@ use Rattle.header.specs.Pieces.{valueOf, pairOf, tripleOf}
 use Rattle.header.specs.declared.PairAt.{PairAt}
 use Rattle.header.specs.declared.PairAt.the-variants.{NoPair, IsPair}
 use Rattle.header.specs.declared.TripleAt.the-variants.{NoTriple, IsTriple}
-use Rattle.header.proofs.Steps.{told, untold, byte-laws, sum-fits, Finds, finds-within, next-within, into-failed, into-found, first-failed, first-found, other-found, only-failed, only-not, only-found, next-failed, next-not, next-found}
-use Rattle.header.proofs.Answers.{Are, value-failed, value-found, value-none, value-some, pair-failed, pair-found, pair-none, pair-some, triple-failed, triple-found}
+use Rattle.header.proofs.Steps.{untold, byte-laws, sum-fits, Finds, finds-within, next-within, into-failed, into-found, first-failed, first-found, other-found, only-failed, only-not, only-found, next-failed, next-not, next-found}
+use Rattle.header.proofs.Answers.{failed-answer, Triple, value-found, value-none, value-some, pair-found, pair-none, pair-some, triple-found}
 use Rattle.header.proofs.Numbers.{fixed-of}
 
 -- ---- two digits behind a byte, twice
@@ -46,11 +46,11 @@ module _ (b : ℕ) (l : 0 < b) (s : List ℕ) where
 
 module _ (b : ℕ) (s : List ℕ) (f : Number) (ef : f ≡ valueOf decimal (two b s)) where
   pub pair-no-first : f ≡ Nothing → NoPair ≡ pairOf ((two b next two b) s)
-  pair-no-first e = pair-failed (next-failed (value-none decimal ef e) (two b))
+  pair-no-first e = failed-answer pairOf (next-failed (value-none decimal ef e) (two b))
 
   module _ (x m : ℕ) (ev : f ≡ Value x m) (r : List ℕ) (er : r ≡ drop m s) (g : Number) (eg : g ≡ valueOf decimal (two b r)) where
     pub pair-no-second : g ≡ Nothing → NoPair ≡ pairOf ((two b next two b) s)
-    pair-no-second e = pair-failed (next-not (value-some decimal ef ev) er (value-none decimal eg e))
+    pair-no-second e = failed-answer pairOf (next-not (value-some decimal ef ev) er (value-none decimal eg e))
 
     pub pair-is : (y n : ℕ) → g ≡ Value y n → IsPair x y (m + n) ≡ pairOf ((two b next two b) s)
     pair-is y n e = pair-found (next-found (value-some decimal ef ev) er (value-some decimal eg e))
@@ -71,21 +71,21 @@ module _ (g : ℕ → ℕ → ℕ → Bool) (p : Reader (List ℕ)) (b : ℕ) (s
   passes t = g (decimal (t .0)) (decimal (t .1 .0)) (decimal (t .1 .1))
 
   pub triple-no-first : f ≡ Nothing → NoTriple ≡ tripleOf (only passes (p next (two b next two b)) s)
-  triple-no-first e = triple-failed (only-failed (next-failed (value-none decimal ef e) (two b next two b)) passes)
+  triple-no-first e = failed-answer tripleOf (only-failed (next-failed (value-none decimal ef e) (two b next two b)) passes)
 
   module _ (x m : ℕ) (ev : f ≡ Value x m) (r : List ℕ) (er : r ≡ drop m s) (k : PairAt) (ek : k ≡ pairOf ((two b next two b) r)) where
     pub triple-no-pair : k ≡ NoPair → NoTriple ≡ tripleOf (only passes (p next (two b next two b)) s)
-    triple-no-pair e = triple-failed (only-failed (next-not (value-some decimal ef ev) er (pair-none ek e)) passes)
+    triple-no-pair e = failed-answer tripleOf (only-failed (next-not (value-some decimal ef ev) er (pair-none ek e)) passes)
 
     module _ (y z n : ℕ) (eh : k ≡ IsPair y z n) (t : Bool) (et : t ≡ g x y z) where
-      all : Finds (Are x y z) (m + n) (p next (two b next two b)) s
+      all : Finds (Triple x y z) (m + n) (p next (two b next two b)) s
       all = next-found (value-some decimal ef ev) er (pair-some ek eh)
 
-      tested : (a : Three) → Are x y z a → g x y z ≡ passes a
+      tested : (a : Three) → Triple x y z a → g x y z ≡ passes a
       tested a h = rw (h .0, h .1 .0, h .1 .1)
 
       pub triple-not : not t ≡ true → NoTriple ≡ tripleOf (only passes (p next (two b next two b)) s)
-      triple-not h = triple-failed (only-not all passes (λ a k. sym (tested a k) ∙ untold t _ et h))
+      triple-not h = failed-answer tripleOf (only-not all passes (λ a k. sym (tested a k) ∙ untold t _ et h))
 
       pub triple-is : not t ≡ false → IsTriple x y z (m + n) ≡ tripleOf (only passes (p next (two b next two b)) s)
       triple-is h = triple-found (only-found all passes (λ a k. sym (tested a k) ∙ told t _ et h))
@@ -114,7 +114,7 @@ module _ (s : List ℕ) (t : Bool) (et : t ≡ isAt s 0 46) where
     pub secfrac-none : f ≡ Nothing → Nothing ≡ valueOf nanosOf (secfrac s)
     unfolding secfrac
     secfrac-none e =
-        value-failed nanosOf (first-failed 46 (into some (repeat 6 isDigit)) (always none) (told t _ et h) er (into-failed (value-none nanos (ef ∙ fraction-of 6 r) e) some))
+        failed-answer (valueOf nanosOf) (first-failed 46 (into some (repeat 6 isDigit)) (always none) (told t _ et h) er (into-failed (value-none nanos (ef ∙ fraction-of 6 r) e) some))
 
     module _ (v n : ℕ) (ev : f ≡ Value v n) where
       pub secfrac-is : Value v (n + 1) ≡ valueOf nanosOf (secfrac s)

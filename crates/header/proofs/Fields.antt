@@ -13,6 +13,7 @@ use borrow.Author.Tests.{not-true, not-false}
 use Rattle.base.specs.Choose.{isAt}
 use Rattle.base.specs.Runs.{run}
 use Rattle.base.proofs.Runs.{run-le}
+use Rattle.base.proofs.Tests.{told}
 use Rattle.grammar.specs.Abnf.{printUsAscii}
 use Rattle.grammar.specs.Parse.{_next_, repeat, printable, names}
 use Rattle.grammar.specs.Reading.{placeOf}
@@ -25,8 +26,8 @@ use Rattle.header.specs.declared.FieldAt.the-variants.{NoField, IsField}
 use Rattle.header.specs.declared.IdsAt.{IdsAt}
 use Rattle.header.specs.declared.IdsAt.the-variants.{NoIds, AreIds}
 use Rattle.header.specs.declared.NamesAt.the-variants.{NoNames, AreNames}
-use Rattle.header.proofs.Steps.{told, untold, past-there, sum-fits, Finds, finds-so, finds-within, finds-ok, next-within, closed-failed, closed-open, closed-found, next-failed, next-not, next-found}
-use Rattle.header.proofs.Answers.{field-failed, field-found, field-none, field-some, ids-failed, ids-found, ids-none, ids-some, names-failed, names-found}
+use Rattle.header.proofs.Steps.{untold, past-there, sum-fits, Finds, finds-so, finds-within, finds-ok, next-within, closed-failed, closed-open, closed-found, next-failed, next-not, next-found}
+use Rattle.header.proofs.Answers.{failed-answer, field-found, field-none, field-some, ids-found, ids-none, ids-some, names-found}
 
 -- ---- the place of a text
 
@@ -52,7 +53,7 @@ module _ (s : List ℕ) (at most n : ℕ) (en : n ≡ run printUsAscii s) where
 
   pub field-size : not (leb 1 n && leb n most) ≡ true → NoField ≡ fieldAt at (printable most s)
   unfolding repeat
-  field-size h = field-failed at (closed-failed {p = repeat most printUsAscii} (record { is = rw (← en, not-true (leb 1 n && leb n most) h) }) 32)
+  field-size h = failed-answer (fieldAt at) (closed-failed {p = repeat most printUsAscii} (record { is = rw (← en, not-true (leb 1 n && leb n most) h) }) 32)
 
   module _ (h : not (leb 1 n && leb n most) ≡ false) (t : Bool) (et : t ≡ isAt s n 32) where
     bytes : Finds (λ u. take n s ≡ u) n (repeat most printUsAscii) s
@@ -60,7 +61,7 @@ module _ (s : List ℕ) (at most n : ℕ) (en : n ≡ run printUsAscii s) where
     bytes = record { value = take n s; is = rw (← en, not-false (leb 1 n && leb n most) h); has = refl }
 
     pub field-open : not t ≡ true → NoField ≡ fieldAt at (printable most s)
-    field-open k = field-failed at (closed-open bytes 32 (untold t _ et k))
+    field-open k = failed-answer (fieldAt at) (closed-open bytes 32 (untold t _ et k))
 
     pub field-is : not t ≡ false → (x : Place) → x ≡ placeOf at (take n s) → IsField x (n + 1) ≡ fieldAt at (printable most s)
     field-is k x e = field-found at (finds-so (closed-found bytes 32 (told t _ et k)) (λ u q. sym (e ∙ ap (placeOf at) q)))
@@ -89,11 +90,11 @@ place-after s r at n h e k = let l : length r ≡ length s - n = ap length e ∙
 
 module _ (s : List ℕ) (at : ℕ) (f : FieldAt) (ef : f ≡ fieldAt at (printable 128 s)) where
   pub ids-no-first : f ≡ NoField → NoIds ≡ idsAt at ((printable 128 next printable 32) s)
-  ids-no-first e = ids-failed at (next-failed (field-none at ef e) (printable 32))
+  ids-no-first e = failed-answer (idsAt at) (next-failed (field-none at ef e) (printable 32))
 
   module _ (x : Place) (m : ℕ) (hf : f ≡ IsField x m) (r : List ℕ) (er : r ≡ drop m s) (g : FieldAt) (eg : g ≡ fieldAt (at + m) (printable 32 r)) where
     pub ids-no-second : g ≡ NoField → NoIds ≡ idsAt at ((printable 128 next printable 32) s)
-    ids-no-second e = ids-failed at (next-not (field-some at ef hf) er (field-none (at + m) eg e))
+    ids-no-second e = failed-answer (idsAt at) (next-not (field-some at ef hf) er (field-none (at + m) eg e))
 
     pub ids-are : (y : Place) (n : ℕ) → g ≡ IsField y n → AreIds x y (m + n) ≡ idsAt at ((printable 128 next printable 32) s)
     ids-are y n e =
@@ -110,12 +111,12 @@ module _ (s : List ℕ) (at : ℕ) (f : IdsAt) (ef : f ≡ idsAt at ((printable 
 module _ (s : List ℕ) (at : ℕ) (f : FieldAt) (ef : f ≡ fieldAt at (printable 255 s)) where
   pub names-no-host : f ≡ NoField → NoNames ≡ namesAt at (names s)
   unfolding names
-  names-no-host e = names-failed at (next-failed (field-none at ef e) _)
+  names-no-host e = failed-answer (namesAt at) (next-failed (field-none at ef e) _)
 
   module _ (x : Place) (a : ℕ) (hf : f ≡ IsField x a) (r₁ : List ℕ) (e₁ : r₁ ≡ drop a s) (g : FieldAt) (eg : g ≡ fieldAt (at + a) (printable 48 r₁)) where
     pub names-no-app : g ≡ NoField → NoNames ≡ namesAt at (names s)
     unfolding names
-    names-no-app e = names-failed at (next-not (field-some at ef hf) e₁ (next-failed (field-none (at + a) eg e) _))
+    names-no-app e = failed-answer (namesAt at) (next-not (field-some at ef hf) e₁ (next-failed (field-none (at + a) eg e) _))
 
     module _ (y : Place) (b : ℕ) (hg : g ≡ IsField y b) (r₂ : List ℕ) (e₂ : r₂ ≡ drop b r₁) where
       pub app-after : at + length s < 2 ^ 64 → Fits w64 (at + a + b)
@@ -129,7 +130,7 @@ module _ (s : List ℕ) (at : ℕ) (f : FieldAt) (ef : f ≡ fieldAt at (printab
       module _ (k : IdsAt) (ek : k ≡ idsAt (at + a + b) ((printable 128 next printable 32) r₂)) where
         pub names-no-ids : k ≡ NoIds → NoNames ≡ namesAt at (names s)
         unfolding names
-        names-no-ids e = names-failed at (next-not (field-some at ef hf) e₁ (next-not (field-some (at + a) eg hg) e₂ (ids-none (at + a + b) ek e)))
+        names-no-ids e = failed-answer (namesAt at) (next-not (field-some at ef hf) e₁ (next-not (field-some (at + a) eg hg) e₂ (ids-none (at + a + b) ek e)))
 
         pub names-are : (z v : Place) (c : ℕ) → k ≡ AreIds z v c → AreNames x y z v (a + (b + c)) ≡ namesAt at (names s)
         unfolding names

@@ -26,7 +26,7 @@ use Rattle.header.specs.declared.NamesAt.{NamesAt}
 use Rattle.header.specs.declared.NamesAt.the-variants.{NoNames, AreNames}
 use Rattle.header.specs.declared.Heading.the-variants.{NoHeader, IsHeader}
 use Rattle.header.proofs.Steps.{Fails, Finds, finds-so, finds-within, finds-ok, next-failed, next-not, next-found}
-use Rattle.header.proofs.Answers.{Two, pair-none, pair-some, stamp-none, stamp-some, names-none, names-some}
+use Rattle.header.proofs.Answers.{Pair, pair-none, pair-some, stamp-none, stamp-some, names-none, names-some}
 use Rattle.header.proofs.Fields.{place-after}
 
 -- ---- the texts' sizes
@@ -43,7 +43,7 @@ stamp-size none h = refl
 stamp-size (some t) h = text-length full-reads t (32 ∷ []) h
 
 module _ (s : List ℕ) (f : PairAt) (ef : f ≡ pairOf (priVersion s)) (x y n : ℕ) (hf : f ≡ IsPair x y n) where
-  start-text : Finds (λ (t : List ℕ × List ℕ). Two x y t × (length (t .0) + length (t .1) + 3 ≡ n)) n priVersion s
+  start-text : Finds (λ (t : List ℕ × List ℕ). Pair x y t × (length (t .0) + length (t .1) + 3 ≡ n)) n priVersion s
   start-text = finds-so (finds-ok (pair-some ef hf) start-reads) (λ t w. (w .0, sym (w .2 ∙ start-size (t .0) (t .1))))
 
   pub start-within : n ≤ length s

@@ -6,3 +6,4 @@ pub mod Offsets
 pub mod Stamps
 pub mod Fields
 pub mod Headers
+pub mod Callers

@@ -14,7 +14,7 @@ use mir.Val.{Fits}
 use borrow.Author.Tests.{le-leb, leb-true, ltb-false, eqb-false}
 use Rattle.base.specs.Choose.{if_then_else_, within, isAt}
 use Rattle.base.specs.Runs.{run}
-use Rattle.base.proofs.Tests.{both, by-test}
+use Rattle.base.proofs.Tests.{both, by-test, told}
 use Rattle.base.proofs.Ranges.{inside}
 use Rattle.base.proofs.Runs.{run-le}
 use Rattle.digits.specs.Digits.{isDigit, digitRun, decimalFrom, decimal, numberAt, fixedAt}
@@ -30,8 +30,8 @@ use Rattle.grammar.specs.Parse.Parsed.{failed, found}
 use Rattle.grammar.proofs.Header.{pri-reads, version-reads}
 use Rattle.header.specs.Pieces.{plainTo, valueOf, pairOf}
 use Rattle.header.specs.declared.PairAt.the-variants.{NoPair, IsPair}
-use Rattle.header.proofs.Steps.{told, untold, there, byte-laws, sum-fits, finds-within, next-failed, next-not, next-found, closed-failed, closed-open, closed-found, first-failed, first-found, other-failed, never-failed}
-use Rattle.header.proofs.Answers.{value-failed, value-found, value-none, value-some, pair-failed, pair-found}
+use Rattle.header.proofs.Steps.{untold, there, byte-laws, sum-fits, finds-within, next-failed, next-not, next-found, closed-failed, closed-open, closed-found, first-failed, first-found, other-failed, never-failed}
+use Rattle.header.proofs.Answers.{failed-answer, value-found, value-none, value-some, pair-found}
 
 -- ---- a number of at most three digits
 
@@ -103,23 +103,23 @@ pub ruleset number-laws = (number-none, number-led, number-plain)
 module _ (s : List ℕ) (t : Bool) (et : t ≡ isAt s 0 60) where
   pub pri-no : not t ≡ true → Nothing ≡ valueOf decimal (pri s)
   unfolding pri
-  pri-no h = value-failed decimal (other-failed 60 _ never (untold t _ et h) (never-failed s))
+  pri-no h = failed-answer (valueOf decimal) (other-failed 60 _ never (untold t _ et h) (never-failed s))
 
   module _ (h : not t ≡ false) (r : List ℕ) (er : r ≡ drop 1 s) (f : Number) (ef : f ≡ plain 191 r) where
     pub pri-none : f ≡ Nothing → Nothing ≡ valueOf decimal (pri s)
     unfolding pri
-    pri-none e = value-failed decimal (first-failed 60 _ never (told t _ et h) er (closed-failed (value-none decimal ef e) 62))
+    pri-none e = failed-answer (valueOf decimal) (first-failed 60 _ never (told t _ et h) er (closed-failed (value-none decimal ef e) 62))
 
     module _ (v n : ℕ) (ev : f ≡ Value v n) (u : Bool) (eu : u ≡ isAt r n 62) where
       pub pri-open : not u ≡ true → Nothing ≡ valueOf decimal (pri s)
       unfolding pri
-      pri-open k = value-failed decimal (first-failed 60 _ never (told t _ et h) er (closed-open (value-some decimal ef ev) 62 (untold u _ eu k)))
+      pri-open k = failed-answer (valueOf decimal) (first-failed 60 _ never (told t _ et h) er (closed-open (value-some decimal ef ev) 62 (untold u _ eu k)))
 
-      pub pri-is : not u ≡ false → Value v (n + 1 + 1) ≡ valueOf decimal (pri s)
+      pub pri-is : not u ≡ false → Value v (n + 2) ≡ valueOf decimal (pri s)
       unfolding pri
-      pri-is k = value-found decimal (first-found 60 _ never (told t _ et h) er (closed-found (value-some decimal ef ev) 62 (told u _ eu k)))
+      pri-is k = let q : n + 2 ≡ n + 1 + 1 = omega arith in rw q (value-found decimal (first-found 60 _ never (told t _ et h) er (closed-found (value-some decimal ef ev) 62 (told u _ eu k))))
 
-      pub pri-fits : not u ≡ false → length s < 2 ^ 64 → Fits w64 (n + 1 + 1)
+      pub pri-fits : not u ≡ false → length s < 2 ^ 64 → Fits w64 (n + 2)
       pri-fits k l =
           let m : length r ≡ length s - 1 = ap length er ∙ length-drop 1 s in
           record { fits = omega (arith, there r n 62 u eu k (omega arith)) }
@@ -135,7 +135,7 @@ module _ (s : List ℕ) (t : Bool) (et : t ≡ isAt s 0 48) where
   unfolding version only repeat
   version-zero h =
       let k = digitRun s in
-      value-failed decimal (closed-failed {p = only isVersion (repeat 3 isDigit)} (record {
+      failed-answer (valueOf decimal) (closed-failed {p = only isVersion (repeat 3 isDigit)} (record {
         is =
             by-test (λ b. onFound (if b then found (take k s) k else failed) (λ a n. if isVersion a then found a n else failed) ≡ failed)
             (within 1 3 k) (λ w. rw (first-digit k (leb-true 1 k (both (leb 1 k) (leb k 3) w .0)), ← et, h)) (λ w. refl);
@@ -161,12 +161,12 @@ module _ (s : List ℕ) (t : Bool) (et : t ≡ isAt s 0 48) where
 
       pub version-none : f ≡ Nothing → Nothing ≡ valueOf decimal (version s)
       unfolding version
-      version-none e = value-failed decimal (closed-failed (value-none decimal is-version e) 32)
+      version-none e = failed-answer (valueOf decimal) (closed-failed (value-none decimal is-version e) 32)
 
       module _ (v n : ℕ) (ev : f ≡ Value v n) (u : Bool) (eu : u ≡ isAt s n 32) where
         pub version-open : not u ≡ true → Nothing ≡ valueOf decimal (version s)
         unfolding version
-        version-open k = value-failed decimal (closed-open (value-some decimal is-version ev) 32 (untold u _ eu k))
+        version-open k = failed-answer (valueOf decimal) (closed-open (value-some decimal is-version ev) 32 (untold u _ eu k))
 
         pub version-is : not u ≡ false → Value v (n + 1) ≡ valueOf decimal (version s)
         unfolding version
@@ -186,12 +186,12 @@ module _ (s : List ℕ) (f : Number) (v n : ℕ) where
 module _ (s : List ℕ) (f : Number) (ef : f ≡ valueOf decimal (pri s)) where
   pub start-no-pri : f ≡ Nothing → NoPair ≡ pairOf (priVersion s)
   unfolding priVersion
-  start-no-pri e = pair-failed (next-failed (value-none decimal ef e) version)
+  start-no-pri e = failed-answer pairOf (next-failed (value-none decimal ef e) version)
 
   module _ (x m : ℕ) (hf : f ≡ Value x m) (r : List ℕ) (er : r ≡ drop m s) (g : Number) (eg : g ≡ valueOf decimal (version r)) where
     pub start-no-version : g ≡ Nothing → NoPair ≡ pairOf (priVersion s)
     unfolding priVersion
-    start-no-version e = pair-failed (next-not (value-some decimal ef hf) er (value-none decimal eg e))
+    start-no-version e = failed-answer pairOf (next-not (value-some decimal ef hf) er (value-none decimal eg e))
 
     pub start-is : (y n : ℕ) → g ≡ Value y n → IsPair x y (m + n) ≡ pairOf (priVersion s)
     unfolding priVersion
@@ -207,11 +207,11 @@ fixed-of k s = by-test (λ b. (if b then Value (decimal (take k s)) k else Nothi
 
 module _ (s : List ℕ) (b : ℕ) (t : Bool) (et : t ≡ isAt s 0 b) where
   pub two-no : not t ≡ true → Nothing ≡ valueOf decimal (two b s)
-  two-no h = value-failed decimal (other-failed b (fixed 2) never (untold t _ et h) (never-failed s))
+  two-no h = failed-answer (valueOf decimal) (other-failed b (fixed 2) never (untold t _ et h) (never-failed s))
 
   module _ (h : not t ≡ false) (r : List ℕ) (er : r ≡ drop 1 s) (f : Number) (ef : f ≡ fixedAt 2 r) where
     pub two-none : f ≡ Nothing → Nothing ≡ valueOf decimal (two b s)
-    two-none e = value-failed decimal (first-failed b (fixed 2) never (told t _ et h) er (value-none decimal (ef ∙ fixed-of 2 r) e))
+    two-none e = failed-answer (valueOf decimal) (first-failed b (fixed 2) never (told t _ et h) er (value-none decimal (ef ∙ fixed-of 2 r) e))
 
     module _ (v n : ℕ) (ev : f ≡ Value v n) where
       pub two-is : Value v (n + 1) ≡ valueOf decimal (two b s)

@@ -26,7 +26,7 @@ use Rattle.grammar.proofs.Header.{zone-reads}
 use Rattle.header.specs.Pieces.{valueOf, minutesOf, offsetAt}
 use Rattle.header.specs.declared.OffsetAt.the-variants.{NoOffset, IsOffset}
 use Rattle.header.proofs.Steps.{sum-fits, Fails, Finds, finds-so, finds-within, finds-ok, only-failed, only-not, only-found, into-failed, into-found, next-failed, next-not, next-found, first-failed, first-found, other-failed, other-found, never-failed}
-use Rattle.header.proofs.Answers.{Two, value-failed, value-found, value-none, value-some, offset-failed, offset-found}
+use Rattle.header.proofs.Answers.{failed-answer, Pair, value-found, value-none, value-some, offset-found}
 use Rattle.header.proofs.Numbers.{fixed-of}
 use Rattle.header.proofs.Dates.{two-within, fixed-within}
 
@@ -35,23 +35,23 @@ use Rattle.header.proofs.Dates.{two-within, fixed-within}
 module _ (s : List ℕ) (f : Number) (ef : f ≡ fixedAt 2 s) where
   pub zone-no-hour : f ≡ Nothing → Nothing ≡ valueOf minutesOf (zone s)
   unfolding zone
-  zone-no-hour e = value-failed minutesOf (only-failed (next-failed (value-none decimal (ef ∙ fixed-of 2 s) e) (two 58)) isZone)
+  zone-no-hour e = failed-answer (valueOf minutesOf) (only-failed (next-failed (value-none decimal (ef ∙ fixed-of 2 s) e) (two 58)) isZone)
 
   module _ (h m : ℕ) (ev : f ≡ Value h m) (r : List ℕ) (er : r ≡ drop m s) (g : Number) (eg : g ≡ valueOf decimal (two 58 r)) where
     pub zone-no-minute : g ≡ Nothing → Nothing ≡ valueOf minutesOf (zone s)
     unfolding zone
-    zone-no-minute e = value-failed minutesOf (only-failed (next-not (value-some decimal (ef ∙ fixed-of 2 s) ev) er (value-none decimal eg e)) isZone)
+    zone-no-minute e = failed-answer (valueOf minutesOf) (only-failed (next-not (value-some decimal (ef ∙ fixed-of 2 s) ev) er (value-none decimal eg e)) isZone)
 
     module _ (k n : ℕ) (eh : g ≡ Value k n) where
-      all : Finds (Two h k) (m + n) (fixed 2 next two 58) s
+      all : Finds (Pair h k) (m + n) (fixed 2 next two 58) s
       all = next-found (value-some decimal (ef ∙ fixed-of 2 s) ev) er (value-some decimal eg eh)
 
-      tested : (a : List ℕ × List ℕ) → Two h k a → (leb h 23 && leb k 59) ≡ isZone a
+      tested : (a : List ℕ × List ℕ) → Pair h k a → (leb h 23 && leb k 59) ≡ isZone a
       tested a w = rw (w .0, w .1)
 
       pub zone-not : not (leb h 23 && leb k 59) ≡ true → Nothing ≡ valueOf minutesOf (zone s)
       unfolding zone
-      zone-not t = value-failed minutesOf (only-not all isZone (λ a w. sym (tested a w) ∙ not-true _ t))
+      zone-not t = failed-answer (valueOf minutesOf) (only-not all isZone (λ a w. sym (tested a w) ∙ not-true _ t))
 
       pub zone-is : not (leb h 23 && leb k 59) ≡ false → Value (h * 60 + k) (m + n) ≡ valueOf minutesOf (zone s)
       unfolding zone
@@ -126,7 +126,7 @@ module _ (s : List ℕ) (z : Bool) (ez : z ≡ isAt s 0 90) where
     unfolding offset
     offset-no k =
         let u = neither e w k in
-        offset-failed
+        failed-answer offsetAt
         (other-failed 90 (always Offset.utc) _ (sym ez ∙ h)
         (other-failed 43 (into eastOf zone) _ (sym ee ∙ u .0) (other-failed 45 (into westOf zone) never (sym ew ∙ u .1) (never-failed s))))
 
@@ -135,7 +135,7 @@ module _ (s : List ℕ) (z : Bool) (ez : z ≡ isAt s 0 90) where
       unfolding offset
       offset-bad q =
           let x = value-none minutesOf ef q in
-          offset-failed
+          failed-answer offsetAt
           (other-failed 90 (always Offset.utc) _ (sym ez ∙ h)
           (by-test (λ _. Fails (choose 43 (into eastOf zone) (behind 45 (into westOf zone))) s) e
           (λ t. first-failed 43 (into eastOf zone) _ (sym ee ∙ t) er (into-failed x eastOf))

@@ -13,6 +13,7 @@ use mir.Val.{SFits, toZ, ofZ}
 use mir.ValLaws.{toZ-ofZ}
 use borrow.Author.Tests.{le-leb}
 use Rattle.base.specs.Choose.{isAt}
+use Rattle.base.proofs.Tests.{told}
 use Rattle.calendar.specs.Calendar.{valid, validDate, validTime}
 use Rattle.calendar.specs.Instant.{secondsOf}
 use Rattle.calendar.specs.declared.DateTime.{DateTime}
@@ -35,8 +36,8 @@ use Rattle.header.specs.declared.EndingAt.{EndingAt}
 use Rattle.header.specs.declared.EndingAt.the-variants.{NoEnding, IsEnding}
 use Rattle.header.specs.declared.StampAt.{StampAt}
 use Rattle.header.specs.declared.StampAt.the-variants.{NoStamp, IsStamp}
-use Rattle.header.proofs.Steps.{told, untold, byte-laws, sum-fits, sums-fit, Finds, finds-within, finds-ok, next-within, closed-failed, closed-open, closed-found, into-failed, into-found, next-failed, next-not, next-found, first-found, other-failed, other-found}
-use Rattle.header.proofs.Answers.{value-none, value-some, triple-none, triple-some, offset-none, offset-some, ending-failed, ending-found, ending-none, ending-some, stamp-failed, stamp-found, stamp-none, stamp-some}
+use Rattle.header.proofs.Steps.{untold, byte-laws, sum-fits, sums-fit, Finds, finds-within, finds-ok, next-within, closed-failed, closed-open, closed-found, into-failed, into-found, next-failed, next-not, next-found, first-found, other-failed, other-found}
+use Rattle.header.proofs.Answers.{failed-answer, value-none, value-some, triple-none, triple-some, offset-none, offset-some, ending-found, ending-none, ending-some, stamp-found, stamp-none, stamp-some}
 
 -- ---- the fraction and the offset
 
@@ -49,11 +50,11 @@ module _ (s : List ℕ) where
 
 module _ (s : List ℕ) (f : Number) (ef : f ≡ valueOf nanosOf (secfrac s)) where
   pub ending-no-fraction : f ≡ Nothing → NoEnding ≡ endingAt ((secfrac next offset) s)
-  ending-no-fraction e = ending-failed (next-failed (value-none nanosOf ef e) offset)
+  ending-no-fraction e = failed-answer endingAt (next-failed (value-none nanosOf ef e) offset)
 
   module _ (v m : ℕ) (hf : f ≡ Value v m) (r : List ℕ) (er : r ≡ drop m s) (o : OffsetAt) (eo : o ≡ offsetAt (offset r)) where
     pub ending-no-offset : o ≡ NoOffset → NoEnding ≡ endingAt ((secfrac next offset) s)
-    ending-no-offset e = ending-failed (next-not (value-some nanosOf ef hf) er (offset-none eo e))
+    ending-no-offset e = failed-answer endingAt (next-not (value-some nanosOf ef hf) er (offset-none eo e))
 
     pub ending-is : (z : ℤ) (n : ℕ) → o ≡ IsOffset z n → IsEnding v z (m + n) ≡ endingAt ((secfrac next offset) s)
     ending-is z n e = ending-found (next-found (value-some nanosOf ef hf) er (offset-some eo e))
@@ -89,12 +90,12 @@ four-digits t y r e =
 module _ (s : List ℕ) (a : TripleAt) (ea : a ≡ tripleOf (date s)) where
   pub full-no-date : a ≡ NoTriple → NoStamp ≡ stampAt (into some full s)
   unfolding full
-  full-no-date e = stamp-failed (into-failed (into-failed (next-failed (triple-none ea e) _) timestampOf) some)
+  full-no-date e = failed-answer stampAt (into-failed (into-failed (next-failed (triple-none ea e) _) timestampOf) some)
 
   module _ (y m d n : ℕ) (ha : a ≡ IsTriple y m d n) (r₁ : List ℕ) (e₁ : r₁ ≡ drop n s) (b : TripleAt) (eb : b ≡ tripleOf (clock r₁)) where
     pub full-no-clock : b ≡ NoTriple → NoStamp ≡ stampAt (into some full s)
     unfolding full
-    full-no-clock e = stamp-failed (into-failed (into-failed (next-not (triple-some ea ha) e₁ (next-failed (triple-none eb e) _)) timestampOf) some)
+    full-no-clock e = failed-answer stampAt (into-failed (into-failed (next-not (triple-some ea ha) e₁ (next-failed (triple-none eb e) _)) timestampOf) some)
 
     module _ (h i k l : ℕ) (hb : b ≡ IsTriple h i k l) where
       pub full-valid : valid (at y m d h i k) ≡ true
@@ -110,7 +111,7 @@ module _ (s : List ℕ) (a : TripleAt) (ea : a ≡ tripleOf (date s)) where
         pub full-no-ending : o ≡ NoEnding → NoStamp ≡ stampAt (into some full s)
         unfolding full
         full-no-ending e =
-            stamp-failed (into-failed (into-failed (next-not (triple-some ea ha) e₁ (next-not (triple-some eb hb) e₂ (ending-none eo e))) timestampOf) some)
+            failed-answer stampAt (into-failed (into-failed (next-not (triple-some ea ha) e₁ (next-not (triple-some eb hb) e₂ (ending-none eo e))) timestampOf) some)
 
         pub full-is : (v q : ℕ) (z : ℤ) → o ≡ IsEnding v z q → SFits w32 z → (x : Stamp) → x ≡ Stamped (record { seconds = secondsOf (at y m d h i k) (toZ w32 (ofZ w32 z)); nanos = v; offset = toZ w32 (ofZ w32 z) })
             → IsStamp x (n + (l + q)) ≡ stampAt (into some full s)
@@ -131,7 +132,7 @@ module _ (s : List ℕ) (t : Bool) (et : t ≡ isAt s 0 45) where
 
     pub nil-open : not u ≡ true → NoStamp ≡ stampAt (timestamp s)
     unfolding timestamp
-    nil-open k = stamp-failed (closed-open nil 32 (untold u _ eu k))
+    nil-open k = failed-answer stampAt (closed-open nil 32 (untold u _ eu k))
 
     pub nil-is : not u ≡ false → IsStamp Unstamped 2 ≡ stampAt (timestamp s)
     unfolding timestamp
@@ -140,7 +141,7 @@ module _ (s : List ℕ) (t : Bool) (et : t ≡ isAt s 0 45) where
   module _ (h : t ≡ false) (f : StampAt) (ef : f ≡ stampAt (into some full s)) where
     pub timestamp-none : f ≡ NoStamp → NoStamp ≡ stampAt (timestamp s)
     unfolding timestamp
-    timestamp-none e = stamp-failed (closed-failed (other-failed 45 (always none) (into some full) (sym et ∙ h) (stamp-none ef e)) 32)
+    timestamp-none e = failed-answer stampAt (closed-failed (other-failed 45 (always none) (into some full) (sym et ∙ h) (stamp-none ef e)) 32)
 
     module _ (x : Stamp) (n : ℕ) (ex : f ≡ IsStamp x n) (u : Bool) (eu : u ≡ isAt s n 32) where
       read : Finds (λ t. stampOf t ≡ x) n (choose 45 (always none) (into some full)) s
@@ -148,7 +149,7 @@ module _ (s : List ℕ) (t : Bool) (et : t ≡ isAt s 0 45) where
 
       pub timestamp-open : not u ≡ true → NoStamp ≡ stampAt (timestamp s)
       unfolding timestamp
-      timestamp-open k = stamp-failed (closed-open read 32 (untold u _ eu k))
+      timestamp-open k = failed-answer stampAt (closed-open read 32 (untold u _ eu k))
 
       pub timestamp-is : not u ≡ false → IsStamp x (n + 1) ≡ stampAt (timestamp s)
       unfolding timestamp

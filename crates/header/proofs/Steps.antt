@@ -7,17 +7,15 @@ use native.Mathlib.Omega.{arith}
 use lib.ListN.{length, drop, length-drop}
 use mir.Syntax.{w64}
 use mir.Val.{Fits}
-use borrow.Author.Tests.{not-true, not-false}
+use borrow.Author.Tests.{not-true}
 use Rattle.base.specs.Choose.{isAt}
+use Rattle.base.proofs.Tests.{told}
 use Rattle.base.proofs.Parts.{at-below}
 use Rattle.grammar.specs.Parse.{Reader, never, choose, closed, only, _next_, into}
 use Rattle.grammar.specs.Parse.Parsed.{failed, found}
 use Rattle.grammar.proofs.Readers.{Reads, found-within, through}
 
 -- ---- tests, as the code asks them
-
-pub told : (t x : Bool) → t ≡ x → not t ≡ false → x ≡ true
-told t x e q = sym e ∙ not-false t q
 
 pub untold : (t x : Bool) → t ≡ x → not t ≡ true → x ≡ false
 untold t x e q = sym e ∙ not-true t q

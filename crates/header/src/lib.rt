@@ -112,7 +112,7 @@ fn pri(s: &[u8]) -> Number
     }
     Number::Value {
         value,
-        len: len + 1 + 1,
+        len: len + 2,
     }
 }
 

@@ -33,9 +33,6 @@ returns-3 c = search (pri-laws, needs)
 add-t8 : tie.Need-add-t8
 add-t8 c = search (pri-laws, needs)
 
-add-t9 : tie.Need-add-t9
-add-t9 c = search (pri-laws, needs)
-
 returns-4 : tie.Need-returns-4
 returns-4 c = search (pri-laws, needs)
 
@@ -53,5 +50,4 @@ pri-spec =
     is-at-requires-2
     returns-3
     add-t8
-    add-t9
     returns-4)

@@ -1,0 +1,75 @@
+-- For callers: what an answer of `read_header` says of what the parser finds, and how large its numbers are.
+use Prim.Native.Nat.{ℕ, zero, suc, _+_, _*_, _^_, _≤_}
+use mathlib.Core.Path.{_≡_, refl, sym, ap, _∙_}
+use mathlib.Core.Bool.{true, false}
+use mathlib.Core.List.{List}
+use mathlib.Core.Option.{Option, none, some}
+use native.Mathlib.Nat.{pow-le-pow-right}
+use native.Mathlib.Omega.{arith}
+use lib.IntN.{pos, natAbs, negℤ}
+use lib.ListN.{length}
+use Rattle.base.proofs.Tests.{clash}
+use Rattle.digits.specs.Digits.{decimal}
+use Rattle.digits.proofs.Decimals.{decimal-lt}
+use Rattle.grammar.specs.Line.{Offset, Timestamp, OffsetOk, TimestampOk}
+use Rattle.grammar.specs.Parse.{header}
+use Rattle.grammar.specs.Reading.{offsetOf, stampOf}
+use Rattle.grammar.proofs.Header.{header-reads}
+use Rattle.record.specs.declared.Timestamp as instant
+use Rattle.record.specs.declared.Stamp.the-variants.{Stamped}
+use Rattle.header.specs.Header.{headerAt, heading}
+use Rattle.header.specs.declared.HeaderAt.{HeaderAt}
+use Rattle.header.specs.declared.Heading.{Heading}
+use Rattle.header.specs.declared.Heading.the-variants.{NoHeader, IsHeader}
+use Rattle.header.proofs.Steps.{Fails, Finds, finds-within, finds-ok}
+use Rattle.header.proofs.Answers.{none-found, some-found}
+
+abs-neg : (n : ℕ) → natAbs (negℤ (pos n)) ≡ n
+abs-neg zero = refl
+abs-neg (suc n) = refl
+
+module _ (s : List ℕ) (f : Heading) (e : f ≡ heading (header s)) where
+  pub header-none : f ≡ NoHeader → Fails header s
+  header-none h = none-found heading e (λ a n q. let z : true ≡ false = cc in clash z)
+
+  module _ (x : HeaderAt) (h : f ≡ IsHeader x) where
+    pub header-some : Finds (λ t. headerAt t (x .next) ≡ x) (x .next) header s
+    unfolding headerAt
+    header-some =
+        some-found heading e (λ q. let z : true ≡ false = cc in clash z)
+        (λ a k q. let g : x ≡ headerAt a k = cc in let l : x .next ≡ k = ap (λ (y : HeaderAt). y .next) g in (sym l, sym (g ∙ ap (headerAt a) (sym l))))
+
+    pub header-within : x .next ≤ length s
+    header-within = finds-within header-some header-reads
+
+    pub prival-to : x .prival ≤ 191
+    unfolding headerAt
+    prival-to =
+        let w = finds-ok header-some header-reads in
+        let q : decimal (w .value .0 .0) ≡ x .prival = ap (λ (y : HeaderAt). y .prival) (w .has .0) in
+        omega (arith, w .has .1 .0 .0 .range)
+
+    pub version-to : x .version ≤ 999
+    unfolding headerAt
+    version-to =
+        let w = finds-ok header-some header-reads in
+        let t = w .value .0 .1 in
+        let r = w .has .1 .0 .1 .digits in
+        let q : decimal t ≡ x .version = ap (λ (y : HeaderAt). y .version) (w .has .0) in
+        let l : 10 ^ length t ≤ 10 ^ 3 = pow-le-pow-right (omega arith) {i = length t} {j = 3} (r .at-most) in
+        omega (arith, decimal-lt t (r .all))
+
+    pub offset-to : (t : instant.Timestamp) → x .timestamp ≡ Stamped t → natAbs (t .offset) ≤ 1439
+    unfolding headerAt
+    offset-to t k =
+        let w = finds-ok header-some header-reads in
+        go (w .value .1 .0) (w .has .1 .1 .0) (ap (λ (y : HeaderAt). y .timestamp) (w .has .0) ∙ k)
+      where
+        small : (o : Offset) → OffsetOk o → natAbs (offsetOf o) ≤ 1439
+        small Offset.utc r = omega arith
+        small (Offset.east a b) r = omega (arith, r .hour-range, r .minute-range)
+        small (Offset.west a b) r = rw (abs-neg (decimal a * 60 + decimal b)) (omega (arith, r .hour-range, r .minute-range))
+
+        go : (o : Option Timestamp) → TimestampOk o → stampOf o ≡ Stamped t → natAbs (t .offset) ≤ 1439
+        go none r q = let z : true ≡ false = cc in clash z
+        go (some u) r q = let z : offsetOf (u .offset) ≡ t .offset = cc in rw (← z) (small (u .offset) (r .offset-ok))

@@ -1,0 +1,110 @@
+// The strict reader: RFC 5424 section 6, no trimming, into lent tables.
+use elements::Counts;
+use elements::Tail;
+use header::HeaderAt;
+use header::Heading;
+use record::Level;
+use record::Protocol;
+use record::Record;
+use record::Refusal;
+use record::Span;
+use record::StrictReading;
+use record::StrictRecord;
+ghost use mathlib.Core.Path.{_≡_};
+ghost use Prim.Native.Nat.{_≤_};
+ghost use Rattle.grammar.specs.Parse as parse;
+ghost use Rattle.grammar.specs.Reading.{StrictReads};
+ghost use Rattle.strict.specs.Scan.{recordWith, scanOf};
+
+// What a line holds before its rows are stored: the record, where the structured data stands and how many bytes it takes, and both counts.
+enum Scan {
+    NoScan,
+    IsScan(StrictRecord, usize, usize, usize, usize),
+}
+
+// The record of a header and a message.
+fn record_of(h: HeaderAt, message: Span, present: bool) -> StrictRecord
+    requires { ⌜ h .prival ≤ 191 ⌝ }
+    ensures { λ r. ⌜ r ≡ recordWith h message present ⌝ }
+{
+    let timestamp = h.timestamp;
+    let timestamp_text = h.timestamp_text;
+    let host = h.host;
+    let app = h.app;
+    let procid = h.procid;
+    let msgid = h.msgid;
+    let common = Record {
+        protocol: Protocol::Rfc5424(h.version),
+        facility: Level::Set((h.prival / 8) as u8),
+        severity: Level::Set((h.prival % 8) as u8),
+        timestamp,
+        host,
+        app,
+        procid,
+        msgid,
+        message,
+    };
+    StrictRecord {
+        common,
+        timestamp_text,
+        has_message: present,
+    }
+}
+
+// The first pass, which touches no table.
+fn scan_line(line: &[u8]) -> Scan
+    ensures { λ r. ⌜ r ≡ scanOf (parse.parse (now (line .entry))) ⌝ }
+{
+    let Heading::IsHeader(h) = header::read_header(line) else {
+        return Scan::NoScan;
+    };
+    let at = h.next;
+    let s = base::past(line, at);
+    let Counts::IsData {
+        len,
+        elements,
+        params,
+    } = elements::count_data(s)
+    else {
+        return Scan::NoScan;
+    };
+    let tail = elements::read_tail(base::past(s, len));
+    match tail {
+        Tail::NoTail => Scan::NoScan,
+        Tail::NoMessage => {
+            let r = record_of(h, Span { start: 0, len: 0 }, false);
+            Scan::IsScan(r, at, len, elements, params)
+        }
+        Tail::IsMessage(n) => {
+            let r = record_of(
+                h,
+                Span {
+                    start: at + len + 1,
+                    len: n,
+                },
+                true,
+            );
+            Scan::IsScan(r, at, len, elements, params)
+        }
+    }
+}
+
+// Reads a line strictly. On a refusal the tables keep their entries, and entries past the counts are kept always.
+pub fn read(line: &[u8], elements: &mut [[usize; 2]], params: &mut [[usize; 5]]) -> StrictReading
+    ensures { λ r. ⌜ StrictReads (now (line .entry)) (now (elements .entry)) (now (params .entry)) r (now (elements .exit)) (now (params .exit)) ⌝ }
+{
+    if 8192 < line.len() {
+        return StrictReading::Refused(Refusal::LineTooLong);
+    }
+    let Scan::IsScan(r, at, len, e, p) = scan_line(line) else {
+        return StrictReading::Refused(Refusal::NoReading);
+    };
+    if elements.len() < e {
+        return StrictReading::Refused(Refusal::TooManyElements);
+    }
+    if params.len() < p {
+        return StrictReading::Refused(Refusal::TooManyParams);
+    }
+    elements::fill_data(line, at, len, elements, params);
+    StrictReading::Read(r, e, p)
+}
