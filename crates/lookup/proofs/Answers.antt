@@ -3,7 +3,6 @@ use Prim.Native.Nat.{ℕ, _+_, _-_, _≤_, _<_}
 use mathlib.Core.Path.{_≡_, refl, sym, _∙_}
 use mathlib.Core.Bool.{Bool, true, false, not}
 use mathlib.Core.List.{List}
-use native.Mathlib.Omega.{arith}
 use lib.Dec.{eqb}
 use lib.ListN.{length, take, drop}
 use borrow.Author.Tests.{lt-ltb, le-ltb, not-true, not-false}
@@ -16,18 +15,30 @@ use Rattle.record.specs.declared.Refusal.the-variants.{LineTooLong, BadSetting,
 use Rattle.suits.specs.Suits.{tablesSuit, suits}
 use Rattle.suits.proofs.Suited.{tables-suited}
 use Rattle.lookup.specs.Unescape.{unescaped}
-use Rattle.lookup.specs.Lookup.{Looks}
-use Rattle.lookup.specs.Steps.{Finds, Gives}
+use Rattle.lookup.specs.Lookup.{Found, Looks}
+use Rattle.lookup.specs.Steps.{foundAt, Finds, Gives}
+use Rattle.lookup.proofs.Compared.{part-text}
 
 -- the value is known
 module _ (loose : Bool) (v out : List ℕ) (n : ℕ) (e : n ≡ length (unescaped loose v)) where
-  pub give-short : length out < n → Gives loose v out (Refused OutputShort) out
-  give-short h = record { answer = rw (← e, lt-ltb (length out) n h); output = refl }
+  pub value-short : length out < n → Gives loose (Found.value v) out (Refused OutputShort) out
+  value-short h = record { answer = rw (← e, lt-ltb (length out) n h); output = refl }
 
-  pub give-done : n ≤ length out → (after : List ℕ) → after ≡ filled (unescaped loose v) out → Gives loose v out (Done n) after
-  give-done h after q = record { answer = rw (← e, le-ltb (length out) n h); output = q }
+  pub value-done : n ≤ length out → (after : List ℕ) → after ≡ filled (unescaped loose v) out → Gives loose (Found.value v) out (Done n) after
+  value-done h after q = record { answer = rw (← e, le-ltb (length out) n h); output = q }
 
-pub ruleset give-laws = (give-short, give-done)
+pub ruleset value-laws = (value-short, value-done)
+
+-- its place is known
+module _ (loose : Bool) (line : List ℕ) (at : Place) (out : List ℕ) where
+  pub give-none : not (at .present) ≡ true → Gives loose (foundAt line at) out (Refused NotFound) out
+  give-none q = record { answer = rw (not-true (at .present) q); output = refl }
+
+  pub give-value : not (at .present) ≡ false → (w : Written) (after : List ℕ)
+      → Gives loose (Found.value (take (at .start + at .len - at .start) (drop (at .start) line))) out w after → Gives loose (foundAt line at) out w after
+  give-value q w after g = rw (not-false (at .present) q) (rw (part-text line (at .start) (at .len)) at g)
+
+pub ruleset give-laws = (give-none, give-value)
 
 -- the refusals, in order
 module _ (line : List ℕ) (r : Record) (e p : ℕ) (elements params : List (List ℕ)) (id name : List ℕ) (kind : ℕ) (out : List ℕ) where
@@ -46,22 +57,17 @@ module _ (line : List ℕ) (r : Record) (e p : ℕ) (elements params : List (Lis
         pub looks-tables : tablesSuit line e p elements params ≡ true
         looks-tables = tables-suited line r e p elements params (sym et ∙ not-false t h)
 
-        module _ (at : Place) (f : Finds line elements id name (take p params) at) where
-          pub looks-none : not (at .present) ≡ true → Looks line r e p elements params id name kind out (Refused NotFound) out
-          looks-none q =
-              record {
-                answer = rw (le-ltb 8192 (length line) hl, le-ltb 1 kind hk, ← et, h, f .is, not-true (at .present) q);
-                output = refl;
-              }
+        pub looks-given : (at : Place) → Finds line elements id name (take p params) at → (w : Written) (after : List ℕ)
+            → Gives (eqb kind 0) (foundAt line at) out w after → Looks line r e p elements params id name kind out w after
+        looks-given at f w after g =
+            record {
+              answer = rw (le-ltb 8192 (length line) hl, le-ltb 1 kind hk, ← et, h, f .is) (g .answer);
+              output = rw (f .is) (g .output);
+            }
 
-          pub looks-value : not (at .present) ≡ false → (w : Written) (after : List ℕ)
-              → Gives (eqb kind 0) (take (at .start + at .len - at .start) (drop (at .start) line)) out w after
-              → Looks line r e p elements params id name kind out w after
-          looks-value q w after g =
-              let n : at .start + at .len - at .start ≡ at .len = omega arith in
-              record {
-                answer = rw (le-ltb 8192 (length line) hl, le-ltb 1 kind hk, ← et, h, f .is, not-false (at .present) q) (rw n at (g .answer));
-                output = rw (f .is, not-false (at .present) q) (rw n at (g .output));
-              }
+pub ruleset looks-laws = (looks-long, looks-bad, looks-unsuitable, looks-tables, looks-given)
 
-pub ruleset looks-laws = (looks-long, looks-bad, looks-unsuitable, looks-tables, looks-none, looks-value)
+-- the contract leaves one answer and one output
+pub looks-one : {line : List ℕ} {r : Record} {e p : ℕ} {elements params : List (List ℕ)} {id name : List ℕ} {kind : ℕ} {out : List ℕ} {w w′ : Written} {after after′ : List ℕ}
+    → Looks line r e p elements params id name kind out w after → Looks line r e p elements params id name kind out w′ after′ → (w ≡ w′) × (after ≡ after′)
+looks-one a b = let q = a .answer ∙ sym (b .answer) in (q, a .output ∙ rw q (sym (b .output)))

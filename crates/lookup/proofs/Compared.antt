@@ -35,10 +35,14 @@ module _ (a b : List ℕ) (i : ℕ) (l : length a ≡ length b) (inv : sameText 
 
 pub ruleset same-laws = (same-lengths, same-end, same-off, same-on)
 
--- a place compared, through what `&line[start..end]` lends
+-- what `&line[start..end]` lends
+pub part-text : (line : List ℕ) (start len : ℕ) → take (start + len - start) (drop start line) ≡ textAt line start len
+part-text line start len = let n : start + len - start ≡ len = omega arith in rw n
+
+-- a place compared
 pub place-same : (line text : List ℕ) (start len : ℕ) (r : Bool) → r ≡ sameText (take (start + len - start) (drop start line)) text
     → r ≡ sameText (textAt line start len) text
-place-same line text start len r e = let n : start + len - start ≡ len = omega arith in rw n at e
+place-same line text start len r e = rw (part-text line start len) at e
 
 -- an id that was compared for the parameter before
 pub id-known : (k last : ℕ) (same x : Bool) → (k ≡ last → same ≡ x) → k ≡ last → same ≡ x

@@ -2,3 +2,4 @@ pub mod Compared
 pub mod Unescaping
 pub mod Finding
 pub mod Answers
+mod Examples

@@ -2,7 +2,7 @@
 use Prim.Native.Nat.{ℕ, _+_, _^_, _≤_, _<_}
 use mathlib.Core.Path.{_≡_, refl, sym, ap, _∙_}
 use mathlib.Core.Bool.{Bool, true, false, not, _&&_}
-use mathlib.Core.List.{List, [], _∷_, _++_}
+use mathlib.Core.List.{List, [], _∷_, _++_, append-nil}
 use native.Mathlib.Omega.{arith}
 use lib.Dec.{eqb}
 use lib.ListN.{length, getD, drop, length-append}
@@ -108,55 +108,53 @@ from-le loose taken (b ∷ v) =
 pub unescaped-le : (loose : Bool) (v : List ℕ) → length (unescaped loose v) ≤ length v
 unescaped-le loose v = omega (arith, from-le loose false v)
 
--- a backslash that is left at the end
-left-over : (loose taken : Bool) → unescapedFrom loose taken [] ≡ (if taken && not loose then 92 ∷ [] else [])
+-- what `tail` answers
+tail-is : (loose taken : Bool) → unescapedFrom loose taken [] ≡ (if taken && not loose then 92 ∷ [] else [])
 unfolding unescapedFrom
-left-over true true = refl
-left-over true false = refl
-left-over false true = refl
-left-over false false = refl
+tail-is true true = refl
+tail-is true false = refl
+tail-is false true = refl
+tail-is false false = refl
 
--- the walk: one turn, and the end
-module _ (v : List ℕ) (loose taken : Bool) (i : ℕ) where
-  turn-two : i < length v → (a : Added) → bytesOf a ≡ adds loose taken (getD v i 0)
-      → Two (bytesOf a) (unescapedFrom loose (not taken && eqb (getD v i 0) 92) (drop (i + 1) v)) (unescapedFrom loose taken (drop i v))
-  turn-two h a e = record { is = rw e (sym (ap (unescapedFrom loose taken) (step v i h) ∙ byte-adds loose taken (getD v i 0) (drop (i + 1) v))) }
+module _ (loose taken : Bool) where
+  pub tail-kept : (taken && not loose) ≡ true → 92 ∷ [] ≡ unescapedFrom loose taken []
+  tail-kept e = rw (tail-is loose taken, e)
 
-  module _ (h : length v ≤ i) where
-    end-kept : (taken && not loose) ≡ true → unescapedFrom loose taken (drop i v) ≡ 92 ∷ []
-    end-kept e = ap (unescapedFrom loose taken) (ended v i h) ∙ left-over loose taken ∙ rw e
+  pub tail-gone : (taken && not loose) ≡ false → [] ≡ unescapedFrom loose taken []
+  tail-gone e = rw (tail-is loose taken, e)
 
-    end-two : (taken && not loose) ≡ true → Two (92 ∷ []) [] (unescapedFrom loose taken (drop i v))
-    end-two e = record { is = sym (end-kept e) }
+pub ruleset tail-laws = (tail-kept, tail-gone)
 
-    end-gone : (taken && not loose) ≡ false → unescapedFrom loose taken (drop i v) ≡ []
-    end-gone e = ap (unescapedFrom loose taken) (ended v i h) ∙ left-over loose taken ∙ rw e
+-- the walk: what comes next, and the rest behind it
+module _ (v : List ℕ) (loose taken : Bool) (i : ℕ) (b : Added) where
+  next-two : i < length v → bytesOf b ≡ adds loose taken (getD v i 0)
+      → Two (bytesOf b) (unescapedFrom loose (not taken && eqb (getD v i 0) 92) (drop (i + 1) v)) (unescapedFrom loose taken (drop i v))
+  next-two h e = record { is = rw e (sym (ap (unescapedFrom loose taken) (step v i h) ∙ byte-adds loose taken (getD v i 0) (drop (i + 1) v))) }
 
--- the length: `n` so far
-module _ (v : List ℕ) (loose taken : Bool) (n i : ℕ) (inv : n + length (unescapedFrom loose taken (drop i v)) ≡ length (unescaped loose v)) where
-  module _ (h : i < length v) (a : Added) (ea : bytesOf a ≡ adds loose taken (getD v i 0)) (m : ℕ) (em : m ≡ length (bytesOf a)) where
+  tail-two : length v ≤ i → bytesOf b ≡ unescapedFrom loose taken [] → Two (bytesOf b) [] (unescapedFrom loose taken (drop i v))
+  tail-two h e = record { is = append-nil (bytesOf b) ∙ e ∙ sym (ap (unescapedFrom loose taken) (ended v i h)) }
+
+-- the length: `n` so far, and `m` for what comes next
+module _ (v : List ℕ) (loose taken : Bool) (n i : ℕ) (inv : n + length (unescapedFrom loose taken (drop i v)) ≡ length (unescaped loose v))
+    (b : Added) (m : ℕ) (em : m ≡ length (bytesOf b)) where
+  count : (y : List ℕ) → Two (bytesOf b) y (unescapedFrom loose taken (drop i v)) → n + m + length y ≡ length (unescaped loose v)
+  count y d = omega (arith, ap length (d .is), length-append (bytesOf b) y)
+
+  module _ (h : i < length v) (eb : bytesOf b ≡ adds loose taken (getD v i 0)) where
     pub len-more : n + m + length (unescapedFrom loose (not taken && eqb (getD v i 0) 92) (drop (i + 1) v)) ≡ length (unescaped loose v)
-    len-more =
-        omega (
-          arith,
-          ap length (turn-two v loose taken i h a ea .is),
-          length-append (bytesOf a) (unescapedFrom loose (not taken && eqb (getD v i 0) 92) (drop (i + 1) v)),
-        )
+    len-more = count _ (next-two v loose taken i b h eb)
 
     pub len-fits : length v < 2 ^ 64 → val.Fits w64 (n + m)
     len-fits l = record { fits = omega (arith, len-more, unescaped-le loose v) }
 
-  module _ (h : length v ≤ i) where
-    pub len-kept : (taken && not loose) ≡ true → n + 1 ≡ length (unescaped loose v)
-    len-kept e = omega (arith, ap length (end-kept v loose taken i h e))
+  module _ (h : length v ≤ i) (eb : bytesOf b ≡ unescapedFrom loose taken []) where
+    pub len-all : n + m ≡ length (unescaped loose v)
+    len-all = omega (arith, count [] (tail-two v loose taken i b h eb))
 
-    pub len-kept-fits : length v < 2 ^ 64 → (taken && not loose) ≡ true → val.Fits w64 (n + 1)
-    len-kept-fits l e = record { fits = omega (arith, len-kept e, unescaped-le loose v) }
+    pub len-all-fits : length v < 2 ^ 64 → val.Fits w64 (n + m)
+    len-all-fits l = record { fits = omega (arith, len-all, unescaped-le loose v) }
 
-    pub len-gone : (taken && not loose) ≡ false → n ≡ length (unescaped loose v)
-    len-gone e = omega (arith, ap length (end-gone v loose taken i h e))
-
-pub ruleset len-laws = (len-more, len-fits, len-kept, len-kept-fits, len-gone)
+pub ruleset len-laws = (len-more, len-fits, len-all, len-all-fits)
 
 -- a text that is due at the front of `o`: with `t` from `a` on, where it fits, `p` holds it
 pub record Due (o text p : List ℕ) (a : ℕ) (t : List ℕ) : Type 0 where
@@ -186,24 +184,20 @@ module _ (o text p : List ℕ) (a : ℕ) where
         }
 
 -- the writes: up to `a` so far
-module _ (v : List ℕ) (loose taken : Bool) (i : ℕ) (o p : List ℕ) (a : ℕ) (w : Due o (unescaped loose v) p a (unescapedFrom loose taken (drop i v))) where
-  module _ (h : i < length v) (b : Added) (eb : bytesOf b ≡ adds loose taken (getD v i 0)) where
+module _ (v : List ℕ) (loose taken : Bool) (i : ℕ) (o p : List ℕ) (a : ℕ) (w : Due o (unescaped loose v) p a (unescapedFrom loose taken (drop i v))) (b : Added) where
+  module _ (h : i < length v) (eb : bytesOf b ≡ adds loose taken (getD v i 0)) where
     pub put-fits : Fits p a (bytesOf b)
-    put-fits = due-fits o _ p a _ _ _ w (turn-two v loose taken i h b eb)
+    put-fits = due-fits o _ p a _ _ _ w (next-two v loose taken i b h eb)
 
     pub put-more : (n : ℕ) (q : List ℕ) → Wrote p a (bytesOf b) n q → (next : Bool) → next ≡ (not taken && eqb (getD v i 0) 92)
         → Due o (unescaped loose v) q n (unescapedFrom loose next (drop (i + 1) v))
-    put-more n q e next en = rw en (due-rest o _ p a _ _ _ w (turn-two v loose taken i h b eb) n q e)
+    put-more n q e next en = rw en (due-rest o _ p a _ _ _ w (next-two v loose taken i b h eb) n q e)
 
-  module _ (h : length v ≤ i) where
-    module _ (k : (taken && not loose) ≡ true) where
-      pub put-kept-fits : Fits p a (92 ∷ [])
-      put-kept-fits = due-fits o _ p a _ _ _ w (end-two v loose taken i h k)
+  module _ (h : length v ≤ i) (eb : bytesOf b ≡ unescapedFrom loose taken []) where
+    pub put-all-fits : Fits p a (bytesOf b)
+    put-all-fits = due-fits o _ p a _ _ _ w (tail-two v loose taken i b h eb)
 
-      pub put-kept : (n : ℕ) (q : List ℕ) → Wrote p a (92 ∷ []) n q → q ≡ filled (unescaped loose v) o
-      put-kept n q e = due-none o _ q n (due-rest o _ p a _ _ _ w (end-two v loose taken i h k) n q e)
+    pub put-all : (n : ℕ) (q : List ℕ) → Wrote p a (bytesOf b) n q → q ≡ filled (unescaped loose v) o
+    put-all n q e = due-none o _ q n (due-rest o _ p a _ _ _ w (tail-two v loose taken i b h eb) n q e)
 
-    pub put-gone : (taken && not loose) ≡ false → p ≡ filled (unescaped loose v) o
-    put-gone k = due-none o _ p a (rw (end-gone v loose taken i h k) at w)
-
-pub ruleset put-laws = (due-all, put-fits, put-more, put-kept-fits, put-kept, put-gone)
+pub ruleset put-laws = (due-all, put-fits, put-more, put-all-fits, put-all)

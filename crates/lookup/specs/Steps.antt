@@ -1,4 +1,4 @@
--- What the contracts of the functions below `lookup` say: one byte of a value, a place that is found, a value that is given.
+-- What the contracts of the functions below `lookup` say: one byte of a value, a place that is found, what is given.
 use Prim.Native.Nat.{ℕ, _+_, _≤_}
 use mathlib.Core.Path.{_≡_}
 use mathlib.Core.List.{List, [], _∷_}
@@ -12,8 +12,8 @@ use Rattle.record.specs.declared.Written.{Written}
 use Rattle.output.specs.Output.{outputAfter}
 use Rattle.lookup.specs.declared.Added.{Added}
 use Rattle.lookup.specs.declared.Added.the-variants.{Nothing, One, Pair}
-use Rattle.lookup.specs.Unescape.{pairOf, unescaped}
-use Rattle.lookup.specs.Lookup.{Found, found, valueAnswer}
+use Rattle.lookup.specs.Unescape.{pairOf}
+use Rattle.lookup.specs.Lookup.{Found, found, valueAnswer, valueText}
 
 -- the bytes that a byte of a value adds, where a backslash before it takes it or not
 abbrev pub adds : Bool → Bool → ℕ → List ℕ
@@ -34,7 +34,7 @@ pub record Finds (line : List ℕ) (elements : List (List ℕ)) (id name : List 
   pub is : found line elements id name rows ≡ foundAt line p
   pub within : p .start + p .len ≤ length line
 
--- the answer and the output once the value is known
-pub record Gives (loose : Bool) (v before : List ℕ) (w : Written) (after : List ℕ) : Type 0 where
-  pub answer : w ≡ valueAnswer loose (Found.value v) (length before)
-  pub output : after ≡ outputAfter w (unescaped loose v) before
+-- the answer and the output, from what is found
+pub record Gives (loose : Bool) (f : Found) (before : List ℕ) (w : Written) (after : List ℕ) : Type 0 where
+  pub answer : w ≡ valueAnswer loose f (length before)
+  pub output : after ≡ outputAfter w (valueText loose f) before

@@ -13,9 +13,9 @@ ghost use Rattle.base.specs.Texts.{textAt, sameText};
 ghost use Rattle.output.specs.Fits.{Fits};
 ghost use Rattle.output.specs.Output.{Wrote};
 ghost use Rattle.suits.specs.Suits.{tablesSuit};
-ghost use Rattle.lookup.specs.Unescape.{unescaped};
-ghost use Rattle.lookup.specs.Lookup.{idText, Looks};
-ghost use Rattle.lookup.specs.Steps.{adds, bytesOf, Finds, Gives};
+ghost use Rattle.lookup.specs.Unescape.{unescapedFrom, unescaped};
+ghost use Rattle.lookup.specs.Lookup.{Found, idText, Looks};
+ghost use Rattle.lookup.specs.Steps.{adds, bytesOf, foundAt, Finds, Gives};
 
 fn same_text(a: &[u8], b: &[u8]) -> bool
     ensures { λ r. ⌜ r ≡ sameText (now (a .entry)) (now (b .entry)) ⌝ }
@@ -33,7 +33,7 @@ fn same_text(a: &[u8], b: &[u8]) -> bool
     true
 }
 
-// Is the place's text the text?
+// Has the place that text?
 fn text_is(line: &[u8], start: usize, len: usize, text: &[u8]) -> bool
     requires { ⌜ start + len ≤ length (now line) ⌝ }
     ensures { λ r. ⌜ r ≡ sameText (textAt (now (line .entry)) start len) (now (text .entry)) ⌝ }
@@ -122,6 +122,16 @@ fn turn(loose: bool, taken: bool, b: u8) -> Added
     Added::Pair(b)
 }
 
+// What the value's end adds: a lone last backslash stays in the strict kind.
+fn tail(loose: bool, taken: bool) -> Added
+    ensures { λ r. ⌜ bytesOf r ≡ unescapedFrom loose taken [] ⌝ }
+{
+    if taken & !loose {
+        return Added::One(b'\\');
+    }
+    Added::Nothing
+}
+
 fn added_len(added: Added) -> usize
     ensures { λ r. ⌜ r ≡ length (bytesOf added) ⌝ }
 {
@@ -159,10 +169,7 @@ fn unescaped_len(v: &[u8], loose: bool) -> usize
         taken = !taken & (b == b'\\');
         i += 1;
     }
-    if taken & !loose {
-        return n + 1;
-    }
-    n
+    n + added_len(tail(loose, taken))
 }
 
 // The value unescaped, at the front of the output.
@@ -179,14 +186,12 @@ fn put_unescaped(out: &mut [u8], v: &[u8], loose: bool)
         taken = !taken & (b == b'\\');
         i += 1;
     }
-    if taken & !loose {
-        output::put(out, at, b'\\');
-    }
+    put_added(out, at, tail(loose, taken));
 }
 
 // Refusal 8, or the value unescaped.
-fn give(v: &[u8], loose: bool, out: &mut [u8]) -> Written
-    ensures { λ w. ⌜ Gives loose (now (v .entry)) (now (out .entry)) w (now (out .exit)) ⌝ }
+fn put_value(v: &[u8], loose: bool, out: &mut [u8]) -> Written
+    ensures { λ w. ⌜ Gives loose (Found.value (now (v .entry))) (now (out .entry)) w (now (out .exit)) ⌝ }
 {
     let n = unescaped_len(v, loose);
     if out.len() < n {
@@ -194,6 +199,19 @@ fn give(v: &[u8], loose: bool, out: &mut [u8]) -> Written
     }
     put_unescaped(out, v, loose);
     Written::Done(n)
+}
+
+// Refusal 9 where the value is absent.
+fn give(line: &[u8], value: Place, loose: bool, out: &mut [u8]) -> Written
+    requires { ⌜ value .start + value .len ≤ length (now line) ⌝ }
+    ensures { λ w. ⌜ Gives loose (foundAt (now (line .entry)) value) (now (out .entry)) w (now (out .exit)) ⌝ }
+{
+    if !value.present {
+        return Written::Refused(Refusal::NotFound);
+    }
+    let start = value.start;
+    let end = start + value.len;
+    put_value(&line[start..end], loose, out)
 }
 
 pub fn lookup(
@@ -220,10 +238,5 @@ pub fn lookup(
         return Written::Refused(Refusal::Unsuitable);
     }
     let value = find(line, element_count, param_count, elements, params, id, name);
-    if !value.present {
-        return Written::Refused(Refusal::NotFound);
-    }
-    let start = value.start;
-    let end = start + value.len;
-    give(&line[start..end], kind == 0, out)
+    give(line, value, kind == 0, out)
 }

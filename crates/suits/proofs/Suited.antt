@@ -41,7 +41,7 @@ stamp-in t h =
     at n o Outside e i = clash (sym i)
     at n o (At d) e i = record { nanos-in = n; offset-in = o; clock = d; shows = e }
 
--- the places of a record
+-- a record's fields
 pub record RecordIn (line : List ℕ) (r : Record) : Type 0 where
   pub facility-in : levelSuits 23 (r .facility) ≡ true
   pub severity-in : levelSuits 7 (r .severity) ≡ true

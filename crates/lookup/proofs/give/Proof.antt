@@ -3,14 +3,23 @@ use Rattle.lookup.proofs.Answers.{give-laws}
 use Rattle.lookup.proofs.give.Statement.{statement}
 use Rattle.lookup.proofs.give.Tie as tie
 
-unescaped-len-requires : tie.Need-unescaped-len-requires
-unescaped-len-requires c κs = search needs
-
 returns : tie.Need-returns
 returns c = search (give-laws, needs)
 
-put-unescaped-requires : tie.Need-put-unescaped-requires
-put-unescaped-requires c κs = search needs
+add-end : tie.Need-add-end
+add-end c = search needs
+
+sub-put-value : tie.Need-sub-put-value
+sub-put-value c = search needs
+
+part-put-value-start : tie.Need-part-put-value-start
+part-put-value-start c = search needs
+
+part-put-value-end : tie.Need-part-put-value-end
+part-put-value-end c = search needs
+
+put-value-requires : tie.Need-put-value-requires
+put-value-requires c κs = search needs
 
 same-length : tie.Need-same-length
 same-length c = search needs
@@ -21,4 +30,12 @@ returns-2 c = search (give-laws, needs)
 pub give-spec : {M : Type 1} → statement M
 give-spec =
     tie.close
-    (tie.spec unescaped-len-requires returns put-unescaped-requires same-length returns-2)
+    (tie.spec
+    returns
+    add-end
+    sub-put-value
+    part-put-value-start
+    part-put-value-end
+    put-value-requires
+    same-length
+    returns-2)

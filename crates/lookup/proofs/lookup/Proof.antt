@@ -18,29 +18,14 @@ returns-3 c = search (looks-laws, needs)
 find-requires : tie.Need-find-requires
 find-requires c κs = search (looks-laws, needs)
 
-returns-4 : tie.Need-returns-4
-returns-4 c = search (looks-laws, needs)
-
-add-end : tie.Need-add-end
-add-end c = search needs
-
-sub-give : tie.Need-sub-give
-sub-give c = search needs
-
-part-give-start : tie.Need-part-give-start
-part-give-start c = search needs
-
-part-give-end : tie.Need-part-give-end
-part-give-end c = search needs
-
 give-requires : tie.Need-give-requires
 give-requires c κs = search needs
 
 same-length : tie.Need-same-length
 same-length c = search needs
 
-returns-5 : tie.Need-returns-5
-returns-5 c = search (looks-laws, needs)
+returns-4 : tie.Need-returns-4
+returns-4 c = search (looks-laws, needs)
 
 pub lookup-spec : {M : Type 1} → statement M
 lookup-spec =
@@ -51,11 +36,6 @@ lookup-spec =
     is-suitable-requires
     returns-3
     find-requires
-    returns-4
-    add-end
-    sub-give
-    part-give-start
-    part-give-end
     give-requires
     same-length
-    returns-5)
+    returns-4)

@@ -33,20 +33,17 @@ loop-less c = search (put-laws, needs)
 loop-again : tie.Need-loop-again Inv-loop μ-loop
 loop-again c = search (put-laws, needs)
 
-put-requires : tie.Need-put-requires Inv-loop μ-loop
-put-requires c κs = search (put-laws, needs)
+tail-requires : tie.Need-tail-requires Inv-loop μ-loop
+tail-requires c κs = search (put-laws, needs)
+
+put-added-requires-2 : tie.Need-put-added-requires-2 Inv-loop μ-loop
+put-added-requires-2 c κs = search (put-laws, needs)
 
 same-length : tie.Need-same-length Inv-loop μ-loop
 same-length c = search (put-laws, needs)
 
 returns : tie.Need-returns Inv-loop μ-loop
 returns c = search (put-laws, needs)
-
-same-length-2 : tie.Need-same-length-2 Inv-loop μ-loop
-same-length-2 c = search (put-laws, needs)
-
-returns-2 : tie.Need-returns-2 Inv-loop μ-loop
-returns-2 c = search (put-laws, needs)
 
 pub put-unescaped-spec : {M : Type 1} → statement M
 put-unescaped-spec =
@@ -61,8 +58,7 @@ put-unescaped-spec =
     add-i
     loop-less
     loop-again
-    put-requires
+    tail-requires
+    put-added-requires-2
     same-length
-    returns
-    same-length-2
-    returns-2)
+    returns)

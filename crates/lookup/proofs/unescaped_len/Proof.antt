@@ -37,14 +37,17 @@ loop-less c = search (len-laws, needs)
 loop-again : tie.Need-loop-again Inv-loop μ-loop
 loop-again c = search (len-laws, needs)
 
+tail-requires : tie.Need-tail-requires Inv-loop μ-loop
+tail-requires c κs = search (len-laws, needs)
+
+added-len-requires-2 : tie.Need-added-len-requires-2 Inv-loop μ-loop
+added-len-requires-2 c κs = search (len-laws, needs)
+
 add-result : tie.Need-add-result Inv-loop μ-loop
 add-result c = search (len-laws, needs)
 
 returns : tie.Need-returns Inv-loop μ-loop
 returns c = search (len-laws, needs)
-
-returns-2 : tie.Need-returns-2 Inv-loop μ-loop
-returns-2 c = search (len-laws, needs)
 
 pub unescaped-len-spec : {M : Type 1} → statement M
 unescaped-len-spec =
@@ -60,6 +63,7 @@ unescaped-len-spec =
     add-i
     loop-less
     loop-again
+    tail-requires
+    added-len-requires-2
     add-result
-    returns
-    returns-2)
+    returns)

@@ -1,0 +1,3 @@
+pub mod Names
+pub mod Rfc3164
+pub mod Steps

@@ -1,0 +1,79 @@
+-- rfc3164.rs: priority, blanks, timestamp, optional one space and host, optional one space and tag, blanks, optional `:`, blanks, optional
+-- structured data, blanks, message. The text ends where the trimmed line ends; `start` is where that starts.
+use Prim.Native.Nat.{ℕ, _+_, _-_}
+use mathlib.Core.List.{List}
+use lib.ListN.{length, drop}
+use lib.IntN.{ℤ}
+use Rattle.record.specs.Places.{absent}
+use Rattle.record.specs.declared.Stamp.{Stamp}
+use Rattle.record.specs.declared.Protocol.the-variants.{Rfc3164}
+use Rattle.pri.specs.Pri.{priAt}
+use Rattle.pri.specs.declared.Pri.{Pri}
+use Rattle.parsers.specs.Steps.{blanksFrom, byteFrom, hostFrom, tagFrom, onPos}
+use Rattle.parsers.specs.declared.Field.{Field}
+use Rattle.parsers.specs.declared.Field.the-variants.{NoField, IsField}
+use Rattle.timestamp.specs.Timestamp.{colonFrom, rfc3164From}
+use Rattle.timestamp.specs.declared.Stamping.{Stamping}
+use Rattle.timestamp.specs.declared.Stamping.the-variants.{NoStamp, IsStamp}
+use Rattle.structured_data.specs.Data.{Rows, Data, endAt, dataFrom}
+use Rattle.structured_data.specs.Data.Data.{noData, isData}
+use Rattle.structured_data.specs.Outcome.{Outcome}
+use Rattle.structured_data.specs.Outcome.Outcome.{noReading, isReading}
+use Rattle.structured_data.specs.declared.Rules.the-variants.{Rfc3164Rules}
+use Rattle.rfc3164.specs.Names.{hostAndTag}
+
+-- one space and a field
+unfoldable pub spacedHost : List ℕ → ℕ → Field
+spacedHost s at = onPos (byteFrom s at 32) NoField (λ a. hostFrom s a)
+
+unfoldable pub spacedTag : List ℕ → ℕ → Field
+spacedTag s at = onPos (byteFrom s at 32) NoField (λ a. tagFrom s a)
+
+-- where reading goes on: behind the field, or where it was
+abbrev pub behindField : ℕ → Field → ℕ
+behindField at NoField = at
+behindField at (IsField p n) = n
+
+-- optional structured data: the rows, none where there is none
+abbrev pub rowsOr : ℕ → Data → Rows
+rowsOr at noData = endAt at
+rowsOr at (isData rows) = rows
+
+-- host, tag, and the position of the structured data
+unfoldable pub tagEnd : List ℕ → ℕ → ℕ
+tagEnd s at = blanksFrom s (colonFrom s (blanksFrom s at))
+
+-- behind the timestamp
+unfoldable pub bodyFrom : Pri → Stamp → List ℕ → ℕ → Outcome
+bodyFrom pri stamp s at =
+    let host = spacedHost s at in
+    let a = behindField at host in
+    let tag = spacedTag s a in
+    let b = tagEnd s (behindField a tag) in
+    let rows = rowsOr b (dataFrom Rfc3164Rules s b) in
+    let message = blanksFrom s (rows .next) in
+    let names = hostAndTag s host tag in
+    isReading
+    (record {
+      protocol = Rfc3164;
+      facility = pri .facility;
+      severity = pri .severity;
+      timestamp = stamp;
+      host = names .host;
+      app = names .app;
+      procid = names .procid;
+      msgid = absent;
+      message = record { start = message; len = length s - message };
+    })
+    b
+    rows
+
+abbrev pub onStamping : {R : Type 0} → Stamping → R → (Stamp → ℕ → R) → R
+onStamping NoStamp r k = r
+onStamping (IsStamp t n) r k = k t n
+
+unfoldable pub rfc3164 : ℕ → ℤ → List ℕ → ℕ → Outcome
+rfc3164 year offset s start =
+    let pri = priAt (drop start s) in
+    onStamping (rfc3164From year offset s (blanksFrom s (start + pri .next))) noReading λ stamp a.
+    bodyFrom pri stamp s a

@@ -1,0 +1,4 @@
+pub mod Ends
+pub mod Headers
+pub mod Lines
+pub mod Examples

@@ -1,0 +1,13 @@
+pub mod Loops
+pub mod Values
+pub mod Params
+pub mod Ids
+pub mod Walks
+pub mod Elements
+pub mod Items
+pub mod Lists
+pub mod Counting
+pub mod Entries
+pub mod Tables
+pub mod Filling
+pub mod Examples

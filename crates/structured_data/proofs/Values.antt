@@ -1,0 +1,55 @@
+-- The value of a parameter, up to the quote that ends it.
+use Prim.Native.Nat.{ℕ, suc, _+_, _≤_, _<_}
+use mathlib.Core.Path.{_≡_, refl, sym, ap, _∙_}
+use mathlib.Core.Bool.{Bool, true, false, not, _&&_}
+use mathlib.Core.List.{List, [], _∷_}
+use native.Mathlib.Omega.{arith}
+use lib.Dec.{eqb}
+use lib.ListN.{length, getD, drop}
+use Rattle.base.specs.Choose.{if_then_else_}
+use Rattle.base.proofs.Tests.{by-test, clash}
+use Rattle.base.proofs.Parts.{step, ended}
+use Rattle.structured_data.specs.Param.{quotedLen}
+
+-- The value
+pub quoted-le : (taken : Bool) (s : List ℕ) → quotedLen taken s ≤ length s
+unfolding quotedLen
+quoted-le taken [] = omega arith
+quoted-le true (b ∷ s) = let l = quoted-le false s in omega arith
+quoted-le false (b ∷ s) =
+    let l = quoted-le (eqb b 92) s in
+    by-test (λ t. (if t then 0 else suc (quotedLen (eqb b 92) s)) ≤ suc (length s)) (eqb b 34) (λ e. omega arith) (λ e. omega arith)
+
+quoted-none : (taken : Bool) → quotedLen taken [] ≡ 0
+unfolding quotedLen
+quoted-none taken = refl
+
+quoted-ends : (taken : Bool) (b : ℕ) (s : List ℕ) → (not taken && eqb b 34) ≡ true → quotedLen taken (b ∷ s) ≡ 0
+unfolding quotedLen
+quoted-ends true b s h = clash (sym h)
+quoted-ends false b s h = rw h
+
+quoted-more : (taken : Bool) (b : ℕ) (s : List ℕ) → (not taken && eqb b 34) ≡ false
+    → quotedLen taken (b ∷ s) ≡ suc (quotedLen (not taken && eqb b 92) s)
+unfolding quotedLen
+quoted-more true b s h = refl
+quoted-more false b s h = rw h
+
+module _ (s : List ℕ) (i : ℕ) (taken : Bool) (inv : quotedLen false s ≡ i + quotedLen taken (drop i s)) where
+  pub quoted-out : length s ≤ i → i ≡ quotedLen false s
+  quoted-out h = let z : quotedLen taken (drop i s) ≡ 0 = ap (quotedLen taken) (ended s i h) ∙ quoted-none taken in omega arith
+
+  module _ (h : i < length s) where
+    pub quoted-off : (not taken && eqb (getD s i 0) 34) ≡ true → i ≡ quotedLen false s
+    quoted-off q =
+        let z : quotedLen taken (drop i s) ≡ 0 = ap (quotedLen taken) (step s i h) ∙ quoted-ends taken _ _ q in
+        omega arith
+
+    pub quoted-on : (not taken && eqb (getD s i 0) 34) ≡ false
+        → quotedLen false s ≡ i + 1 + quotedLen (not taken && eqb (getD s i 0) 92) (drop (i + 1) s)
+    quoted-on q =
+        let z : quotedLen taken (drop i s) ≡ suc (quotedLen (not taken && eqb (getD s i 0) 92) (drop (i + 1) s)) =
+        ap (quotedLen taken) (step s i h) ∙ quoted-more taken _ _ q in
+        omega arith
+
+pub ruleset quoted-laws = (quoted-out, quoted-off, quoted-on)

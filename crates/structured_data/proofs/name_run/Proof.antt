@@ -1,0 +1,52 @@
+use borrow.Author.Needs.{needs}
+use Prim.Native.Nat.{_-_}
+use lib.ListN.{length}
+use Rattle.structured_data.specs.Param.{isNamed}
+use Rattle.structured_data.proofs.Loops.{Runs, runs-laws}
+use Rattle.structured_data.proofs.name_run.Statement.{statement}
+use Rattle.structured_data.proofs.name_run.Tie as tie
+
+abbrev Inv-loop : tie.InvT-loop
+Inv-loop s i₀ i = Runs isNamed s i
+
+abbrev μ-loop : tie.MeasureT-loop
+μ-loop s i₀ i = length s - i
+
+loop-holds : tie.Need-loop-holds Inv-loop μ-loop
+loop-holds c = search (runs-laws, needs)
+
+shared-slice-read-is-named : tie.Need-shared-slice-read-is-named Inv-loop μ-loop
+shared-slice-read-is-named c = search (runs-laws, needs)
+
+is-named-requires : tie.Need-is-named-requires Inv-loop μ-loop
+is-named-requires c κs = search (runs-laws, needs)
+
+returns : tie.Need-returns Inv-loop μ-loop
+returns c = search (runs-laws, needs)
+
+add-i : tie.Need-add-i Inv-loop μ-loop
+add-i c = search (runs-laws, needs)
+
+loop-less : tie.Need-loop-less Inv-loop μ-loop
+loop-less c = search (runs-laws, needs)
+
+loop-again : tie.Need-loop-again Inv-loop μ-loop
+loop-again c = search (runs-laws, needs)
+
+returns-2 : tie.Need-returns-2 Inv-loop μ-loop
+returns-2 c = search (runs-laws, needs)
+
+pub name-run-spec : {M : Type 1} → statement M
+name-run-spec =
+    tie.close
+    (tie.spec
+    Inv-loop
+    μ-loop
+    loop-holds
+    shared-slice-read-is-named
+    is-named-requires
+    returns
+    add-i
+    loop-less
+    loop-again
+    returns-2)

@@ -1,0 +1,5 @@
+pub mod Param
+pub mod Element
+pub mod Data
+pub mod Outcome
+pub mod Steps

@@ -1,0 +1,438 @@
+// structured_data.rs: elements and their parameters, counted first and then stored into lent tables.
+use parsers::Pos;
+use record::Record;
+ghost use mathlib.Core.Path.{_≡_};
+ghost use mathlib.Core.Bool.{false};
+ghost use Prim.Native.Nat.{_≤_};
+ghost use lib.Dec.{eqb};
+ghost use lib.ListN.{length, drop};
+ghost use Rattle.base.specs.Choose.{if_then_else_};
+ghost use Rattle.base.specs.Runs.{run};
+ghost use Rattle.structured_data.specs.Param.{isNamed, quotedLen, paramAt};
+ghost use Rattle.structured_data.specs.Element.{idLen};
+ghost use Rattle.structured_data.specs.Element.Element.{noElement};
+ghost use Rattle.structured_data.specs.Data.{itemOf, dataFrom};
+ghost use Rattle.structured_data.specs.Outcome.{countsOf, Room, Fills};
+ghost use Rattle.structured_data.specs.declared.Counts.the-variants.{NoData, IsData};
+ghost use Rattle.structured_data.specs.Steps.{valueEnd, walkFrom, openFrom, endsList, isInside, turnOf, Closes, Turns, entryOf, Holds, Stores};
+
+// Which lines the rules are of: they differ in what follows an element that fails or has no parameters.
+pub enum Rules {
+    Rfc3164Rules,
+    Rfc5424Rules,
+}
+
+// A parameter at the front of a part: the length of its name, the start and the length of its value, and the length of all.
+pub enum Param {
+    NoParam,
+    IsParam {
+        name: usize,
+        value: usize,
+        value_len: usize,
+        len: usize,
+    },
+}
+
+// The parameters of an element: their count, and the position behind them.
+struct Walk {
+    count: usize,
+    next: usize,
+}
+
+// A parameter's row, and the position behind it: where it would have started, if there is none.
+struct Entry {
+    row: [usize; 5],
+    next: usize,
+}
+
+// The front of an element: the length of its id, 0 where no element starts; and where its parameters start.
+struct Open {
+    id: usize,
+    start: usize,
+}
+
+// What a step over the list adds to the counts, and where it goes on: where it was, if the list ends.
+struct Turn {
+    elements: usize,
+    params: usize,
+    next: usize,
+}
+
+// The counts of elements and parameters, and the position behind them.
+pub enum Counts {
+    NoData,
+    IsData {
+        elements: usize,
+        params: usize,
+        next: usize,
+    },
+}
+
+// What a line's reader answers before the tables are filled: the record, where the structured data stands, and the counts of elements and parameters.
+pub enum Draft {
+    NoDraft,
+    IsDraft(Record, usize, usize, usize),
+}
+
+fn is_named(b: u8) -> bool
+    ensures { λ r. ⌜ r ≡ isNamed b ⌝ }
+{
+    !((b == b']') | (b == b'='))
+}
+
+// How many bytes at the front of `s` may be a name's.
+fn name_run(s: &[u8]) -> usize
+    ensures { λ r. ⌜ r ≡ run isNamed (now (s .entry)) ⌝ }
+{
+    let mut i = 0;
+    while i < s.len() {
+        if !is_named(s[i]) {
+            return i;
+        }
+        i += 1;
+    }
+    i
+}
+
+// How many bytes of a value come before the quote that ends it.
+fn quoted_len(s: &[u8]) -> usize
+    ensures { λ r. ⌜ r ≡ quotedLen false (now (s .entry)) ⌝ }
+{
+    let mut i = 0;
+    let mut taken = false;
+    while i < s.len() {
+        let b = s[i];
+        if !taken & (b == b'"') {
+            return i;
+        }
+        taken = !taken & (b == b'\\');
+        i += 1;
+    }
+    i
+}
+
+// The position of the quote that ends the value whose first quote is at `quote`.
+fn value_end(s: &[u8], quote: usize) -> Pos
+    ensures { λ r. ⌜ r ≡ valueEnd (now (s .entry)) quote ⌝ }
+{
+    if !base::is_at(s, quote, b'"') {
+        return Pos::NoPos;
+    }
+    let end = quote + 1 + quoted_len(base::past(s, quote + 1));
+    if !base::is_at(s, end, b'"') {
+        return Pos::NoPos;
+    }
+    Pos::IsPos(end)
+}
+
+// The parameter at the front of `s`.
+pub fn param_at(s: &[u8]) -> Param
+    ensures { λ r. ⌜ r ≡ paramAt (now (s .entry)) ⌝ }
+{
+    let name = name_run(s);
+    if name == 0 {
+        return Param::NoParam;
+    }
+    if !base::is_at(s, name, b'=') {
+        return Param::NoParam;
+    }
+    let quote = parsers::blanks_from(s, name + 1);
+    let Pos::IsPos(end) = value_end(s, quote) else {
+        return Param::NoParam;
+    };
+    let value = quote + 1;
+    Param::IsParam {
+        name,
+        value,
+        value_len: end - value,
+        len: end + 1,
+    }
+}
+
+// How many bytes of `s` come before its first white character, `]` or `=`.
+fn id_len(s: &[u8]) -> usize
+    ensures { λ r. ⌜ r ≡ idLen (now (s .entry)) ⌝ }
+{
+    let mut i = 0;
+    while i < s.len() {
+        if !is_named(s[i]) {
+            return i;
+        }
+        let w = white::white_len(&s[i..]);
+        if w != 0 {
+            return i;
+        }
+        i += 1;
+    }
+    i
+}
+
+// The parameters at `at`: none, or one and those behind it, each after one space.
+fn walk_params(s: &[u8], at: usize) -> Walk
+    requires { ⌜ at ≤ length (now s) ⌝ }
+    ensures { λ r. ⌜ r ≡ walkFrom (now (s .entry)) at ⌝ }
+{
+    let mut count = 0;
+    let mut next = at;
+    let mut start = at;
+    loop {
+        let Param::IsParam {
+            name: _,
+            value: _,
+            value_len: _,
+            len,
+        } = param_at(base::past(s, start))
+        else {
+            return Walk { count, next };
+        };
+        count += 1;
+        next = start + len;
+        if !base::is_at(s, next, b' ') {
+            return Walk { count, next };
+        }
+        start = next + 1;
+    }
+}
+
+// The front of an element at `at`.
+fn open_from(s: &[u8], at: usize) -> Open
+    ensures { λ r. ⌜ r ≡ openFrom (now (s .entry)) at ⌝ }
+{
+    if !base::is_at(s, at, b'[') {
+        return Open {
+            id: 0,
+            start: s.len(),
+        };
+    }
+    let id = id_len(base::past(s, at + 1));
+    if id == 0 {
+        return Open {
+            id: 0,
+            start: s.len(),
+        };
+    }
+    Open {
+        id,
+        start: parsers::blanks_from(s, at + 1 + id),
+    }
+}
+
+// RFC 3164: failing or parameterless elements end the list.
+fn ends_list(rules: Rules) -> bool
+    ensures { λ r. ⌜ r ≡ endsList rules ⌝ }
+{
+    match rules {
+        Rules::Rfc3164Rules => true,
+        Rules::Rfc5424Rules => false,
+    }
+}
+
+fn is_inside(b: u8) -> bool
+    ensures { λ r. ⌜ r ≡ isInside b ⌝ }
+{
+    b != b']'
+}
+
+// How many bytes of `s` come before its first `]`.
+pub fn inside_run(s: &[u8]) -> usize
+    ensures { λ r. ⌜ r ≡ run isInside (now (s .entry)) ⌝ }
+{
+    let mut i = 0;
+    while i < s.len() {
+        if !is_inside(s[i]) {
+            return i;
+        }
+        i += 1;
+    }
+    i
+}
+
+// The step at `at`, where no element can be read.
+fn skip_from(rules: Rules, s: &[u8], at: usize) -> Turn
+    ensures { λ r. ⌜ r ≡ turnOf at (itemOf rules at (drop at (now (s .entry))) noElement) ⌝ }
+{
+    let stay = Turn {
+        elements: 0,
+        params: 0,
+        next: at,
+    };
+    if ends_list(rules) {
+        return stay;
+    }
+    if !base::is_at(s, at, b'[') {
+        return stay;
+    }
+    let end = at + inside_run(base::past(s, at));
+    if !base::is_at(s, end, b']') {
+        return stay;
+    }
+    Turn {
+        elements: 0,
+        params: 0,
+        next: end + 1,
+    }
+}
+
+// The step at `at`, from the walk over the parameters of the element whose id has `id` bytes.
+fn turn_from(rules: Rules, s: &[u8], at: usize, id: usize, walk: Walk) -> Turn
+    requires { ⌜ Closes (now s) at id walk ⌝ }
+    ensures { λ r. ⌜ Turns rules (now (s .entry)) at r ⌝ }
+{
+    let count = walk.count;
+    let end = walk.next;
+    if id == 0 {
+        return skip_from(rules, s, at);
+    }
+    if !base::is_at(s, end, b']') {
+        return skip_from(rules, s, at);
+    }
+    if ends_list(rules) & (count == 0) {
+        return Turn {
+            elements: 0,
+            params: 0,
+            next: at,
+        };
+    }
+    Turn {
+        elements: 1,
+        params: count,
+        next: end + 1,
+    }
+}
+
+// The counts of a list that started at `at`, and ended at `next`.
+fn counts_at(at: usize, elements: usize, params: usize, next: usize) -> Counts
+    ensures { λ r. ⌜ r ≡ (if eqb next at then NoData else IsData elements params next) ⌝ }
+{
+    if next == at {
+        return Counts::NoData;
+    }
+    Counts::IsData {
+        elements,
+        params,
+        next,
+    }
+}
+
+// The structured data at `at`: its counts, and the position behind it.
+pub fn count_data(rules: Rules, s: &[u8], at: usize) -> Counts
+    ensures { λ r. ⌜ r ≡ countsOf (dataFrom rules (now (s .entry)) at) ⌝ }
+{
+    if base::is_at(s, at, b'-') {
+        return Counts::IsData {
+            elements: 0,
+            params: 0,
+            next: at + 1,
+        };
+    }
+    let mut elements = 0;
+    let mut params = 0;
+    let mut i = at;
+    loop {
+        let open = open_from(s, i);
+        let walk = walk_params(s, open.start);
+        let turn = turn_from(rules, s, i, open.id, walk);
+        let next = turn.next;
+        if next == i {
+            return counts_at(at, elements, params, i);
+        }
+        elements += turn.elements;
+        params += turn.params;
+        i = next;
+    }
+}
+
+// The row of a parameter of element `e` at `start`.
+fn entry_from(s: &[u8], e: usize, start: usize) -> Entry
+    requires { ⌜ start ≤ length (now s) ⌝ }
+    ensures { λ r. ⌜ r ≡ entryOf e start (paramAt (drop start (now (s .entry)))) ⌝ }
+{
+    let Param::IsParam {
+        name,
+        value,
+        value_len,
+        len,
+    } = param_at(base::past(s, start))
+    else {
+        return Entry {
+            row: [0, 0, 0, 0, 0],
+            next: start,
+        };
+    };
+    Entry {
+        row: [e, start, name, start + value, value_len],
+        next: start + len,
+    }
+}
+
+// The walk of `walk_params` for element `e`, which stores the rows from index `first` on and is given up where they reach index `end`.
+fn fill_params(
+    s: &[u8],
+    e: usize,
+    at: usize,
+    params: &mut [[usize; 5]],
+    first: usize,
+    end: usize,
+) -> Walk
+    requires { ⌜ Holds (now s) at (now params) first end ⌝ }
+    ensures { λ r. ⌜ Stores (now (s .entry)) e at (now (params .entry)) first end r (now (params .exit)) ⌝ }
+{
+    let mut i = first;
+    let mut next = at;
+    let mut start = at;
+    loop {
+        let entry = entry_from(s, e, start);
+        let behind = entry.next;
+        if behind == start {
+            return Walk {
+                count: i - first,
+                next,
+            };
+        }
+        if i == end {
+            return Walk {
+                count: 0,
+                next: s.len(),
+            };
+        }
+        let row = entry.row;
+        params[i] = row;
+        i += 1;
+        next = behind;
+        if !base::is_at(s, next, b' ') {
+            return Walk {
+                count: i - first,
+                next,
+            };
+        }
+        start = next + 1;
+    }
+}
+
+// The rows of the structured data at `at`, which has `e` elements and `p` parameters, into both tables. The rows of an element that turns out
+// to fail are stored over.
+pub fn fill_data(
+    rules: Rules,
+    s: &[u8],
+    at: usize,
+    e: usize,
+    p: usize,
+    elements: &mut [[usize; 2]],
+    params: &mut [[usize; 5]],
+)
+    requires { ⌜ Room rules (now s) at e p (now elements) (now params) ⌝ }
+    ensures { λ _. ⌜ Fills rules (now (s .entry)) at (now (elements .entry)) (now (params .entry)) (now (elements .exit)) (now (params .exit)) ⌝ }
+{
+    let mut i = 0;
+    let mut j = 0;
+    let mut start = at;
+    while i < e {
+        let open = open_from(s, start);
+        elements[i] = [start + 1, open.id];
+        let walk = fill_params(s, i, open.start, params, j, p);
+        let turn = turn_from(rules, s, start, open.id, walk);
+        i += turn.elements;
+        j += turn.params;
+        start = turn.next;
+    }
+}
