@@ -1,0 +1,4 @@
+pub mod Settings
+pub mod Variants
+pub mod Judging
+pub mod Readings

@@ -1,0 +1,2 @@
+pub mod Loose
+pub mod Judging

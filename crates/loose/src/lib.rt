@@ -1,0 +1,232 @@
+// lib.rs: the loose readers.
+use record::Level;
+use record::Protocol;
+use record::Reading;
+use record::Record;
+use record::Refusal;
+use record::Span;
+use record::Stamp;
+use structured_data::Draft;
+use structured_data::Rules;
+ghost use mathlib.Core.Path.{_≡_};
+ghost use Prim.Native.Nat.{_≤_};
+ghost use lib.Dec.{leb};
+ghost use lib.IntN.{natAbs};
+ghost use lib.ListN.{length};
+ghost use Rattle.rfc3164.specs.Rfc3164.{rfc3164};
+ghost use Rattle.rfc5424.specs.Rfc5424.{rfc5424};
+ghost use Rattle.loose.specs.Loose.{byVariant, whole, settingsOk, ReadsExact, ReadsFallback};
+ghost use Rattle.loose.specs.Judging.{Finds, Passes, Judges};
+
+// What a reader of lines found: the rules that its structured data is read by, the record, where the structured data stands, and the
+// counts of elements and parameters.
+enum Found {
+    NotFound,
+    IsFound {
+        rules: Rules,
+        read: Record,
+        at: usize,
+        elements: usize,
+        params: usize,
+    },
+}
+
+// What is known of a line before a table is touched. `end` is where the trimmed line ends.
+enum Judged {
+    Refuse(Refusal),
+    NoDraft,
+    Fitting {
+        rules: Rules,
+        read: Record,
+        end: usize,
+        at: usize,
+        elements: usize,
+        params: usize,
+    },
+}
+
+fn offset_ok(offset: i32) -> bool
+    ensures { λ r. ⌜ r ≡ leb (natAbs offset) 1439 ⌝ }
+{
+    let minutes = base::split(base::widen(offset));
+    (minutes.up <= 1439) & (minutes.down <= 1439)
+}
+
+fn settings_ok(variant: u32, year: u32, offset: i32) -> bool
+    ensures { λ r. ⌜ r ≡ settingsOk variant year offset ⌝ }
+{
+    (variant <= 2) & (year <= 9999) & offset_ok(offset)
+}
+
+fn found_5424(s: &[u8], start: usize) -> Found
+    requires { ⌜ start ≤ length (now s) ⌝ }
+    ensures { λ r. ⌜ Finds (now (s .entry)) (rfc5424 (now (s .entry)) start) r ⌝ }
+{
+    let Draft::IsDraft(read, at, elements, params) = rfc5424::rfc5424(s, start) else {
+        return Found::NotFound;
+    };
+    Found::IsFound {
+        rules: Rules::Rfc5424Rules,
+        read,
+        at,
+        elements,
+        params,
+    }
+}
+
+fn found_3164(s: &[u8], start: usize, year: u32, offset: i32) -> Found
+    requires { ⌜ start ≤ length (now s) ⌝ }
+    ensures { λ r. ⌜ Finds (now (s .entry)) (rfc3164 year offset (now (s .entry)) start) r ⌝ }
+{
+    let Draft::IsDraft(read, at, elements, params) = rfc3164::rfc3164(s, start, year, offset) else {
+        return Found::NotFound;
+    };
+    Found::IsFound {
+        rules: Rules::Rfc3164Rules,
+        read,
+        at,
+        elements,
+        params,
+    }
+}
+
+// Variant 0 tries RFC 5424, then RFC 3164; 1 is RFC 3164, 2 RFC 5424.
+fn by_variant(s: &[u8], start: usize, variant: u32, year: u32, offset: i32) -> Found
+    requires { ⌜ start ≤ length (now s) ⌝ }
+    ensures { λ r. ⌜ Finds (now (s .entry)) (byVariant variant year offset (now (s .entry)) start) r ⌝ }
+{
+    if variant == 1 {
+        return found_3164(s, start, year, offset);
+    }
+    let found = found_5424(s, start);
+    let Found::NotFound = found else {
+        return found;
+    };
+    if variant == 0 {
+        return found_3164(s, start, year, offset);
+    }
+    found
+}
+
+// Refusals 4, 5 and 6, where none of the first three is given: tables of `e` and `p` entries.
+fn judge_text(line: &[u8], variant: u32, year: u32, offset: i32, e: usize, p: usize) -> Judged
+    requires { ⌜ Passes (now line) variant year offset ⌝ }
+    ensures { λ r. ⌜ Judges (now (line .entry)) variant year offset e p r ⌝ }
+{
+    let ends = white::trim(line);
+    let end = ends.end;
+    let Found::IsFound {
+        rules,
+        read,
+        at,
+        elements,
+        params,
+    } = by_variant(&line[0..end], ends.start, variant, year, offset)
+    else {
+        return Judged::NoDraft;
+    };
+    if e < elements {
+        return Judged::Refuse(Refusal::TooManyElements);
+    }
+    if p < params {
+        return Judged::Refuse(Refusal::TooManyParams);
+    }
+    Judged::Fitting {
+        rules,
+        read,
+        end,
+        at,
+        elements,
+        params,
+    }
+}
+
+// All refusals, in order.
+fn judge(line: &[u8], variant: u32, year: u32, offset: i32, e: usize, p: usize) -> Judged
+    ensures { λ r. ⌜ Judges (now (line .entry)) variant year offset e p r ⌝ }
+{
+    if 8192 < line.len() {
+        return Judged::Refuse(Refusal::LineTooLong);
+    }
+    if !settings_ok(variant, year, offset) {
+        return Judged::Refuse(Refusal::BadSetting);
+    }
+    if !utf8::is_utf8(line) {
+        return Judged::Refuse(Refusal::NotUtf8);
+    }
+    judge_text(line, variant, year, offset, e, p)
+}
+
+// The line whole and untrimmed as the message.
+fn whole(len: usize) -> Record
+    ensures { λ r. ⌜ r ≡ whole len ⌝ }
+{
+    let none = record::absent();
+    Record {
+        protocol: Protocol::Rfc3164,
+        facility: Level::Unset,
+        severity: Level::Unset,
+        timestamp: Stamp::Unstamped,
+        host: none,
+        app: none,
+        procid: none,
+        msgid: none,
+        message: Span { start: 0, len },
+    }
+}
+
+// Loose exact reading: a line with no reading is refused.
+pub fn read_exact(
+    line: &[u8],
+    variant: u32,
+    year: u32,
+    offset: i32,
+    elements: &mut [[usize; 2]],
+    params: &mut [[usize; 5]],
+) -> Reading
+    ensures { λ r. ⌜ ReadsExact (now (line .entry)) variant year offset (now (elements .entry)) (now (params .entry)) r (now (elements .exit)) (now (params .exit)) ⌝ }
+{
+    match judge(line, variant, year, offset, elements.len(), params.len()) {
+        Judged::Refuse(refusal) => Reading::Refused(refusal),
+        Judged::NoDraft => Reading::Refused(Refusal::NoReading),
+        Judged::Fitting {
+            rules,
+            read,
+            end,
+            at,
+            elements: e,
+            params: p,
+        } => {
+            structured_data::fill_data(rules, &line[0..end], at, e, p, elements, params);
+            Reading::Read(read, e, p)
+        }
+    }
+}
+
+// Loose fallback reading: a line with no reading becomes the message.
+pub fn read_fallback(
+    line: &[u8],
+    variant: u32,
+    year: u32,
+    offset: i32,
+    elements: &mut [[usize; 2]],
+    params: &mut [[usize; 5]],
+) -> Reading
+    ensures { λ r. ⌜ ReadsFallback (now (line .entry)) variant year offset (now (elements .entry)) (now (params .entry)) r (now (elements .exit)) (now (params .exit)) ⌝ }
+{
+    match judge(line, variant, year, offset, elements.len(), params.len()) {
+        Judged::Refuse(refusal) => Reading::Refused(refusal),
+        Judged::NoDraft => Reading::Read(whole(line.len()), 0, 0),
+        Judged::Fitting {
+            rules,
+            read,
+            end,
+            at,
+            elements: e,
+            params: p,
+        } => {
+            structured_data::fill_data(rules, &line[0..end], at, e, p, elements, params);
+            Reading::Read(read, e, p)
+        }
+    }
+}
