@@ -19,31 +19,21 @@ use Rattle.record.specs.declared.Record.{Record}
 use Rattle.record.specs.declared.Reading.{Reading}
 use Rattle.record.specs.declared.Reading.the-variants.{Refused}
 use Rattle.record.specs.declared.Refusal.{Refusal}
-use Rattle.record.specs.declared.Refusal.the-variants.{LineTooLong, BadSetting, NotUtf8, TooManyElements, TooManyParams}
-use Rattle.structured_data.specs.Data.{Rows}
+use Rattle.record.specs.declared.Refusal.the-variants.{LineTooLong, BadSetting, NotUtf8, NoReading, TooManyElements, TooManyParams}
 use Rattle.structured_data.specs.Outcome.{Outcome}
-use Rattle.structured_data.specs.Outcome.Outcome.{isReading}
+use Rattle.structured_data.specs.Outcome.Outcome.{noReading}
 use Rattle.structured_data.specs.declared.Rules.{Rules}
-use Rattle.loose.specs.Loose.{byVariant, outcomeOf, orWhole, settingsOk, judged, answered}
-use Rattle.loose.specs.Judging.{Drafts, Finds, Passes, Refuses, Judges}
+use Rattle.loose.specs.Loose.{byVariant, outcomeOf, settingsOk, judged, answered}
+use Rattle.loose.specs.Judging.{Drafts, Finds, Passes, Judges}
 use Rattle.loose.specs.declared.Found.{Found}
 use Rattle.loose.specs.declared.Found.the-variants.{NotFound, IsFound}
 use Rattle.loose.specs.declared.Judged.{Judged}
-use Rattle.loose.specs.declared.Judged.the-variants.{Refuse, NoDraft, Fitting}
+use Rattle.loose.specs.declared.Judged.the-variants.{Refuse, Fitting}
 
 -- behind the first three refusals
-module _ (line : List ℕ) (variant year : ℕ) (o : ℤ) (h : Passes line variant year o) where
-  pub passed : (x : Outcome) (e p : ℕ) (a : Reading) → judged x e p ≡ a → answered line variant year o x e p ≡ a
-  passed x e p a q = rw (le-ltb 8192 (length line) (h .short), h .settings, h .text) q
-
-  -- a reading is refused by both readers
-  both-refuse : (r : Record) (at : ℕ) (rows : Rows) → outcomeOf line variant year o ≡ isReading r at rows
-      → (e p : ℕ) (f : Refusal) → judged (isReading r at rows) e p ≡ Refused f → Refuses line variant year o e p f
-  both-refuse r at rows q e p f j =
-      record {
-        exact = passed (outcomeOf line variant year o) e p (Refused f) (rw q j);
-        fallback = passed (orWhole line (outcomeOf line variant year o)) e p (Refused f) (rw q j);
-      }
+pub passed : (line : List ℕ) (variant year : ℕ) (o : ℤ) → Passes line variant year o → (x : Outcome) (e p : ℕ) (a : Reading) → judged x e p ≡ a
+    → answered line variant year o x e p ≡ a
+passed line variant year o h x e p a q = rw (le-ltb 8192 (length line) (h .short), h .settings, h .text) q
 
 module _ (line : List ℕ) (variant year : ℕ) (o : ℤ) (f : SFits w32 o) (h : Passes line variant year o) (ends : Ends) (e : ends ≡ trimmed line) where
   pub text-inside : ends .end ≤ length line
@@ -60,21 +50,22 @@ module _ (line : List ℕ) (variant year : ℕ) (o : ℤ) (f : SFits w32 o) (h :
     unfolding outcomeOf
     outcome = rw (← e) (rw (whole-part, toZ-ofZ w32 o f) at i)
 
-    pub judged-none : g ≡ NotFound → Judges line variant year o x y NoDraft
-    judged-none z = record { is = record { passes = h; is = rw z at (outcome .is) } }
+    refused : (a : Refusal) → judged (outcomeOf line variant year o) x y ≡ Refused a → Judges line variant year o x y (Refuse a)
+    refused a q = record { is = passed line variant year o h (outcomeOf line variant year o) x y (Refused a) q }
+
+    pub judged-none : g ≡ NotFound → Judges line variant year o x y (Refuse NoReading)
+    judged-none z = let q : outcomeOf line variant year o ≡ noReading = rw z at (outcome .is) in refused NoReading (rw q)
 
     module _ (rules : Rules) (r : Record) (at n m : ℕ) (z : g ≡ IsFound rules r at n m) where
       drafts : Drafts (take (ends .end) line) (outcomeOf line variant year o) rules r at n m
       drafts = rw z at (outcome .is)
 
       pub judged-elements : x < n → Judges line variant year o x y (Refuse TooManyElements)
-      judged-elements l =
-          record { is = both-refuse line variant year o h r at _ (drafts .is) x y TooManyElements (rw (← drafts .elements-are, lt-ltb x n l)) }
+      judged-elements l = refused TooManyElements (rw (drafts .is, ← drafts .elements-are, lt-ltb x n l))
 
       module _ (k : n ≤ x) where
         pub judged-params : y < m → Judges line variant year o x y (Refuse TooManyParams)
-        judged-params l =
-            record { is = both-refuse line variant year o h r at _ (drafts .is) x y TooManyParams (rw (← drafts .elements-are, le-ltb x n k, ← drafts .params-are, lt-ltb y m l)) }
+        judged-params l = refused TooManyParams (rw (drafts .is, ← drafts .elements-are, le-ltb x n k, ← drafts .params-are, lt-ltb y m l))
 
         pub judged-fits : m ≤ y → Judges line variant year o x y (Fitting rules r (ends .end) at n m)
         judged-fits l = record { is = record { passes = h; inside = text-inside; drafts = drafts; elements-fit = k; params-fit = l } }
@@ -84,7 +75,7 @@ pub ruleset judge-text-laws = (text-inside, text-starts, judged-none, judged-ele
 -- the first three
 module _ (line : List ℕ) (variant year : ℕ) (o : ℤ) (f : SFits w32 o) where
   pub judge-long : (e p : ℕ) → 8192 < length line → Judges line variant year o e p (Refuse LineTooLong)
-  judge-long e p l = record { is = record { exact = rw (lt-ltb 8192 (length line) l); fallback = rw (lt-ltb 8192 (length line) l) } }
+  judge-long e p l = record { is = rw (lt-ltb 8192 (length line) l) }
 
   module _ (l : length line ≤ 8192) (t : Bool) (et : t ≡ settingsOk variant year (toZ w32 (ofZ w32 o))) where
     settings : t ≡ settingsOk variant year o
@@ -93,7 +84,7 @@ module _ (line : List ℕ) (variant year : ℕ) (o : ℤ) (f : SFits w32 o) wher
     pub judge-settings : (e p : ℕ) → not t ≡ true → Judges line variant year o e p (Refuse BadSetting)
     judge-settings e p z =
         let q : settingsOk variant year o ≡ false = sym settings ∙ not-true t z in
-        record { is = record { exact = rw (le-ltb 8192 (length line) l, q); fallback = rw (le-ltb 8192 (length line) l, q) } }
+        record { is = rw (le-ltb 8192 (length line) l, q) }
 
     module _ (z : not t ≡ false) (u : Bool) (eu : u ≡ isUtf8 line) where
       good : settingsOk variant year o ≡ true
@@ -102,7 +93,7 @@ module _ (line : List ℕ) (variant year : ℕ) (o : ℤ) (f : SFits w32 o) wher
       pub judge-bytes : (e p : ℕ) → not u ≡ true → Judges line variant year o e p (Refuse NotUtf8)
       judge-bytes e p y =
           let q : isUtf8 line ≡ false = sym eu ∙ not-true u y in
-          record { is = record { exact = rw (le-ltb 8192 (length line) l, good, q); fallback = rw (le-ltb 8192 (length line) l, good, q) } }
+          record { is = rw (le-ltb 8192 (length line) l, good, q) }
 
       pub judge-passes : not u ≡ false → Passes line variant year (toZ w32 (ofZ w32 o))
       judge-passes y = rw (toZ-ofZ w32 o f) (record { short = l; settings = good; text = sym eu ∙ not-false u y })

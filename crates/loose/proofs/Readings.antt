@@ -1,26 +1,32 @@
--- The readings: what was judged, and the tables.
+-- The readings: what was judged, and the tables; and the fallback reader by the exact one.
 use Prim.Native.Nat.{ℕ, _-_, _≤_}
-use mathlib.Core.Path.{_≡_, refl, sym, _∙_}
-use mathlib.Core.List.{List}
+use mathlib.Core.Path.{_≡_, refl, sym, ap, _∙_}
+use mathlib.Core.Bool.{Bool, true, false, not}
+use mathlib.Core.List.{List, []}
 use native.Mathlib.Omega.{arith}
+use lib.Dec.{ltb}
 use lib.ListN.{length, take}
 use lib.IntN.{ℤ}
-use borrow.Author.Tests.{le-ltb}
+use borrow.Author.Tests.{le-ltb, ne-eqb}
 use mir.Syntax.{w32}
 use mir.Val.{SFits, toZ, ofZ}
 use mir.ValLaws.{toZ-ofZ}
+use Rattle.base.specs.Choose.{if_then_else_}
+use Rattle.utf8.specs.Lead.{isUtf8}
+use Rattle.record.specs.Refusals.{refusalNumber}
 use Rattle.record.specs.declared.Record.{Record}
+use Rattle.record.specs.declared.Reading.{Reading}
 use Rattle.record.specs.declared.Reading.the-variants.{Read, Refused}
 use Rattle.record.specs.declared.Refusal.{Refusal}
-use Rattle.record.specs.declared.Refusal.the-variants.{NoReading}
-use Rattle.structured_data.specs.Data.{dataFrom, rowsOr}
+use Rattle.record.specs.declared.Refusal.the-variants.{LineTooLong, BadSetting, NotUtf8, TooManyElements, TooManyParams}
+use Rattle.structured_data.specs.Data.{Rows, endAt}
 use Rattle.structured_data.specs.Outcome.{Outcome, Room, Fills}
-use Rattle.structured_data.specs.Outcome.Outcome.{isReading}
+use Rattle.structured_data.specs.Outcome.Outcome.{noReading, isReading}
 use Rattle.structured_data.specs.declared.Rules.{Rules}
-use Rattle.loose.specs.Loose.{outcomeOf, whole, orWhole, Reads, ReadsExact, ReadsFallback}
-use Rattle.loose.specs.Judging.{Refuses, Fits, Unread, Judges}
+use Rattle.loose.specs.Loose.{outcomeOf, whole, orWhole, settingsOk, judged, answered, tableAfter, rowsOf, ReadsExact, ReadsFallback}
+use Rattle.loose.specs.Judging.{Fits, Judges, orMessage}
 use Rattle.loose.specs.declared.Judged.{Judged}
-use Rattle.loose.specs.declared.Judged.the-variants.{Refuse, NoDraft, Fitting}
+use Rattle.loose.specs.declared.Judged.the-variants.{Refuse, Fitting}
 use Rattle.loose.proofs.Judging.{passed}
 
 module _ (line : List ℕ) (variant year : ℕ) (o : ℤ) (f : SFits w32 o) (e₀ p₀ : List (List ℕ)) (j : Judged)
@@ -28,40 +34,9 @@ module _ (line : List ℕ) (variant year : ℕ) (o : ℤ) (f : SFits w32 o) (e�
   here : Judges line variant year o (length e₀) (length p₀) j
   here = rw (toZ-ofZ w32 o f) at c
 
-  -- a refusal
-  module _ (x : Refusal) (z : j ≡ Refuse x) where
-    refuses : Refuses line variant year o (length e₀) (length p₀) x
-    refuses = rw z at (here .is)
+  pub exact-refused : (x : Refusal) → j ≡ Refuse x → ReadsExact line variant year o e₀ p₀ (Refused x) e₀ p₀
+  exact-refused x z = record { answer = sym (rw z at (here .is)); elements = refl; params = refl }
 
-    pub exact-refused : ReadsExact line variant year o e₀ p₀ (Refused x) e₀ p₀
-    exact-refused = record { answer = sym (refuses .exact); elements = refl; params = refl }
-
-    pub fallback-refused : ReadsFallback line variant year o e₀ p₀ (Refused x) e₀ p₀
-    fallback-refused = record { answer = sym (refuses .fallback); elements = refl; params = refl }
-
-  -- no reading
-  module _ (z : j ≡ NoDraft) where
-    unread : Unread line variant year o
-    unread = rw z at (here .is)
-
-    pub exact-unread : ReadsExact line variant year o e₀ p₀ (Refused NoReading) e₀ p₀
-    exact-unread =
-        record {
-          answer = sym (passed line variant year o (unread .passes) (outcomeOf line variant year o) (length e₀) (length p₀) _ (rw (unread .is)));
-          elements = refl;
-          params = refl;
-        }
-
-    pub fallback-unread : (r : Record) → r ≡ whole (length line) → ReadsFallback line variant year o e₀ p₀ (Read r 0 0) e₀ p₀
-    fallback-unread r q =
-        record {
-          answer = sym (passed line variant year o (unread .passes) (orWhole line (outcomeOf line variant year o)) (length e₀) (length p₀) _
-              (rw (unread .is, q, le-ltb (length e₀) 0 (omega arith), le-ltb (length p₀) 0 (omega arith))));
-          elements = rw (unread .is);
-          params = rw (unread .is);
-        }
-
-  -- a reading
   module _ (rules : Rules) (r : Record) (end at n m : ℕ) (z : j ≡ Fitting rules r end at n m) where
     fits : Fits line variant year o (length e₀) (length p₀) rules r end at n m
     fits = rw z at (here .is)
@@ -77,24 +52,92 @@ module _ (line : List ℕ) (variant year : ℕ) (o : ℤ) (f : SFits w32 o) (e�
         let d = fits .drafts in
         rw part-whole (record { elements-are = d .elements-are; params-are = d .params-are; elements-fit = fits .elements-fit; params-fit = fits .params-fit })
 
-    module _ (e₁ p₁ : List (List ℕ)) (g : Fills rules (take (end - 0) line) at e₀ p₀ e₁ p₁) where
-      reads : (x : Outcome) → x ≡ isReading r at (rowsOr at (dataFrom rules (take end line) at)) → Reads line variant year o x e₀ p₀ (Read r n m) e₁ p₁
-      reads x q =
-          let d = fits .drafts in
-          let k : Fills rules (take end line) at e₀ p₀ e₁ p₁ = rw part-whole at g in
-          record {
-            answer = sym (passed line variant year o (fits .passes) x (length e₀) (length p₀) _
-                (rw (q, ← d .elements-are, le-ltb (length e₀) n (fits .elements-fit), ← d .params-are, le-ltb (length p₀) m (fits .params-fit))));
-            elements = k .elements ∙ rw q;
-            params = k .params ∙ rw q;
-          }
+    pub exact-read : (e₁ p₁ : List (List ℕ)) → Fills rules (take (end - 0) line) at e₀ p₀ e₁ p₁ → ReadsExact line variant year o e₀ p₀ (Read r n m) e₁ p₁
+    exact-read e₁ p₁ g =
+        let d = fits .drafts in
+        let k : Fills rules (take end line) at e₀ p₀ e₁ p₁ = rw part-whole at g in
+        record {
+          answer = sym (passed line variant year o (fits .passes) (outcomeOf line variant year o) (length e₀) (length p₀) _
+              (rw (d .is, ← d .elements-are, le-ltb (length e₀) n (fits .elements-fit), ← d .params-are, le-ltb (length p₀) m (fits .params-fit))));
+          elements = k .elements ∙ rw (d .is);
+          params = k .params ∙ rw (d .is);
+        }
 
-      pub exact-read : ReadsExact line variant year o e₀ p₀ (Read r n m) e₁ p₁
-      exact-read = reads _ (fits .drafts .is)
+pub ruleset exact-laws = (exact-refused, part-ends, tables-room, exact-read)
 
-      pub fallback-read : ReadsFallback line variant year o e₀ p₀ (Read r n m) e₁ p₁
-      fallback-read = reads _ (rw (fits .drafts .is))
+-- The message whole in place of refusal 4
+module _ (len : ℕ) (r : Reading) where
+  pub message-read : (x : Record) (n m : ℕ) → r ≡ Read x n m → r ≡ orMessage len r
+  message-read x n m z = rw z
 
-pub ruleset exact-laws = (exact-refused, exact-unread, part-ends, tables-room, exact-read)
+  module _ (f : Refusal) (z : r ≡ Refused f) (k : ℕ) (e : k ≡ refusalNumber f) where
+    pub message-whole : k ≡ 4 → (x : Record) → x ≡ whole len → Read x 0 0 ≡ orMessage len r
+    message-whole q x w = rw (z, ← e, q, w)
 
-pub ruleset fallback-laws = (fallback-refused, fallback-unread, part-ends, tables-room, fallback-read)
+    pub message-refused : (k ≡ 4 → ⊥) → Refused f ≡ orMessage len r
+    message-refused q = rw (z, ← e, ne-eqb k 4 q)
+
+pub ruleset message-laws = (message-read, message-whole, message-refused)
+
+-- No other refusal has number 4, so that the fallback reader differs from the exact one where there is no reading alone.
+module _ (len : ℕ) where
+  ladder : (a b c : Bool) (x y : Reading) → y ≡ orMessage len x
+      → (if a then Refused LineTooLong else if b then Refused BadSetting else if c then Refused NotUtf8 else y)
+      ≡ orMessage len (if a then Refused LineTooLong else if b then Refused BadSetting else if c then Refused NotUtf8 else x)
+  ladder true b c x y h = refl
+  ladder false true c x y h = refl
+  ladder false false true x y h = refl
+  ladder false false false x y h = h
+
+  counted : (a b : Bool) (x : Reading) → x ≡ orMessage len x
+      → (if a then Refused TooManyElements else if b then Refused TooManyParams else x) ≡ orMessage len (if a then Refused TooManyElements else if b then Refused TooManyParams else x)
+  counted true b x h = refl
+  counted false true x h = refl
+  counted false false x h = h
+
+-- no rows leave a table as it was
+unfilled : (r : Reading) (rows old : List (List ℕ)) → rows ≡ [] → tableAfter r rows old ≡ old
+unfilled (Read r e p) rows old z = rw z
+unfilled (Refused f) rows old z = refl
+
+module _ (line : List ℕ) (variant year : ℕ) (o : ℤ) (e p : ℕ) where
+  whole-judged : (x : Outcome) → judged (orWhole line x) e p ≡ orMessage (length line) (judged x e p)
+  whole-judged noReading = rw (le-ltb e 0 (omega arith), le-ltb p 0 (omega arith))
+  whole-judged (isReading r at rows) = counted (length line) (ltb e (length (rows .elements))) (ltb p (length (rows .params))) _ refl
+
+  whole-answered : (x : Outcome) → answered line variant year o (orWhole line x) e p ≡ orMessage (length line) (answered line variant year o x e p)
+  whole-answered x = ladder (length line) (ltb 8192 (length line)) (not (settingsOk variant year o)) (not (isUtf8 line)) (judged x e p) (judged (orWhole line x) e p) (whole-judged x)
+
+  -- the same tables: `side` is one of the two
+  whole-tables : (side : Rows → List (List ℕ)) → side (endAt 0) ≡ [] → (old : List (List ℕ)) (x : Outcome)
+      → tableAfter (answered line variant year o x e p) (side (rowsOf x)) old ≡ tableAfter (answered line variant year o (orWhole line x) e p) (side (rowsOf (orWhole line x))) old
+  whole-tables side z old noReading =
+      unfilled (answered line variant year o noReading e p) (side (endAt 0)) old z
+      ∙ sym (unfilled (answered line variant year o (orWhole line noReading) e p) (side (endAt 0)) old z)
+  whole-tables side z old (isReading r at rows) = refl
+
+module _ (line : List ℕ) (variant year : ℕ) (o : ℤ) (f : SFits w32 o) (e₀ p₀ : List (List ℕ)) (r : Reading) (e₁ p₁ : List (List ℕ))
+    (h : ReadsExact line variant year (toZ w32 (ofZ w32 o)) e₀ p₀ r e₁ p₁) (x : Reading) (q : x ≡ orMessage (length line) r) where
+  exactly : ReadsExact line variant year o e₀ p₀ r e₁ p₁
+  exactly = rw (toZ-ofZ w32 o f) at h
+
+  abbrev outcome : Outcome
+  outcome = outcomeOf line variant year o
+
+  whole-answer : x ≡ answered line variant year o (orWhole line outcome) (length e₀) (length p₀)
+  whole-answer = q ∙ ap (orMessage (length line)) (exactly .answer) ∙ sym (whole-answered line variant year o (length e₀) (length p₀) outcome)
+
+  whole-table : (side : Rows → List (List ℕ)) → side (endAt 0) ≡ [] → (old new : List (List ℕ)) → new ≡ tableAfter r (side (rowsOf outcome)) old
+      → new ≡ tableAfter x (side (rowsOf (orWhole line outcome))) old
+  whole-table side z old new k =
+      k ∙ ap (λ (a : Reading). tableAfter a (side (rowsOf outcome)) old) (exactly .answer)
+      ∙ whole-tables line variant year o (length e₀) (length p₀) side z old outcome
+      ∙ ap (λ (a : Reading). tableAfter a (side (rowsOf (orWhole line outcome))) old) (sym whole-answer)
+
+  pub fallback-reads : ReadsFallback line variant year o e₀ p₀ x e₁ p₁
+  fallback-reads =
+      record {
+        answer = whole-answer;
+        elements = whole-table (λ (k : Rows). k .elements) refl e₀ e₁ (exactly .elements);
+        params = whole-table (λ (k : Rows). k .params) refl p₀ p₁ (exactly .params);
+      }

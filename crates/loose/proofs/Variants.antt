@@ -19,8 +19,7 @@ use Rattle.parsers.specs.Steps.{blanksFrom}
 use Rattle.timestamp.specs.Timestamp.{rfc3164From}
 use Rattle.timestamp.specs.declared.Stamping.{Stamping}
 use Rattle.timestamp.specs.declared.Stamping.the-variants.{NoStamp, IsStamp}
-use Rattle.structured_data.specs.Data.{Rows, Data, dataFrom, rowsOr}
-use Rattle.structured_data.specs.Data.Data.{noData, isData}
+use Rattle.structured_data.specs.Data.{Rows, dataFrom, rowsOr}
 use Rattle.structured_data.specs.Outcome.{Outcome, draftOf}
 use Rattle.structured_data.specs.Outcome.Outcome.{noReading, isReading}
 use Rattle.structured_data.specs.declared.Rules.{Rules}
@@ -28,7 +27,6 @@ use Rattle.structured_data.specs.declared.Rules.the-variants.{Rfc3164Rules, Rfc
 use Rattle.structured_data.specs.declared.Draft.{Draft}
 use Rattle.structured_data.specs.declared.Draft.the-variants.{NoDraft, IsDraft}
 use Rattle.rfc3164.specs.Rfc3164.{bodyFrom, onStamping, rfc3164}
-use Rattle.rfc3164.specs.Rfc3164 as lines3164
 use Rattle.rfc5424.specs.Rfc5424.{rfc5424}
 use Rattle.rfc5424.proofs.Lines as lines
 use Rattle.loose.specs.Loose.{orElse, byVariant}
@@ -71,11 +69,6 @@ module _ (s : List ℕ) (start : ℕ) where
     pub some-5424 : (r : Record) (at n m : ℕ) → d ≡ IsDraft r at n m → Finds s (rfc5424 s start) (IsFound Rfc5424Rules r at n m)
     some-5424 = drafted s Rfc5424Rules (rfc5424 s start) rows-5424 d e
 
--- the rows that the rules of RFC 3164 lines give are the same by the name of that crate
-same-rows : (at : ℕ) (d : Data) → lines3164.rowsOr at d ≡ rowsOr at d
-same-rows at noData = refl
-same-rows at (isData rows) = refl
-
 on-stamping : (P : Outcome → Type 0) (x : Stamping) (r : Outcome) (k : Stamp → ℕ → Outcome) → P r → ((t : Stamp) (n : ℕ) → P (k t n)) → P (onStamping x r k)
 on-stamping P NoStamp r k a b = a
 on-stamping P (IsStamp t n) r k a b = b t n
@@ -87,7 +80,7 @@ RowsIn s (isReading r at rows) = rows ≡ rowsOr at (dataFrom Rfc3164Rules s at)
 module _ (s : List ℕ) (start year : ℕ) (o : ℤ) where
   rows-in : RowsIn s (rfc3164 year o s start)
   unfolding rfc3164 bodyFrom
-  rows-in = on-stamping (RowsIn s) (rfc3164From year o s (blanksFrom s (start + priAt (drop start s) .next))) _ _ tt (λ stamp a. search same-rows)
+  rows-in = on-stamping (RowsIn s) (rfc3164From year o s (blanksFrom s (start + priAt (drop start s) .next))) _ _ tt (λ stamp a. refl)
 
   rows-3164 : (r : Record) (at : ℕ) (rows : Rows) → rfc3164 year o s start ≡ isReading r at rows → rows ≡ rowsOr at (dataFrom Rfc3164Rules s at)
   rows-3164 r at rows e = rw e at rows-in

@@ -3,21 +3,24 @@ use Prim.Native.Nat.{ℕ, _≤_}
 use mathlib.Core.Path.{_≡_}
 use mathlib.Core.List.{List}
 use mathlib.Core.Bool.{true}
+use lib.Dec.{eqb}
 use lib.ListN.{length, take}
 use lib.IntN.{ℤ}
+use Rattle.base.specs.Choose.{if_then_else_}
 use Rattle.utf8.specs.Lead.{isUtf8}
 use Rattle.record.specs.declared.Record.{Record}
-use Rattle.record.specs.declared.Reading.the-variants.{Refused}
-use Rattle.record.specs.declared.Refusal.{Refusal}
+use Rattle.record.specs.Refusals.{refusalNumber}
+use Rattle.record.specs.declared.Reading.{Reading}
+use Rattle.record.specs.declared.Reading.the-variants.{Read, Refused}
 use Rattle.structured_data.specs.Data.{dataFrom, rowsOr}
 use Rattle.structured_data.specs.Outcome.{Outcome}
 use Rattle.structured_data.specs.Outcome.Outcome.{noReading, isReading}
 use Rattle.structured_data.specs.declared.Rules.{Rules}
-use Rattle.loose.specs.Loose.{outcomeOf, orWhole, settingsOk, answered}
+use Rattle.loose.specs.Loose.{outcomeOf, whole, settingsOk, answered}
 use Rattle.loose.specs.declared.Found.{Found}
-use Rattle.loose.specs.declared.Found.the-variants as found
+use Rattle.loose.specs.declared.Found.the-variants.{NotFound, IsFound}
 use Rattle.loose.specs.declared.Judged.{Judged}
-use Rattle.loose.specs.declared.Judged.the-variants as judged
+use Rattle.loose.specs.declared.Judged.the-variants.{Refuse, Fitting}
 
 -- a reading of the text `s` whose rows are those of its structured data by the rules
 pub record Drafts (s : List ℕ) (o : Outcome) (rules : Rules) (r : Record) (at e p : ℕ) : Type 0 where
@@ -26,8 +29,8 @@ pub record Drafts (s : List ℕ) (o : Outcome) (rules : Rules) (r : Record) (at 
   pub params-are : p ≡ length (rowsOr at (dataFrom rules s at) .params)
 
 abbrev pub findsOf : List ℕ → Outcome → Found → Type 0
-findsOf s o found.NotFound = o ≡ noReading
-findsOf s o (found.IsFound rules r at e p) = Drafts s o rules r at e p
+findsOf s o NotFound = o ≡ noReading
+findsOf s o (IsFound rules r at e p) = Drafts s o rules r at e p
 
 pub record Finds (s : List ℕ) (o : Outcome) (f : Found) : Type 0 where
   pub is : findsOf s o f
@@ -38,11 +41,6 @@ pub record Passes (line : List ℕ) (variant year : ℕ) (offset : ℤ) : Type 0
   pub settings : settingsOk variant year offset ≡ true
   pub text : isUtf8 line ≡ true
 
--- a refusal that both readers give
-pub record Refuses (line : List ℕ) (variant year : ℕ) (offset : ℤ) (e p : ℕ) (f : Refusal) : Type 0 where
-  pub exact : answered line variant year offset (outcomeOf line variant year offset) e p ≡ Refused f
-  pub fallback : answered line variant year offset (orWhole line (outcomeOf line variant year offset)) e p ≡ Refused f
-
 -- a reading that the tables of `e` and `p` entries have room for: the text ends at `end`
 pub record Fits (line : List ℕ) (variant year : ℕ) (offset : ℤ) (e p : ℕ) (rules : Rules) (r : Record) (end at n m : ℕ) : Type 0 where
   pub passes : Passes line variant year offset
@@ -51,15 +49,14 @@ pub record Fits (line : List ℕ) (variant year : ℕ) (offset : ℤ) (e p : ℕ
   pub elements-fit : n ≤ e
   pub params-fit : m ≤ p
 
--- no reading, and no refusal before
-pub record Unread (line : List ℕ) (variant year : ℕ) (offset : ℤ) : Type 0 where
-  pub passes : Passes line variant year offset
-  pub is : outcomeOf line variant year offset ≡ noReading
-
 abbrev pub judgesOf : List ℕ → ℕ → ℕ → ℤ → ℕ → ℕ → Judged → Type 0
-judgesOf line variant year offset e p (judged.Refuse f) = Refuses line variant year offset e p f
-judgesOf line variant year offset e p judged.NoDraft = Unread line variant year offset
-judgesOf line variant year offset e p (judged.Fitting rules r end at n m) = Fits line variant year offset e p rules r end at n m
+judgesOf line variant year offset e p (Refuse f) = answered line variant year offset (outcomeOf line variant year offset) e p ≡ Refused f
+judgesOf line variant year offset e p (Fitting rules r end at n m) = Fits line variant year offset e p rules r end at n m
 
 pub record Judges (line : List ℕ) (variant year : ℕ) (offset : ℤ) (e p : ℕ) (j : Judged) : Type 0 where
   pub is : judgesOf line variant year offset e p j
+
+-- the answer to a line of `len` bytes with the message whole in place of refusal 4
+abbrev pub orMessage : ℕ → Reading → Reading
+orMessage len (Read r e p) = Read r e p
+orMessage len (Refused f) = if eqb (refusalNumber f) 4 then Read (whole len) 0 0 else Refused f

@@ -16,7 +16,7 @@ ghost use lib.ListN.{length};
 ghost use Rattle.rfc3164.specs.Rfc3164.{rfc3164};
 ghost use Rattle.rfc5424.specs.Rfc5424.{rfc5424};
 ghost use Rattle.loose.specs.Loose.{byVariant, whole, settingsOk, ReadsExact, ReadsFallback};
-ghost use Rattle.loose.specs.Judging.{Finds, Passes, Judges};
+ghost use Rattle.loose.specs.Judging.{Finds, Passes, Judges, orMessage};
 
 // What a reader of lines found: the rules that its structured data is read by, the record, where the structured data stands, and the
 // counts of elements and parameters.
@@ -34,7 +34,6 @@ enum Found {
 // What is known of a line before a table is touched. `end` is where the trimmed line ends.
 enum Judged {
     Refuse(Refusal),
-    NoDraft,
     Fitting {
         rules: Rules,
         read: Record,
@@ -123,7 +122,7 @@ fn judge_text(line: &[u8], variant: u32, year: u32, offset: i32, e: usize, p: us
         params,
     } = by_variant(&line[0..end], ends.start, variant, year, offset)
     else {
-        return Judged::NoDraft;
+        return Judged::Refuse(Refusal::NoReading);
     };
     if e < elements {
         return Judged::Refuse(Refusal::TooManyElements);
@@ -157,6 +156,33 @@ fn judge(line: &[u8], variant: u32, year: u32, offset: i32, e: usize, p: usize) 
     judge_text(line, variant, year, offset, e, p)
 }
 
+// Loose exact reading: a line with no reading is refused.
+pub fn read_exact(
+    line: &[u8],
+    variant: u32,
+    year: u32,
+    offset: i32,
+    elements: &mut [[usize; 2]],
+    params: &mut [[usize; 5]],
+) -> Reading
+    ensures { λ r. ⌜ ReadsExact (now (line .entry)) variant year offset (now (elements .entry)) (now (params .entry)) r (now (elements .exit)) (now (params .exit)) ⌝ }
+{
+    match judge(line, variant, year, offset, elements.len(), params.len()) {
+        Judged::Refuse(refusal) => Reading::Refused(refusal),
+        Judged::Fitting {
+            rules,
+            read,
+            end,
+            at,
+            elements: e,
+            params: p,
+        } => {
+            structured_data::fill_data(rules, &line[0..end], at, e, p, elements, params);
+            Reading::Read(read, e, p)
+        }
+    }
+}
+
 // The line whole and untrimmed as the message.
 fn whole(len: usize) -> Record
     ensures { λ r. ⌜ r ≡ whole len ⌝ }
@@ -175,32 +201,17 @@ fn whole(len: usize) -> Record
     }
 }
 
-// Loose exact reading: a line with no reading is refused.
-pub fn read_exact(
-    line: &[u8],
-    variant: u32,
-    year: u32,
-    offset: i32,
-    elements: &mut [[usize; 2]],
-    params: &mut [[usize; 5]],
-) -> Reading
-    ensures { λ r. ⌜ ReadsExact (now (line .entry)) variant year offset (now (elements .entry)) (now (params .entry)) r (now (elements .exit)) (now (params .exit)) ⌝ }
+// The answer to a line of `len` bytes with the message whole in place of refusal 4.
+fn or_message(len: usize, r: Reading) -> Reading
+    ensures { λ x. ⌜ x ≡ orMessage len r ⌝ }
 {
-    match judge(line, variant, year, offset, elements.len(), params.len()) {
-        Judged::Refuse(refusal) => Reading::Refused(refusal),
-        Judged::NoDraft => Reading::Refused(Refusal::NoReading),
-        Judged::Fitting {
-            rules,
-            read,
-            end,
-            at,
-            elements: e,
-            params: p,
-        } => {
-            structured_data::fill_data(rules, &line[0..end], at, e, p, elements, params);
-            Reading::Read(read, e, p)
-        }
+    let Reading::Refused(refusal) = r else {
+        return r;
+    };
+    if record::refusal_number(refusal) == 4 {
+        return Reading::Read(whole(len), 0, 0);
     }
+    r
 }
 
 // Loose fallback reading: a line with no reading becomes the message.
@@ -214,19 +225,8 @@ pub fn read_fallback(
 ) -> Reading
     ensures { λ r. ⌜ ReadsFallback (now (line .entry)) variant year offset (now (elements .entry)) (now (params .entry)) r (now (elements .exit)) (now (params .exit)) ⌝ }
 {
-    match judge(line, variant, year, offset, elements.len(), params.len()) {
-        Judged::Refuse(refusal) => Reading::Refused(refusal),
-        Judged::NoDraft => Reading::Read(whole(line.len()), 0, 0),
-        Judged::Fitting {
-            rules,
-            read,
-            end,
-            at,
-            elements: e,
-            params: p,
-        } => {
-            structured_data::fill_data(rules, &line[0..end], at, e, p, elements, params);
-            Reading::Read(read, e, p)
-        }
-    }
+    or_message(
+        line.len(),
+        read_exact(line, variant, year, offset, elements, params),
+    )
 }

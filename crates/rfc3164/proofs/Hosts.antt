@@ -2,7 +2,7 @@
 use Prim.Native.Nat.{ℕ, _+_, _≤_}
 use mathlib.Core.Path.{_≡_, sym, ap, _∙_}
 use mathlib.Core.List.{List}
-use mathlib.Core.Bool.{true, false, not}
+use mathlib.Core.Bool.{Bool, true, false, not}
 use lib.ListN.{length}
 use borrow.Author.Tests.{not-true, not-false}
 use Rattle.base.specs.Choose.{if_then_else_}
@@ -19,39 +19,30 @@ use Rattle.rfc3164.specs.declared.Names.{Names}
 pub all-absent : (p : Place) → p ≡ absent → record { host = p; app = p; procid = p } ≡ noNames
 all-absent p e = rw e
 
-module _ (s : List ℕ) (host tag : Place) where
-  pub tag-absent : not (tag .present) ≡ true → (r : Names) → r ≡ noNames → r ≡ (if tag .present then withTag host tag (splitOf s tag) else noNames)
-  tag-absent h r q = q ∙ rw (not-true (tag .present) h)
+-- a field `-`
+pub dash-names : (b : Bool) (x r : Names) → not b ≡ true → r ≡ noNames → r ≡ (if b then x else noNames)
+dash-names b x r h q = q ∙ rw (not-true b h)
 
-  module _ (h : not (tag .present) ≡ false) (g : Split) (e : g ≡ splitOf s tag) where
-    tag-by : (x : Split) → g ≡ x → withTag host tag x ≡ (if tag .present then withTag host tag (splitOf s tag) else noNames)
-    tag-by x z = ap (withTag host tag) (sym z ∙ e) ∙ rw (not-false (tag .present) h)
+-- any other field, by its split
+module _ (s : List ℕ) (f : Place) (h : not (f .present) ≡ false) (g : Split) (e : g ≡ splitOf s f) where
+  names-by : (k : Split → Names) (x : Split) → g ≡ x → k x ≡ (if f .present then k (splitOf s f) else noNames)
+  names-by k x z = ap k (sym z ∙ e) ∙ rw (not-false (f .present) h)
 
-    pub tag-whole : g ≡ Whole → (n : Place) → n ≡ absent
-        → record { host = host; app = tag; procid = n } ≡ (if tag .present then withTag host tag (splitOf s tag) else noNames)
-    tag-whole z n en = rw en (tag-by Whole z)
+  module _ (n : Place) (en : n ≡ absent) (z : g ≡ Whole) where
+    pub tag-whole : (host : Place) → record { host = host; app = f; procid = n } ≡ (if f .present then withTag host f (splitOf s f) else noNames)
+    tag-whole host = rw en (names-by (withTag host f) Whole z)
 
-    pub tag-parts : (a p : ℕ) → g ≡ Parts a p → (x y : Place) → x ≡ place (tag .start) a → y ≡ place (tag .start + a + 1) p
-        → record { host = host; app = x; procid = y } ≡ (if tag .present then withTag host tag (splitOf s tag) else noNames)
-    tag-parts a p z x y ex ey = rw (ex, ey) (tag-by (Parts a p) z)
+    pub field-whole : record { host = f; app = n; procid = n } ≡ (if f .present then onlyField f (splitOf s f) else noNames)
+    field-whole = rw en (names-by (onlyField f) Whole z)
 
-module _ (s : List ℕ) (field : Place) where
-  pub field-absent : not (field .present) ≡ true → (r : Names) → r ≡ noNames → r ≡ (if field .present then onlyField field (splitOf s field) else noNames)
-  field-absent h r q = q ∙ rw (not-true (field .present) h)
+  module _ (a p : ℕ) (z : g ≡ Parts a p) (x y : Place) (ex : x ≡ place (f .start) a) (ey : y ≡ place (f .start + a + 1) p) where
+    pub tag-parts : (host : Place) → record { host = host; app = x; procid = y } ≡ (if f .present then withTag host f (splitOf s f) else noNames)
+    tag-parts host = rw (ex, ey) (names-by (withTag host f) (Parts a p) z)
 
-  module _ (h : not (field .present) ≡ false) (g : Split) (e : g ≡ splitOf s field) (n : Place) (en : n ≡ absent) where
-    field-by : (x : Split) → g ≡ x → onlyField field x ≡ (if field .present then onlyField field (splitOf s field) else noNames)
-    field-by x z = ap (onlyField field) (sym z ∙ e) ∙ rw (not-false (field .present) h)
+    pub field-parts : (n : Place) → n ≡ absent → record { host = n; app = x; procid = y } ≡ (if f .present then onlyField f (splitOf s f) else noNames)
+    field-parts n en = rw (en, ex, ey) (names-by (onlyField f) (Parts a p) z)
 
-    pub field-whole : g ≡ Whole
-        → record { host = field; app = n; procid = n } ≡ (if field .present then onlyField field (splitOf s field) else noNames)
-    field-whole z = rw en (field-by Whole z)
-
-    pub field-parts : (a p : ℕ) → g ≡ Parts a p → (x y : Place) → x ≡ place (field .start) a → y ≡ place (field .start + a + 1) p
-        → record { host = n; app = x; procid = y } ≡ (if field .present then onlyField field (splitOf s field) else noNames)
-    field-parts a p z x y ex ey = rw (en, ex, ey) (field-by (Parts a p) z)
-
-pub ruleset names-laws = (tag-absent, tag-whole, tag-parts, field-absent, field-whole, field-parts)
+pub ruleset names-laws = (dash-names, tag-whole, tag-parts, field-whole, field-parts)
 
 pub place-within : (s : List ℕ) (f : Field) (p : Place) (n : ℕ) → f ≡ IsField p n → FieldWithin s f → p .start + p .len ≤ length s
 place-within s f p n e w = rw e at w

@@ -9,9 +9,6 @@ judge-requires c κs = search needs
 enum-known-refusal : tie.Need-enum-known-refusal
 enum-known-refusal c = search needs
 
-enum-told : tie.Need-enum-told
-enum-told c = search needs
-
 enum-known-rules : tie.Need-enum-known-rules
 enum-known-rules c = search needs
 
@@ -30,17 +27,14 @@ fill-data-requires c κs = search (exact-laws, needs)
 returns : tie.Need-returns
 returns c = search (exact-laws, needs)
 
-returns-2 : tie.Need-returns-2
-returns-2 c = search (exact-laws, needs)
-
 same-length : tie.Need-same-length
 same-length c = search needs
 
 same-length-2 : tie.Need-same-length-2
 same-length-2 c = search needs
 
-returns-3 : tie.Need-returns-3
-returns-3 c = search (exact-laws, needs)
+returns-2 : tie.Need-returns-2
+returns-2 c = search (exact-laws, needs)
 
 pub read-exact-spec : {M : Type 1} → statement M
 read-exact-spec =
@@ -48,14 +42,12 @@ read-exact-spec =
     (tie.spec
     judge-requires
     enum-known-refusal
-    enum-told
     enum-known-rules
     sub-fill-data
     part-fill-data-start
     part-fill-data-end
     fill-data-requires
     returns
-    returns-2
     same-length
     same-length-2
-    returns-3)
+    returns-2)
