@@ -2,3 +2,5 @@ pub mod Settings
 pub mod Variants
 pub mod Judging
 pub mod Readings
+pub mod Determined
+pub mod Examples

@@ -66,18 +66,14 @@ module _ (line : List ℕ) (variant year : ℕ) (o : ℤ) (f : SFits w32 o) (e�
 pub ruleset exact-laws = (exact-refused, part-ends, tables-room, exact-read)
 
 -- The message whole in place of refusal 4
-module _ (len : ℕ) (r : Reading) where
-  pub message-read : (x : Record) (n m : ℕ) → r ≡ Read x n m → r ≡ orMessage len r
-  message-read x n m z = rw z
+module _ (len : ℕ) (r : Reading) (f : Refusal) (z : r ≡ Refused f) (k : ℕ) (e : k ≡ refusalNumber f) where
+  pub message-whole : k ≡ 4 → (x : Record) → x ≡ whole len → Read x 0 0 ≡ orMessage len r
+  message-whole q x w = rw (z, ← e, q, w)
 
-  module _ (f : Refusal) (z : r ≡ Refused f) (k : ℕ) (e : k ≡ refusalNumber f) where
-    pub message-whole : k ≡ 4 → (x : Record) → x ≡ whole len → Read x 0 0 ≡ orMessage len r
-    message-whole q x w = rw (z, ← e, q, w)
+  pub message-refused : (k ≡ 4 → ⊥) → Refused f ≡ orMessage len r
+  message-refused q = rw (z, ← e, ne-eqb k 4 q)
 
-    pub message-refused : (k ≡ 4 → ⊥) → Refused f ≡ orMessage len r
-    message-refused q = rw (z, ← e, ne-eqb k 4 q)
-
-pub ruleset message-laws = (message-read, message-whole, message-refused)
+pub ruleset message-laws = (message-whole, message-refused)
 
 -- No other refusal has number 4, so that the fallback reader differs from the exact one where there is no reading alone.
 module _ (len : ℕ) where
