@@ -11,7 +11,7 @@ use Rattle.base.specs.Choose.{if_then_else_}
 use Rattle.base.proofs.Tests.{by-test}
 use Rattle.output.specs.Output.{Wrote}
 use Rattle.output.specs.Fits.{Fits}
-use Rattle.output.specs.Numerals.{fixed, widthFrom}
+use Rattle.output.specs.Numerals.{fixed, widthFrom, width, numeral}
 use Rattle.output.proofs.Writes.{Owes, owes-less, owes-none}
 
 pub length-fixed : (k n : ℕ) → length (fixed k n) ≡ k
@@ -63,3 +63,7 @@ width-le zero n = omega arith
 width-le (suc f) n =
     let l = width-le f (n / 10) in
     by-test (λ b. (if b then 1 else suc (widthFrom f (n / 10))) ≤ suc (suc f)) (ltb n 10) (λ e. omega arith) (λ e. omega arith)
+
+-- a numeral, its width found
+pub numeral-is : (k n : ℕ) → k ≡ width n → fixed k n ≡ numeral n
+numeral-is k n e = rw e

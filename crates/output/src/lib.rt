@@ -3,7 +3,7 @@ ghost use mathlib.Core.Path.{_≡_};
 ghost use mathlib.Core.List.{[], _∷_};
 ghost use Rattle.output.specs.Output.{Wrote};
 ghost use Rattle.output.specs.Fits.{Fits};
-ghost use Rattle.output.specs.Numerals.{fixed, width};
+ghost use Rattle.output.specs.Numerals.{fixed, width, numeral};
 
 pub fn put(out: &mut [u8], at: usize, b: u8) -> usize
     requires { ⌜ Fits (now out) at (b ∷ []) ⌝ }
@@ -72,4 +72,12 @@ pub fn digits_of(n: u32) -> usize
         return 9;
     }
     10
+}
+
+// A number in as few digits as it has.
+pub fn put_number(out: &mut [u8], at: usize, n: u32) -> usize
+    requires { ⌜ Fits (now out) at (numeral n) ⌝ }
+    ensures { λ r. ⌜ Wrote (now (out .entry)) at (numeral n) r (now (out .exit)) ⌝ }
+{
+    put_fixed(out, at, digits_of(n), n)
 }

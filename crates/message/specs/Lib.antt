@@ -1,0 +1,4 @@
+pub mod Message
+pub mod Prints
+pub mod Opens
+pub mod Rooms
