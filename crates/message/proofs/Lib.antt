@@ -3,3 +3,5 @@ pub mod Rooms
 pub mod Walks
 pub mod Lengths
 pub mod Answers
+pub mod Laws
+mod Examples

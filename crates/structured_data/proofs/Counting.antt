@@ -14,15 +14,15 @@ use Rattle.base.proofs.Parts.{at-below}
 use Rattle.structured_data.specs.Data.{Rows, endAt, dataFrom}
 use Rattle.structured_data.specs.Data.Data.{noData, isData}
 use Rattle.structured_data.specs.Outcome.{countsOf}
-use Rattle.structured_data.specs.Steps.{walkFrom, openFrom, Closes, Turns}
+use Rattle.structured_data.specs.Steps.{openFrom, Ends, Dead, Closes, Turns}
 use Rattle.structured_data.specs.declared.Rules.{Rules}
 use Rattle.structured_data.specs.declared.Open.{Open}
 use Rattle.structured_data.specs.declared.Walk.{Walk}
 use Rattle.structured_data.specs.declared.Turn.{Turn}
 use Rattle.structured_data.specs.declared.Counts.{Counts}
 use Rattle.structured_data.specs.declared.Counts.the-variants.{NoData, IsData}
-use Rattle.structured_data.proofs.Elements.{opens}
 use Rattle.structured_data.proofs.Lists.{left, paramRows, Follows, follows}
+use Rattle.structured_data.proofs.Turning.{dead-none, stops-there}
 
 -- The counts of a list that goes from `at` to `next`
 module _ (at e p next : ℕ) where
@@ -43,15 +43,9 @@ module _ (rules : Rules) (s : List ℕ) (at : ℕ) (d : Bool) (ed : d ≡ isAt s
   pub dash-fits : length s < 2 ^ 64 → Fits w64 (at + 1)
   dash-fits l = record { fits = omega (arith, at-below s at 44 (sym ed ∙ hd)) }
 
--- What `walk_params` and `turn_from` require
-module _ (s : List ℕ) (i : ℕ) (o : Open) (eo : o ≡ openFrom s i) where
-  pub start-within : o .start ≤ length s
-  start-within = rw eo (opens s i .start-within)
-
-  pub closes : (w : Walk) → w ≡ walkFrom s (o .start) → Closes s i (o .id) w
-  closes w ew =
-      let q : w ≡ walkFrom s (openFrom s i .start) = ew ∙ ap (λ (o : Open). walkFrom s (o .start)) eo in
-      record { named = ap (λ (o : Open). o .id) eo; whole = λ h. q; fails = λ h. rw q at h }
+-- What `turn_from` requires
+pub closes : (s : List ℕ) (i dead : ℕ) (o : Open) → o ≡ openFrom s i → (w : Walk) → Ends s (o .start) w → Dead s i dead → Closes s i (o .id) w dead
+closes s i dead o eo w d a = record { named = ap (λ (o : Open). o .id) eo; ends = rw eo at d; alive = a }
 
 -- Counted so far, up to position `i`: `e` elements and `p` parameters
 pub record Counted (rules : Rules) (s : List ℕ) (at e p i : ℕ) : Type 0 where
@@ -78,7 +72,7 @@ counts-if true x = refl
 counts-if false x = refl
 
 module _ (rules : Rules) (s : List ℕ) (at e p i : ℕ) (c : Counted rules s at e p i) where
-  on : (r : Turn) → (r .next ≡ i → ⊥) → Follows rules s e i r → On rules s at e p i r
+  on : (r : Turn) → (r .next ≡ i → ⊥) → Follows rules s e i (r .dead) r → On rules s at e p i r
   on r z (Follows.ends q l) = absurd (z (ap (λ (r : Turn). r .next) q))
   on r z (Follows.skips next q h l f) =
       let e₀ : e + 0 ≡ e = omega arith in
@@ -118,7 +112,7 @@ module _ (rules : Rules) (s : List ℕ) (at e p i : ℕ) (c : Counted rules s at
   module _ (r : Turn) (t : Turns rules s i r) where
     module _ (z : r .next ≡ i → ⊥) where
       turned : On rules s at e p i r
-      turned = on r z (follows rules s e i r (t .is e))
+      turned = on r z (follows rules s e i (r .dead) r (t .is e))
 
       pub elements-fit : length s < 2 ^ 64 → Fits w64 (e + r .elements)
       elements-fit l = record { fits = omega (arith, c .elements-few, turned .further, turned .within-s, turned .few) }
@@ -133,7 +127,7 @@ module _ (rules : Rules) (s : List ℕ) (at e p i : ℕ) (c : Counted rules s at
       counted-on = turned .counted
 
     -- the list ends
-    ended : (r : Turn) → r .next ≡ i → Follows rules s e i r → left rules s e i ≡ endAt i
+    ended : (r : Turn) → r .next ≡ i → Follows rules s e i (r .dead) r → left rules s e i ≡ endAt i
     ended r z (Follows.ends q l) = l
     ended r z (Follows.skips next q h l f) = absurd (omega (arith, z, ap (λ (r : Turn). r .next) q))
     ended r z (Follows.takes next q h l f) = absurd (omega (arith, z, ap (λ (r : Turn). r .next) q))
@@ -143,10 +137,10 @@ module _ (rules : Rules) (s : List ℕ) (at e p i : ℕ) (c : Counted rules s at
         → x ≡ countsOf (dataFrom rules s at)
     unfolding dataFrom
     counted-all d ed hd z x ex =
-        let f = ended r z (follows rules s e i r (t .is e)) in
+        let f = ended r z (follows rules s e i (r .dead) r (t .is e)) in
         let l : length (left rules s 0 at .elements) ≡ e = c .elements-are ∙ ap (λ (x : Rows). e + length (x .elements)) f ∙ omega arith in
         let k : length (left rules s 0 at .params) ≡ p = c .params-are ∙ ap (λ (x : Rows). p + length (x .params)) f ∙ omega arith in
         let n : left rules s 0 at .next ≡ i = c .next-is ∙ ap (λ (x : Rows). x .next) f in
         ex ∙ sym (rw (← ed, hd) (counts-if (eqb (left rules s 0 at .next) at) (left rules s 0 at) ∙ rw (l, k, n)))
 
-pub ruleset count-laws = (data-dash, dash-fits, start-within, closes, counted-none, elements-fit, params-fit, count-less, counted-on, counted-all)
+pub ruleset count-laws = (data-dash, dash-fits, dead-none, stops-there, closes, counted-none, elements-fit, params-fit, count-less, counted-on, counted-all)

@@ -3,9 +3,10 @@ use Prim.Native.Nat.{ℕ, _+_, _-_, _^_, _≤_, _<_}
 use mathlib.Core.Path.{_≡_, refl, sym, ap, _∙_}
 use mathlib.Core.Bool.{Bool, true, false, not, _&&_}
 use mathlib.Core.List.{List, [], _∷_}
+use native.Mathlib.Decide.{decLe}
 use native.Mathlib.Omega.{arith}
 use lib.Dec.{leb, eqb}
-use lib.ListN.{length, drop, length-drop}
+use lib.ListN.{length, getD, drop, length-drop}
 use lib.Seq.{drop-drop, getD-drop}
 use mir.Syntax.{w64}
 use mir.Val.{Fits}
@@ -15,16 +16,15 @@ use Rattle.base.specs.Runs.{run}
 use Rattle.base.proofs.Parts.{at-below}
 use Rattle.parsers.specs.Steps.{isBlank, blanksFrom}
 use Rattle.parsers.proofs.Steps.{blanks-within}
+use Rattle.structured_data.specs.Param.{isNamed}
 use Rattle.structured_data.specs.Element.{Params, Element, idLen, paramsFrom, elementFrom}
 use Rattle.structured_data.specs.Element.Element.{noElement, isElement}
 use Rattle.structured_data.specs.Steps.{openFrom}
 use Rattle.structured_data.specs.declared.Open.{Open}
-use Rattle.structured_data.proofs.Ids.{id-le}
+use Rattle.structured_data.proofs.Params.{at-part, unbracket}
+use Rattle.structured_data.proofs.Loops.{run-in}
+use Rattle.structured_data.proofs.Ids.{id-le, id-named}
 use Rattle.structured_data.proofs.Walks.{params-reach}
-
--- a byte of the part that starts at `at`
-pub at-part : (s : List ℕ) (at i b : ℕ) → isAt (drop at s) i b ≡ isAt s (at + i) b
-at-part s at i b = ap (λ (k : ℕ). eqb k b) (getD-drop at s i 0)
 
 -- the position behind a `]` that is there
 pub closed-fits : (s : List ℕ) (i : ℕ) (d : Bool) → d ≡ isAt s i 93 → not d ≡ false → length s < 2 ^ 64 → Fits w64 (i + 1)
@@ -81,11 +81,31 @@ module _ (s : List ℕ) (at : ℕ) (b : Bool) (eb : b ≡ isAt s at 91) where
 
 pub ruleset open-laws = (open-none, behind-open, open-fits, open-no-id, behind-id, id-fits, open-found)
 
--- the parameters start in the line, behind the id
+-- the parameters start in the line, behind the id, and no `]` stands before them
 pub record Opens (s : List ℕ) (at : ℕ) (o : Open) : Type 0 where
   pub start-within : o .start ≤ length s
-  pub start-behind : (o .id ≡ 0 → ⊥) → at < o .start
   pub start-none : o .id ≡ 0 → o .start ≡ length s
+  pub start-behind : (o .id ≡ 0 → ⊥) → at < o .start
+  pub unclosed : (o .id ≡ 0 → ⊥) → (r : ℕ) → at ≤ r → r < o .start → isAt s r 93 ≡ false
+
+-- a byte of a run that starts at `at`
+run-at : (p : ℕ → Bool) (s : List ℕ) (at r : ℕ) → at ≤ r → p (getD (drop at s) (r - at) 0) ≡ true → p (getD s r 0) ≡ true
+run-at p s at r h q =
+    let e : at + (r - at) ≡ r = omega arith in
+    ap p (ap (λ (k : ℕ). getD s k 0) (sym e) ∙ sym (getD-drop at s (r - at) 0)) ∙ q
+
+front-unclosed : (s : List ℕ) (at r : ℕ) → isAt s at 91 ≡ true → at ≤ r → r < blanksFrom s (at + 1 + idLen (drop (at + 1) s)) → isAt s r 93 ≡ false
+front-unclosed s at r p h l = go (decLe r at) (decLe (at + 1 + idLen (drop (at + 1) s)) r)
+  where
+    n : ℕ
+    n = idLen (drop (at + 1) s)
+
+    go : Dec (r ≤ at) → Dec (at + 1 + n ≤ r) → isAt s r 93 ≡ false
+    go (yes i) _ = let e : r ≡ at = omega arith in rw e (unbracket (λ b. eqb b 91) refl s at p)
+    go (no i) (no j) = unbracket isNamed refl s r (run-at isNamed s (at + 1) r (omega arith) (id-named (drop (at + 1) s) (r - (at + 1)) (omega arith)))
+    go (no i) (yes j) =
+        unbracket isBlank refl s r
+        (run-at isBlank s (at + 1 + n) r j (run-in isBlank (drop (at + 1 + n) s) (r - (at + 1 + n)) (omega arith)))
 
 pub opens : (s : List ℕ) (at : ℕ) → Opens s at (openFrom s at)
 unfolding openFrom
@@ -94,16 +114,21 @@ opens s at = go (isAt s at 91) (leb 1 n) refl refl
     n : ℕ
     n = idLen (drop (at + 1) s)
 
-    go : (b c : Bool) → isAt s at 91 ≡ b → leb 1 n ≡ c → Opens s at (if b && c then record { id = n; start = blanksFrom s (at + 1 + n) } else record { id = 0; start = length s })
+    none : Opens s at (record { id = 0; start = length s })
+    none = record { start-within = omega arith; start-none = λ z. refl; start-behind = λ z. absurd (z refl); unclosed = λ z. absurd (z refl) }
+
+    go : (b c : Bool) → isAt s at 91 ≡ b → leb 1 n ≡ c
+        → Opens s at (if b && c then record { id = n; start = blanksFrom s (at + 1 + n) } else record { id = 0; start = length s })
     go true true p q =
         let h = at-below s at 90 p in
         record {
           start-within = blanks-within s (at + 1 + n) _ refl (omega (arith, id-le (drop (at + 1) s), length-drop (at + 1) s));
-          start-behind = λ z. omega arith;
           start-none = λ z. absurd (omega (arith, leb-true 1 n q));
+          start-behind = λ z. omega arith;
+          unclosed = λ z r. front-unclosed s at r p;
         }
-    go true false p q = record { start-within = omega arith; start-behind = λ z. absurd (z refl); start-none = λ z. refl }
-    go false c p q = record { start-within = omega arith; start-behind = λ z. absurd (z refl); start-none = λ z. refl }
+    go true false p q = none
+    go false c p q = none
 
 -- Element `e`, from its front and its parameters
 abbrev pub elementOf : ℕ → List ℕ → ℕ → Open → Element

@@ -1,5 +1,5 @@
 -- The id of an element: how far it goes, and the loop that counts it.
-use Prim.Native.Nat.{ℕ, suc, _+_, _-_, _≤_, _<_}
+use Prim.Native.Nat.{ℕ, zero, suc, _+_, _-_, _≤_, _<_}
 use mathlib.Core.Path.{_≡_, refl, sym, ap, _∙_}
 use mathlib.Core.Bool.{Bool, true, false, not, _&&_}
 use mathlib.Core.List.{List, [], _∷_}
@@ -67,3 +67,14 @@ module _ (s : List ℕ) (i : ℕ) (inv : idLen s ≡ i + idLen (drop i s)) where
           omega arith
 
 pub ruleset id-laws = (id-out, id-off, id-at-white, id-on)
+
+-- no byte of an id is `]` or `=`
+pub id-named : (s : List ℕ) (k : ℕ) → k < idLen s → isNamed (getD s k 0) ≡ true
+unfolding idLen
+id-named [] k h = absurd (omega arith)
+id-named (b ∷ s) zero h =
+    by-test (λ t. t ≡ true) (isNamed b) (λ q. refl) (λ q. absurd (omega (arith, id-stops b s q)))
+id-named (b ∷ s) (suc k) h =
+    by-test (λ _. isNamed (getD s k 0) ≡ true) (eqb (whiteLen (b ∷ s)) 0 && isNamed b)
+    (λ q. let m : idLen (b ∷ s) ≡ suc (idLen s) = rw q in id-named s k (omega arith))
+    (λ q. let m : idLen (b ∷ s) ≡ 0 = rw q in absurd (omega arith))

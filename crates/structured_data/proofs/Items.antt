@@ -1,8 +1,8 @@
--- A step over the list of elements: what follows an element that fails, and one that is there.
+-- The item at a position: what follows an element that fails, and one that is there.
 use Prim.Native.Nat.{ℕ, _+_, _^_, _≤_, _<_}
 use mathlib.Core.Path.{_≡_, refl, sym, ap, _∙_}
 use mathlib.Core.Bool.{Bool, true, false, not, _&&_}
-use mathlib.Core.List.{List, [], _∷_}
+use mathlib.Core.List.{List}
 use native.Mathlib.Omega.{arith}
 use lib.Dec.{leb, eqb}
 use lib.ListN.{length, drop, length-drop}
@@ -18,14 +18,14 @@ use Rattle.structured_data.specs.Element.{paramsFrom}
 use Rattle.structured_data.specs.Element.Element.{noElement, isElement}
 use Rattle.structured_data.specs.Data.{itemOf, itemFrom}
 use Rattle.structured_data.specs.Data.Item.{taken, skipped, ended}
-use Rattle.structured_data.specs.Steps.{walkFrom, openFrom, endsList, isInside, turnOf, Closes, Turns}
+use Rattle.structured_data.specs.Steps.{walkFrom, openFrom, endsList, isInside, turnOf}
 use Rattle.structured_data.specs.declared.Rules.{Rules}
 use Rattle.structured_data.specs.declared.Rules.the-variants.{Rfc3164Rules, Rfc5424Rules}
 use Rattle.structured_data.specs.declared.Open.{Open}
-use Rattle.structured_data.specs.declared.Turn.{Turn}
 use Rattle.structured_data.specs.declared.Walk.{Walk}
 use Rattle.structured_data.proofs.Walks.{params-any}
-use Rattle.structured_data.proofs.Elements.{at-part, closed-fits, elementOf, element-is}
+use Rattle.structured_data.proofs.Params.{at-part}
+use Rattle.structured_data.proofs.Elements.{closed-fits, elementOf, element-is}
 
 -- What follows an element that fails: by the rules of RFC 5424 lines, by positions of the line
 pub failed-5424 : (rules : Rules) (s : List ℕ) (at : ℕ) → endsList rules ≡ false
@@ -40,12 +40,12 @@ failed-3164 : (rules : Rules) (at : ℕ) (t : List ℕ) → endsList rules ≡ t
 failed-3164 Rfc3164Rules at t h = refl
 failed-3164 Rfc5424Rules at t h = clash (sym h)
 
-module _ (rules : Rules) (s : List ℕ) (at : ℕ) (t : Bool) (et : t ≡ endsList rules) where
-  pub skip-none : t ≡ true → record { elements = 0; params = 0; next = at } ≡ turnOf at (itemOf rules at (drop at s) noElement)
+module _ (rules : Rules) (s : List ℕ) (at dead : ℕ) (t : Bool) (et : t ≡ endsList rules) where
+  pub skip-none : t ≡ true → record { elements = 0; params = 0; next = at; dead = dead } ≡ turnOf at dead (itemOf rules at (drop at s) noElement)
   skip-none h = rw (failed-3164 rules at (drop at s) (sym et ∙ h))
 
   module _ (ht : t ≡ false) (b : Bool) (eb : b ≡ isAt s at 91) where
-    pub skip-unopened : not b ≡ true → record { elements = 0; params = 0; next = at } ≡ turnOf at (itemOf rules at (drop at s) noElement)
+    pub skip-unopened : not b ≡ true → record { elements = 0; params = 0; next = at; dead = dead } ≡ turnOf at dead (itemOf rules at (drop at s) noElement)
     skip-unopened h = rw (failed-5424 rules s at (sym et ∙ ht), ← eb, not-true b h)
 
     module _ (hb : not b ≡ false) where
@@ -60,27 +60,27 @@ module _ (rules : Rules) (s : List ℕ) (at : ℕ) (t : Bool) (et : t ≡ endsLi
         inside-fits l = record { fits = omega (arith, inside, open-within, run-le isInside (drop at s), length-drop at s) }
 
         module _ (d : Bool) (ed : d ≡ isAt s (at + n) 93) where
-          pub skip-unclosed : not d ≡ true → record { elements = 0; params = 0; next = at } ≡ turnOf at (itemOf rules at (drop at s) noElement)
+          pub skip-unclosed : not d ≡ true → record { elements = 0; params = 0; next = at; dead = dead } ≡ turnOf at dead (itemOf rules at (drop at s) noElement)
           skip-unclosed h = rw (failed-5424 rules s at (sym et ∙ ht), ← eb, not-false b hb, ← inside, ← ed, not-true d h)
 
-          pub skip-past : not d ≡ false → record { elements = 0; params = 0; next = at + n + 1 } ≡ turnOf at (itemOf rules at (drop at s) noElement)
+          pub skip-past : not d ≡ false → record { elements = 0; params = 0; next = at + n + 1; dead = dead } ≡ turnOf at dead (itemOf rules at (drop at s) noElement)
           skip-past h = rw (failed-5424 rules s at (sym et ∙ ht), ← eb, not-false b hb, ← inside, ← ed, not-false d h)
 
 pub ruleset skip-laws = (skip-none, skip-unopened, open-within, inside-fits, skip-unclosed, closed-fits, skip-past)
 
 -- What follows an element that is there, with `count` parameters
-taken-is : (rules : Rules) (at count : ℕ) (t row : List ℕ) (ps : List (List ℕ)) (next : ℕ) → length ps ≡ count → (endsList rules && eqb count 0) ≡ false
+pub taken-is : (rules : Rules) (at count : ℕ) (t row : List ℕ) (ps : List (List ℕ)) (next : ℕ) → length ps ≡ count → (endsList rules && eqb count 0) ≡ false
     → itemOf rules at t (isElement row ps next) ≡ taken row ps next
 taken-is Rfc5424Rules at count t row ps next e h = refl
 taken-is Rfc3164Rules at count t row ps next e h = rw (le-leb 1 (length ps) (let z : count ≡ 0 → ⊥ = eqb-false count 0 h in omega arith))
 
-ended-is : (rules : Rules) (at count : ℕ) (t row : List ℕ) (ps : List (List ℕ)) (next : ℕ) → length ps ≡ count → (endsList rules && eqb count 0) ≡ true
+pub ended-is : (rules : Rules) (at count : ℕ) (t row : List ℕ) (ps : List (List ℕ)) (next : ℕ) → length ps ≡ count → (endsList rules && eqb count 0) ≡ true
     → itemOf rules at t (isElement row ps next) ≡ ended
 ended-is Rfc5424Rules at count t row ps next e h = clash (sym h)
 ended-is Rfc3164Rules at count t row ps next e h = rw (e, eqb-true count 0 h)
 
 -- The walk from position `start`, for element `e`
-walk-is : (e : ℕ) (s : List ℕ) (start : ℕ) (w : Walk) → w ≡ walkFrom s start
+pub walk-is : (e : ℕ) (s : List ℕ) (start : ℕ) (w : Walk) → w ≡ walkFrom s start
     → (length (paramsFrom e start (drop start s) .rows) ≡ w .count) × (paramsFrom e start (drop start s) .next ≡ w .next)
 walk-is e s start w q =
     let p = params-any e start (drop start s) ∙ sym q in
@@ -91,46 +91,9 @@ and-false true = refl
 and-false false = refl
 
 -- an element that does not close fails
-unclosed : (e : ℕ) (s : List ℕ) (at : ℕ) (o : Open) → isAt s (walkFrom s (o .start) .next) 93 ≡ false → elementOf e s at o ≡ noElement
+pub unclosed : (e : ℕ) (s : List ℕ) (at : ℕ) (o : Open) → isAt s (walkFrom s (o .start) .next) 93 ≡ false → elementOf e s at o ≡ noElement
 unclosed e s at o h = rw (walk-is e s (o .start) _ refl .1, h, and-false (leb 1 (o .id)))
 
 pub item-is : (rules : Rules) (s : List ℕ) (at e : ℕ) → itemFrom rules e at (drop at s) ≡ itemOf rules at (drop at s) (elementOf e s at (openFrom s at))
 unfolding itemFrom
 item-is rules s at e = ap (itemOf rules at (drop at s)) (element-is e s at)
-
-module _ (rules : Rules) (s : List ℕ) (at id : ℕ) (w : Walk) (c : Closes s at id w) where
-  module _ (r : Turn) (er : r ≡ turnOf at (itemOf rules at (drop at s) noElement)) where
-    pub turn-no-id : id ≡ 0 → Turns rules s at r
-    turn-no-id z = record { is = λ e. er ∙ sym (rw (item-is rules s at e, sym (c .named) ∙ z)) }
-
-    pub turn-unclosed : (d : Bool) → d ≡ isAt s (w .next) 93 → not d ≡ true → Turns rules s at r
-    turn-unclosed d ed h =
-        record { is = λ e. er ∙ sym (rw (item-is rules s at e, unclosed e s at (openFrom s at) (c .fails (sym ed ∙ not-true d h)))) }
-
-  module _ (z : id ≡ 0 → ⊥) (d : Bool) (ed : d ≡ isAt s (w .next) 93) (hd : not d ≡ false) where
-    whole : w ≡ walkFrom s (openFrom s at .start)
-    whole = c .whole (sym ed ∙ not-false d hd)
-
-    is-there : (e : ℕ) → elementOf e s at (openFrom s at)
-        ≡ isElement ((at + 1) ∷ openFrom s at .id ∷ []) (paramsFrom e (openFrom s at .start) (drop (openFrom s at .start) s) .rows) (w .next + 1)
-    is-there e =
-        rw (walk-is e s (openFrom s at .start) w whole .1, ← ed, not-false d hd, le-leb 1 (openFrom s at .id) (let n : id ≡ openFrom s at .id = c .named in omega arith))
-
-    module _ (t : Bool) (et : t ≡ endsList rules) where
-      pub turn-empty : (t && eqb (w .count) 0) ≡ true → Turns rules s at (record { elements = 0; params = 0; next = at })
-      turn-empty h =
-          record {
-            is = λ e.
-                sym
-                (rw (item-is rules s at e, is-there e, ended-is rules at (w .count) (drop at s) _ _ (w .next + 1) (walk-is e s (openFrom s at .start) w whole .0) (rw (← et) h)));
-          }
-
-      pub turn-taken : (t && eqb (w .count) 0) ≡ false → Turns rules s at (record { elements = 1; params = w .count; next = w .next + 1 })
-      turn-taken h =
-          record {
-            is = λ e.
-                sym
-                (rw (item-is rules s at e, is-there e, taken-is rules at (w .count) (drop at s) _ _ (w .next + 1) (walk-is e s (openFrom s at .start) w whole .0) (rw (← et) h), walk-is e s (openFrom s at .start) w whole .0));
-          }
-
-pub ruleset turn-laws = (turn-no-id, turn-unclosed, turn-empty, closed-fits, turn-taken)

@@ -3,11 +3,12 @@ pub mod Values
 pub mod Params
 pub mod Ids
 pub mod Walks
+pub mod Tables
+pub mod Entries
 pub mod Elements
 pub mod Items
 pub mod Lists
+pub mod Turning
 pub mod Counting
-pub mod Entries
-pub mod Tables
 pub mod Filling
 pub mod Examples

@@ -106,22 +106,22 @@ module _ (rules : Rules) where
     over e h = rw (drop-end s i h)
 
 -- What a turn says of the list
-pub data Follows (rules : Rules) (s : List ℕ) (e i : ℕ) (r : Turn) : Type 0 where
-  ends : r ≡ record { elements = 0; params = 0; next = i } → left rules s e i ≡ endAt i → Follows rules s e i r
-  skips : (next : ℕ) → r ≡ record { elements = 0; params = 0; next = next } → i < next → next ≤ length s
+pub data Follows (rules : Rules) (s : List ℕ) (e i dead : ℕ) (r : Turn) : Type 0 where
+  ends : r ≡ record { elements = 0; params = 0; next = i; dead = dead } → left rules s e i ≡ endAt i → Follows rules s e i dead r
+  skips : (next : ℕ) → r ≡ record { elements = 0; params = 0; next = next; dead = dead } → i < next → next ≤ length s
       → left rules s e i ≡ left rules s e next
-      → Follows rules s e i r
-  takes : (next : ℕ) → r ≡ record { elements = 1; params = length (paramRows s e i); next = next } → i + length (paramRows s e i) < next → next ≤ length s
+      → Follows rules s e i dead r
+  takes : (next : ℕ) → r ≡ record { elements = 1; params = length (paramRows s e i); next = next; dead = dead } → i + length (paramRows s e i) < next → next ≤ length s
       → left rules s e i ≡ elementAnd (idRow s i) (paramRows s e i) (left rules s (e + 1) next)
-      → Follows rules s e i r
+      → Follows rules s e i dead r
 
-pub follows : (rules : Rules) (s : List ℕ) (e i : ℕ) (r : Turn) → r ≡ turnOf i (itemFrom rules e i (drop i s)) → Follows rules s e i r
-follows rules s e i r t = go (itemFrom rules e i (drop i s)) refl (item-shaped rules s e i) t
+pub follows : (rules : Rules) (s : List ℕ) (e i dead : ℕ) (r : Turn) → r ≡ turnOf i dead (itemFrom rules e i (drop i s)) → Follows rules s e i dead r
+follows rules s e i dead r t = go (itemFrom rules e i (drop i s)) refl (item-shaped rules s e i) t
   where
     at : (x : Item) → itemFrom rules e i (drop i s) ≡ x → i < length s → left rules s e i ≡ itemAnd e i x (behind rules s i)
     at x q h = unrolled rules s i e h ∙ ap (λ (y : Item). itemAnd e i y (behind rules s i)) q
 
-    go : (x : Item) → itemFrom rules e i (drop i s) ≡ x → Shaped s e i x → r ≡ turnOf i x → Follows rules s e i r
+    go : (x : Item) → itemFrom rules e i (drop i s) ≡ x → Shaped s e i x → r ≡ turnOf i dead x → Follows rules s e i dead r
     go _ q (Shaped.takes next h l) c =
         Follows.takes next c h l (at _ q (omega arith) ∙ ap (elementAnd (idRow s i) (paramRows s e i)) (skip-to rules s i (e + 1) next (omega arith) l))
     go _ q (Shaped.skips next h l) c = Follows.skips next c h l (at _ q (omega arith) ∙ skip-to rules s i e next h l)
@@ -137,16 +137,16 @@ pub record Ordered (i : ℕ) (rows : Rows) : Type 0 where
   pub bare : length (rows .elements) ≡ 0 → length (rows .params) ≡ 0
 
 module _ (rules : Rules) (s : List ℕ) where
-  ordered-by : (e i : ℕ) (r : Turn) → ((f j : ℕ) → i < j → Ordered j (left rules s f j)) → Follows rules s e i r → Ordered i (left rules s e i)
-  ordered-by e i r ih (Follows.ends q f) = rw f (record { few = omega arith; bare = λ z. refl })
-  ordered-by e i r ih (Follows.skips next q h l f) = let o = ih e next h in rw f (record { few = omega (arith, o .few); bare = o .bare })
-  ordered-by e i r ih (Follows.takes next q h l f) =
+  ordered-by : (e i dead : ℕ) (r : Turn) → ((f j : ℕ) → i < j → Ordered j (left rules s f j)) → Follows rules s e i dead r → Ordered i (left rules s e i)
+  ordered-by e i dead r ih (Follows.ends q f) = rw f (record { few = omega arith; bare = λ z. refl })
+  ordered-by e i dead r ih (Follows.skips next q h l f) = let o = ih e next h in rw f (record { few = omega (arith, o .few); bare = o .bare })
+  ordered-by e i dead r ih (Follows.takes next q h l f) =
       let o = ih (e + 1) next (omega arith) in
       rw f (record { few = omega (arith, o .few); bare = λ z. absurd (omega arith) })
 
   ordered-from : (m e i : ℕ) → length s ≤ i + m → Ordered i (left rules s e i)
   ordered-from zero e i h = rw (over rules s i e (omega arith)) (record { few = omega arith; bare = λ z. refl })
-  ordered-from (suc m) e i h = ordered-by e i _ (λ f j l. ordered-from m f j (omega arith)) (follows rules s e i _ refl)
+  ordered-from (suc m) e i h = ordered-by e i 0 _ (λ f j l. ordered-from m f j (omega arith)) (follows rules s e i 0 _ refl)
 
   pub ordered : (e i : ℕ) → Ordered i (left rules s e i)
   ordered e i = ordered-from (length s) e i (omega arith)

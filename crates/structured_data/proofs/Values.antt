@@ -1,12 +1,14 @@
 -- The value of a parameter, up to the quote that ends it.
-use Prim.Native.Nat.{ℕ, suc, _+_, _≤_, _<_}
+use Prim.Native.Nat.{ℕ, zero, suc, _+_, _≤_, _<_}
 use mathlib.Core.Path.{_≡_, refl, sym, ap, _∙_}
 use mathlib.Core.Bool.{Bool, true, false, not, _&&_}
 use mathlib.Core.List.{List, [], _∷_}
 use native.Mathlib.Omega.{arith}
+use native.Mathlib.Numerals.{add-one}
 use lib.Dec.{eqb}
 use lib.ListN.{length, getD, drop}
-use Rattle.base.specs.Choose.{if_then_else_}
+use borrow.Author.Tests.{eqb-true}
+use Rattle.base.specs.Choose.{if_then_else_, isAt}
 use Rattle.base.proofs.Tests.{by-test, clash}
 use Rattle.base.proofs.Parts.{step, ended}
 use Rattle.structured_data.specs.Param.{quotedLen}
@@ -53,3 +55,22 @@ module _ (s : List ℕ) (i : ℕ) (taken : Bool) (inv : quotedLen false s ≡ i 
         omega arith
 
 pub ruleset quoted-laws = (quoted-out, quoted-off, quoted-on)
+
+-- behind a `]` of a value the walk to its end starts anew
+quoted-anew : (taken : Bool) (s : List ℕ) (k : ℕ) → k < quotedLen taken s → isAt s k 93 ≡ true
+    → quotedLen taken s ≡ suc k + quotedLen false (drop (suc k) s)
+unfolding quotedLen
+quoted-anew taken [] k h e = absurd (omega arith)
+quoted-anew true (b ∷ s) zero h e = omega arith
+quoted-anew true (b ∷ s) (suc k) h e = let r = quoted-anew false s k (omega arith) e in omega arith
+quoted-anew false (b ∷ s) zero h e = rw (eqb-true b 93 e) (omega arith)
+quoted-anew false (b ∷ s) (suc k) h e =
+    by-test (λ _. quotedLen false (b ∷ s) ≡ suc (suc k) + quotedLen false (drop (suc k) s)) (eqb b 34)
+    (λ q. absurd (omega (arith, quoted-ends false b s q)))
+    (λ q.
+    let m = quoted-more false b s q in
+    let r = quoted-anew (eqb b 92) s k (omega arith) e in
+    omega arith)
+
+pub quoted-behind : (s : List ℕ) (k : ℕ) → k < quotedLen false s → isAt s k 93 ≡ true → quotedLen false s ≡ k + 1 + quotedLen false (drop (k + 1) s)
+quoted-behind s k h e = rw (add-one k) (quoted-anew false s k h e)

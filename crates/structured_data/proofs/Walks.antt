@@ -1,26 +1,23 @@
--- The walk over an element's parameters: one step of it, its ends, how far it goes, and the loop that counts.
-use Prim.Native.Nat.{ℕ, zero, suc, _+_, _-_, _^_, _≤_, _<_}
+-- The walk over an element's parameters: one step of it, its ends, how far it goes, and what a `]` that it passes says of its end.
+use Prim.Native.Nat.{ℕ, zero, suc, _+_, _-_, _≤_, _<_}
 use mathlib.Core.Path.{_≡_, refl, sym, ap, _∙_}
-use mathlib.Core.Bool.{Bool, true, false, not}
+use mathlib.Core.Bool.{Bool, true, false}
 use mathlib.Core.List.{List, [], _∷_}
 use native.Mathlib.Decide.{decLe}
 use native.Mathlib.Omega.{arith}
 use lib.Dec.{eqb}
 use lib.ListN.{length, drop, length-drop}
 use lib.Seq.{drop-drop}
-use mir.Syntax.{w64}
-use mir.Val.{Fits}
-use borrow.Author.Tests.{not-true, not-false}
 use Rattle.base.specs.Choose.{if_then_else_, isAt}
-use Rattle.base.proofs.Tests.{by-test, by-if}
+use Rattle.base.proofs.Tests.{by-test, clash, by-if}
 use Rattle.base.proofs.Parts.{step, ended, at-below, at-cons}
-use Rattle.structured_data.specs.Param.{paramAt}
+use Rattle.structured_data.specs.Param.{quotedLen, paramAt}
 use Rattle.structured_data.specs.Element.{Params, noneAt, paramAnd, moreParams, paramsFrom}
-use Rattle.structured_data.specs.Steps.{walkOf, walkFrom}
+use Rattle.structured_data.specs.Steps.{walkOf, walkFrom, fateOf}
 use Rattle.structured_data.specs.declared.Param.{Param}
 use Rattle.structured_data.specs.declared.Param.the-variants.{NoParam, IsParam}
 use Rattle.structured_data.specs.declared.Walk.{Walk}
-use Rattle.structured_data.proofs.Params.{Lies, param-lies}
+use Rattle.structured_data.proofs.Params.{Lies, param-lies, at-part, unbracket}
 
 -- the parameters from `at` on; where there is none, the position is `before`
 abbrev pub ahead : ℕ → ℕ → ℕ → List ℕ → Params
@@ -55,24 +52,21 @@ module _ (e : ℕ) (s : List ℕ) where
       go (yes p) = rw (ended s i p)
       go (no p) = rw (step s i (omega arith), h)
 
-  -- a step of the walk, from what `param_at` answered
-  module _ (start before : ℕ) (u : List ℕ) (eu : u ≡ drop start s) (g : Param) (eg : g ≡ paramAt u) where
-    param-there : paramAt (drop start s) ≡ g
-    param-there = ap paramAt (sym eu) ∙ sym eg
+  -- a step of the walk
+  module _ (start before : ℕ) where
+    pub ahead-none : paramAt (drop start s) ≡ NoParam → ahead e start before (drop start s) ≡ noneAt before
+    ahead-none q = rw q
 
-    pub ahead-none : g ≡ NoParam → ahead e start before (drop start s) ≡ noneAt before
-    ahead-none q = rw (param-there ∙ q)
-
-    module _ (h : start ≤ length s) (n v m len : ℕ) (q : g ≡ IsParam n v m len) where
+    module _ (h : start ≤ length s) (n v m len : ℕ) (q : paramAt (drop start s) ≡ IsParam n v m len) where
       lies : Lies (drop start s) n v m len
-      lies = param-lies (drop start s) n v m len (sym (param-there ∙ q))
+      lies = param-lies (drop start s) n v m len (sym q)
 
       pub len-within : (1 ≤ len) × (start + len ≤ length s)
       len-within = (omega (arith, lies .value-inside), omega (arith, lies .within-t, length-drop start s))
 
       ahead-first : ahead e start before (drop start s) ≡ first (rowOf e start n v m) (moreParams e 0 (start + len) (drop (start + len) s))
       ahead-first =
-          rw (param-there ∙ q)
+          rw q
           (ap (first (rowOf e start n v m)) (skip e len start (drop start s) (lies .within-t) ∙ ap (moreParams e 0 (start + len)) (drop-drop len start s)))
 
       pub ahead-on : isAt s (start + len) 32 ≡ true
@@ -81,77 +75,6 @@ module _ (e : ℕ) (s : List ℕ) where
 
       pub ahead-last : isAt s (start + len) 32 ≡ false → ahead e start before (drop start s) ≡ first (rowOf e start n v m) (noneAt (start + len))
       ahead-last h = ahead-first ∙ ap (first (rowOf e start n v m)) (unspaced (start + len) h)
-
--- Counted so far: behind `count` parameters the position is `next`, and another would start at `start`
-abbrev pub plus : ℕ → Params → Walk
-plus n ps = record { count = n + length (ps .rows); next = ps .next }
-
-pub plus-zero : (ps : Params) → walkOf ps ≡ plus 0 ps
-plus-zero ps = let p : length (ps .rows) ≡ 0 + length (ps .rows) = omega arith in ap (λ (k : ℕ). record { count = k; next = ps .next }) p
-
-pub plus-none : (n at : ℕ) → plus n (noneAt at) ≡ record { count = n; next = at }
-plus-none n at = let p : n + 0 ≡ n = omega arith in ap (λ (k : ℕ). record { count = k; next = at }) p
-
-pub plus-first : (n : ℕ) (row : List ℕ) (ps : Params) → plus n (first row ps) ≡ plus (n + 1) ps
-plus-first n row ps =
-    let p : n + suc (length (ps .rows)) ≡ n + 1 + length (ps .rows) = omega arith in
-    ap (λ (k : ℕ). record { count = k; next = ps .next }) p
-
-pub record Walked (s : List ℕ) (at count next start : ℕ) : Type 0 where
-  pub within-s : start ≤ length s
-  pub few : count ≤ start
-  pub whole : walkFrom s at ≡ plus count (ahead 0 start next (drop start s))
-
-pub walked-none : (s : List ℕ) (at : ℕ) → at ≤ length s → Walked s at 0 at at
-unfolding paramsFrom
-walked-none s at h = record { within-s = h; few = omega arith; whole = plus-zero (paramsFrom 0 at (drop at s)) }
-
-module _ (s : List ℕ) (at count next start : ℕ) (c : Walked s at count next start) (u : List ℕ) (eu : u ≡ drop start s) (g : Param) (eg : g ≡ paramAt u) where
-  pub walked-all : g ≡ NoParam → record { count = count; next = next } ≡ walkFrom s at
-  walked-all q = sym (c .whole ∙ ap (plus count) (ahead-none 0 s start next u eu g eg q) ∙ plus-none count next)
-
-  module _ (n v m len : ℕ) (q : g ≡ IsParam n v m len) where
-    within : (1 ≤ len) × (start + len ≤ length s)
-    within = len-within 0 s start next u eu g eg (c .within-s) n v m len q
-
-    module _ (l : length s < 2 ^ 64) where
-      pub count-fits : Fits w64 (count + 1)
-      count-fits = record { fits = omega (arith, within, c .few) }
-
-      pub next-fits : Fits w64 (start + len)
-      next-fits = record { fits = omega (arith, within) }
-
-    module _ (d : Bool) (ed : d ≡ isAt s (start + len) 32) where
-      pub walked-last : not d ≡ true → record { count = count + 1; next = start + len } ≡ walkFrom s at
-      walked-last h =
-          sym
-          (c .whole
-          ∙ ap (plus count) (ahead-last 0 s start next u eu g eg (c .within-s) n v m len q (sym ed ∙ not-true d h))
-          ∙ plus-first count (rowOf 0 start n v m) (noneAt (start + len))
-          ∙ plus-none (count + 1) (start + len))
-
-      module _ (h : not d ≡ false) where
-        space : start + len < length s
-        space = at-below s (start + len) 31 (sym ed ∙ not-false d h)
-
-        pub start-fits : length s < 2 ^ 64 → Fits w64 (start + len + 1)
-        start-fits l = record { fits = omega (arith, space) }
-
-        pub walk-less : length s - (start + len + 1) < length s - start
-        walk-less = omega (arith, space)
-
-        pub walked-on : Walked s at (count + 1) (start + len) (start + len + 1)
-        walked-on =
-            record {
-              within-s = omega (arith, space);
-              few = omega (arith, c .few);
-              whole =
-                  c .whole
-                  ∙ ap (plus count) (ahead-on 0 s start next u eu g eg (c .within-s) n v m len q (sym ed ∙ not-false d h))
-                  ∙ plus-first count (rowOf 0 start n v m) (ahead 0 (start + len + 1) (start + len) (drop (start + len + 1) s));
-            }
-
-pub ruleset walk-laws = (walked-none, walked-all, count-fits, next-fits, walked-last, start-fits, walk-less, walked-on)
 
 -- How far the walk goes
 pub record Reaches (low high : ℕ) (ps : Params) : Type 0 where
@@ -183,13 +106,16 @@ more-reaches e zero at (b ∷ t) h =
     record { few = omega (arith, i .few); end-within = omega (arith, i .end-within) })
     (λ q. record { few = omega arith; end-within = omega arith })
 
+pub ahead-reaches : (e start before : ℕ) (s : List ℕ) → before ≤ start → start ≤ length s → Reaches before (length s) (ahead e start before (drop start s))
+ahead-reaches e start before s h l =
+    let t = drop start s in
+    let k : length t ≡ length s - start = length-drop start s in
+    let i = and-reaches e start before t (λ len. moreParams e len start t) h (λ len. more-reaches e len start t) in
+    record { few = i .few; end-within = omega (arith, i .end-within) }
+
 pub params-reach : (e at : ℕ) (s : List ℕ) → at ≤ length s → Reaches at (length s) (paramsFrom e at (drop at s))
 unfolding paramsFrom
-params-reach e at s h =
-    let t = drop at s in
-    let l : length t ≡ length s - at = length-drop at s in
-    let i = and-reaches e at at t (λ len. moreParams e len at t) (omega arith) (λ len. more-reaches e len at t) in
-    record { few = i .few; end-within = omega (arith, i .end-within) }
+params-reach e at s h = ahead-reaches e at at s (omega arith) h
 
 -- Neither the count nor the position depends on the element's number
 and-any : (e at before : ℕ) (p : Param) (more more′ : ℕ → Params) → ((len : ℕ) → walkOf (more len) ≡ walkOf (more′ len))
@@ -209,3 +135,61 @@ more-any e zero at (b ∷ t) =
 pub params-any : (e at : ℕ) (t : List ℕ) → walkOf (paramsFrom e at t) ≡ walkOf (paramsFrom 0 at t)
 unfolding paramsFrom
 params-any e at t = and-any e at at (paramAt t) (λ len. moreParams e len at t) (λ len. moreParams 0 len at t) (λ len. more-any e len at t)
+
+-- where there is a parameter, no `]` stands
+pub some-unclosed : (s : List ℕ) (at : ℕ) → 1 ≤ walkFrom s at .count → isAt s at 93 ≡ false
+unfolding paramsFrom
+some-unclosed s at h = go (paramAt (drop at s)) refl
+  where
+    go : (p : Param) → paramAt (drop at s) ≡ p → isAt s at 93 ≡ false
+    go NoParam q = absurd (omega (arith, ap (λ (ps : Params). length (ps .rows)) (ahead-none 0 s at at q)))
+    go (IsParam n v m len) q =
+        let z : at + 0 ≡ at = omega arith in
+        sym (at-part s at 0 93 ∙ ap (λ (k : ℕ). isAt s k 93) z) ∙ param-lies (drop at s) n v m len (sym q) .unclosed
+
+-- A walk that passes a `]` ends where each other walk does that passes it
+module _ (s : List ℕ) (r : ℕ) (b : isAt s r 93 ≡ true) where
+  in-param : (start n v m len : ℕ) → paramAt (drop start s) ≡ IsParam n v m len → start ≤ r → r < start + len
+      → r + 2 + quotedLen false (drop (r + 1) s) ≡ start + len
+  in-param start n v m len q h l =
+      let k = r - start in
+      let e : start + k ≡ r = omega arith in
+      let a : start + (k + 1) ≡ r + 1 = omega arith in
+      let i = param-lies (drop start s) n v m len (sym q) .anew k (omega arith) (at-part s start k 93 ∙ ap (λ (j : ℕ). isAt s j 93) e ∙ b) in
+      omega (arith, i, ap (quotedLen false) (drop-drop (k + 1) start s ∙ ap (λ (j : ℕ). drop j s) a))
+
+  Fated : ℕ → ℕ → Type 0
+  Fated start before = before ≤ start → start ≤ r → r < ahead 0 start before (drop start s) .next → ahead 0 start before (drop start s) .next ≡ fateOf s r
+
+  fate-step : (start before : ℕ) → ((i : ℕ) → start ≤ i → Fated (i + 1) i) → Fated start before
+  unfolding Fated
+  fate-step start before ih o h l = go (paramAt (drop start s)) refl
+    where
+      w : start ≤ length s
+      w = omega (arith, at-below s r 92 b)
+
+      go : (p : Param) → paramAt (drop start s) ≡ p → ahead 0 start before (drop start s) .next ≡ fateOf s r
+      go NoParam q = absurd (omega (arith, ap (λ (ps : Params). ps .next) (ahead-none 0 s start before q)))
+      go (IsParam n v m len) q = there (decLe (start + len) r)
+        where
+          there : Dec (start + len ≤ r) → ahead 0 start before (drop start s) .next ≡ fateOf s r
+          there (no k) =
+              ap (λ (ps : Params). ps .next) (ahead-first 0 s start before w n v m len q)
+              ∙ ap (λ (i : ℕ). moreParams 0 0 i (drop i s) .next) (sym (in-param start n v m len q h (omega arith)))
+          there (yes k) = behind (isAt s (start + len) 32) refl
+            where
+              behind : (c : Bool) → isAt s (start + len) 32 ≡ c → ahead 0 start before (drop start s) .next ≡ fateOf s r
+              behind false e = absurd (omega (arith, ap (λ (ps : Params). ps .next) (ahead-last 0 s start before w n v m len q e)))
+              behind true e =
+                  let a = ap (λ (ps : Params). ps .next) (ahead-on 0 s start before w n v m len q e) in
+                  let z : start + len ≡ r → ⊥ = λ z. clash (sym b ∙ ap (λ (i : ℕ). isAt s i 93) (sym z) ∙ unbracket (λ x. eqb x 32) refl s (start + len) e) in
+                  a ∙ ih (start + len) (omega arith) (omega arith) (omega arith) (rw (← a) l)
+
+  fate-from : (fuel start before : ℕ) → length s ≤ start + fuel → Fated start before
+  unfolding Fated
+  fate-from zero start before f = λ o h l. absurd (omega (arith, at-below s r 92 b))
+  fate-from (suc fuel) start before f = fate-step start before (λ i k. fate-from fuel (i + 1) i (omega arith))
+
+  pub fate : (start : ℕ) → start ≤ r → r < walkFrom s start .next → walkFrom s start .next ≡ fateOf s r
+  unfolding Fated paramsFrom
+  fate start h l = fate-from (length s) start start (omega arith) (omega arith) h l

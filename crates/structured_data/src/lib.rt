@@ -4,7 +4,7 @@ use record::Record;
 ghost use mathlib.Core.Path.{_≡_};
 ghost use mathlib.Core.Bool.{false};
 ghost use Prim.Native.Nat.{_≤_};
-ghost use lib.Dec.{eqb};
+ghost use lib.Dec.{leb, eqb};
 ghost use lib.ListN.{length, drop};
 ghost use Rattle.base.specs.Choose.{if_then_else_};
 ghost use Rattle.base.specs.Runs.{run};
@@ -14,7 +14,7 @@ ghost use Rattle.structured_data.specs.Element.Element.{noElement};
 ghost use Rattle.structured_data.specs.Data.{itemOf, dataFrom};
 ghost use Rattle.structured_data.specs.Outcome.{countsOf, Room, Fills};
 ghost use Rattle.structured_data.specs.declared.Counts.the-variants.{NoData, IsData};
-ghost use Rattle.structured_data.specs.Steps.{valueEnd, walkFrom, openFrom, endsList, isInside, turnOf, Closes, Turns, entryOf, Holds, Stores};
+ghost use Rattle.structured_data.specs.Steps.{valueEnd, entryOf, Stops, Ends, Holds, Stores, openFrom, endsList, isInside, turnOf, Stop, Closes, Turns};
 
 // Which lines the rules are of: they differ in what follows an element that fails or has no parameters.
 pub enum Rules {
@@ -51,11 +51,12 @@ struct Open {
     start: usize,
 }
 
-// What a step over the list adds to the counts, and where it goes on: where it was, if the list ends.
+// What a step over the list adds to the counts, and where it goes on: where it was, if the list ends. A walk that passes a `]` before `dead` fails.
 struct Turn {
     elements: usize,
     params: usize,
     next: usize,
+    dead: usize,
 }
 
 // The counts of elements and parameters, and the position behind them.
@@ -167,26 +168,85 @@ fn id_len(s: &[u8]) -> usize
     i
 }
 
-// The parameters at `at`: none, or one and those behind it, each after one space.
-fn walk_params(s: &[u8], at: usize) -> Walk
-    requires { ⌜ at ≤ length (now s) ⌝ }
-    ensures { λ r. ⌜ r ≡ walkFrom (now (s .entry)) at ⌝ }
+// The row of a parameter of element `e` at `start`.
+fn entry_from(s: &[u8], e: usize, start: usize) -> Entry
+    requires { ⌜ start ≤ length (now s) ⌝ }
+    ensures { λ r. ⌜ r ≡ entryOf e start (paramAt (drop start (now (s .entry)))) ⌝ }
+{
+    let Param::IsParam {
+        name,
+        value,
+        value_len,
+        len,
+    } = param_at(base::past(s, start))
+    else {
+        return Entry {
+            row: [0, 0, 0, 0, 0],
+            next: start,
+        };
+    };
+    Entry {
+        row: [e, start, name, start + value, value_len],
+        next: start + len,
+    }
+}
+
+// The parameters at `at`: none, or one and those behind it, each after one space. Past `stop` the walk is given up, since it fails.
+fn walk_params(s: &[u8], at: usize, stop: usize) -> Walk
+    requires { ⌜ Stops (now s) at stop ⌝ }
+    ensures { λ r. ⌜ Ends (now (s .entry)) at r ⌝ }
 {
     let mut count = 0;
     let mut next = at;
     let mut start = at;
     loop {
-        let Param::IsParam {
-            name: _,
-            value: _,
-            value_len: _,
-            len,
-        } = param_at(base::past(s, start))
-        else {
+        let entry = entry_from(s, 0, start);
+        let behind = entry.next;
+        if behind == start {
             return Walk { count, next };
-        };
+        }
+        if stop < behind {
+            return Walk { count: 0, next: at };
+        }
         count += 1;
-        next = start + len;
+        next = behind;
+        if !base::is_at(s, next, b' ') {
+            return Walk { count, next };
+        }
+        start = next + 1;
+    }
+}
+
+// The same for element `e`, with its rows stored from index `first` on. Where they reach `end` the walk is given up, since it fails.
+fn fill_params(
+    s: &[u8],
+    e: usize,
+    at: usize,
+    stop: usize,
+    params: &mut [[usize; 5]],
+    first: usize,
+    end: usize,
+) -> Walk
+    requires { ⌜ Holds (now s) at stop (now params) first end ⌝ }
+    ensures { λ r. ⌜ Stores (now (s .entry)) e at (now (params .entry)) first end r (now (params .exit)) ⌝ }
+{
+    let mut count = 0;
+    let mut next = at;
+    let mut start = at;
+    loop {
+        let entry = entry_from(s, e, start);
+        let behind = entry.next;
+        if behind == start {
+            return Walk { count, next };
+        }
+        let i = first + count;
+        if (i == end) | (stop < behind) {
+            return Walk { count: 0, next: at };
+        }
+        let row = entry.row;
+        params[i] = row;
+        count += 1;
+        next = behind;
         if !base::is_at(s, next, b' ') {
             return Walk { count, next };
         }
@@ -248,13 +308,14 @@ pub fn inside_run(s: &[u8]) -> usize
 }
 
 // The step at `at`, where no element can be read.
-fn skip_from(rules: Rules, s: &[u8], at: usize) -> Turn
-    ensures { λ r. ⌜ r ≡ turnOf at (itemOf rules at (drop at (now (s .entry))) noElement) ⌝ }
+fn skip_from(rules: Rules, s: &[u8], at: usize, dead: usize) -> Turn
+    ensures { λ r. ⌜ r ≡ turnOf at dead (itemOf rules at (drop at (now (s .entry))) noElement) ⌝ }
 {
     let stay = Turn {
         elements: 0,
         params: 0,
         next: at,
+        dead,
     };
     if ends_list(rules) {
         return stay;
@@ -270,33 +331,57 @@ fn skip_from(rules: Rules, s: &[u8], at: usize) -> Turn
         elements: 0,
         params: 0,
         next: end + 1,
+        dead,
     }
 }
 
-// The step at `at`, from the walk over the parameters of the element whose id has `id` bytes.
-fn turn_from(rules: Rules, s: &[u8], at: usize, id: usize, walk: Walk) -> Turn
-    requires { ⌜ Closes (now s) at id walk ⌝ }
+fn later(a: usize, b: usize) -> usize
+    ensures { λ r. ⌜ r ≡ (if leb a b then b else a) ⌝ }
+{
+    if a <= b { b } else { a }
+}
+
+// A `]` past which a walk from `at` fails: the first, if it stands before `dead`; else the end of the line.
+fn stop_from(s: &[u8], at: usize, dead: usize) -> usize
+    requires { ⌜ dead ≤ length (now s) ⌝ }
+    ensures { λ r. ⌜ Stop (now (s .entry)) at dead r ⌝ }
+{
+    if dead <= at {
+        return s.len();
+    }
+    let end = at + inside_run(base::past(s, at));
+    if dead <= end {
+        return s.len();
+    }
+    end
+}
+
+// The step at `at`, from the walk over the parameters of the element whose id has `id` bytes. Each `]` that a failed walk passed is dead.
+fn turn_from(rules: Rules, s: &[u8], at: usize, id: usize, walk: Walk, dead: usize) -> Turn
+    requires { ⌜ Closes (now s) at id walk dead ⌝ }
     ensures { λ r. ⌜ Turns rules (now (s .entry)) at r ⌝ }
 {
     let count = walk.count;
     let end = walk.next;
     if id == 0 {
-        return skip_from(rules, s, at);
+        return skip_from(rules, s, at, dead);
     }
     if !base::is_at(s, end, b']') {
-        return skip_from(rules, s, at);
+        return skip_from(rules, s, at, later(dead, end));
     }
     if ends_list(rules) & (count == 0) {
         return Turn {
             elements: 0,
             params: 0,
             next: at,
+            dead,
         };
     }
     Turn {
         elements: 1,
         params: count,
         next: end + 1,
+        dead,
     }
 }
 
@@ -328,10 +413,12 @@ pub fn count_data(rules: Rules, s: &[u8], at: usize) -> Counts
     let mut elements = 0;
     let mut params = 0;
     let mut i = at;
+    let mut dead = 0;
     loop {
         let open = open_from(s, i);
-        let walk = walk_params(s, open.start);
-        let turn = turn_from(rules, s, i, open.id, walk);
+        let stop = stop_from(s, i, dead);
+        let walk = walk_params(s, open.start, stop);
+        let turn = turn_from(rules, s, i, open.id, walk, dead);
         let next = turn.next;
         if next == i {
             return counts_at(at, elements, params, i);
@@ -339,73 +426,7 @@ pub fn count_data(rules: Rules, s: &[u8], at: usize) -> Counts
         elements += turn.elements;
         params += turn.params;
         i = next;
-    }
-}
-
-// The row of a parameter of element `e` at `start`.
-fn entry_from(s: &[u8], e: usize, start: usize) -> Entry
-    requires { ⌜ start ≤ length (now s) ⌝ }
-    ensures { λ r. ⌜ r ≡ entryOf e start (paramAt (drop start (now (s .entry)))) ⌝ }
-{
-    let Param::IsParam {
-        name,
-        value,
-        value_len,
-        len,
-    } = param_at(base::past(s, start))
-    else {
-        return Entry {
-            row: [0, 0, 0, 0, 0],
-            next: start,
-        };
-    };
-    Entry {
-        row: [e, start, name, start + value, value_len],
-        next: start + len,
-    }
-}
-
-// The walk of `walk_params` for element `e`, which stores the rows from index `first` on and is given up where they reach index `end`.
-fn fill_params(
-    s: &[u8],
-    e: usize,
-    at: usize,
-    params: &mut [[usize; 5]],
-    first: usize,
-    end: usize,
-) -> Walk
-    requires { ⌜ Holds (now s) at (now params) first end ⌝ }
-    ensures { λ r. ⌜ Stores (now (s .entry)) e at (now (params .entry)) first end r (now (params .exit)) ⌝ }
-{
-    let mut i = first;
-    let mut next = at;
-    let mut start = at;
-    loop {
-        let entry = entry_from(s, e, start);
-        let behind = entry.next;
-        if behind == start {
-            return Walk {
-                count: i - first,
-                next,
-            };
-        }
-        if i == end {
-            return Walk {
-                count: 0,
-                next: s.len(),
-            };
-        }
-        let row = entry.row;
-        params[i] = row;
-        i += 1;
-        next = behind;
-        if !base::is_at(s, next, b' ') {
-            return Walk {
-                count: i - first,
-                next,
-            };
-        }
-        start = next + 1;
+        dead = turn.dead;
     }
 }
 
@@ -426,13 +447,16 @@ pub fn fill_data(
     let mut i = 0;
     let mut j = 0;
     let mut start = at;
+    let mut dead = 0;
     while i < e {
         let open = open_from(s, start);
+        let stop = stop_from(s, start, dead);
         elements[i] = [start + 1, open.id];
-        let walk = fill_params(s, i, open.start, params, j, p);
-        let turn = turn_from(rules, s, start, open.id, walk);
+        let walk = fill_params(s, i, open.start, stop, params, j, p);
+        let turn = turn_from(rules, s, start, open.id, walk, dead);
         i += turn.elements;
         j += turn.params;
         start = turn.next;
+        dead = turn.dead;
     }
 }

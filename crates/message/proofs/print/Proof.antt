@@ -41,16 +41,34 @@ put-front-requires : tie.Need-put-front-requires
 put-front-requires c κs = let m = ready (c .before) in (search front-fits, search front-suits)
 
 put-elements-requires : tie.Need-put-elements-requires
-put-elements-requires c κs = let c₁ = c .before .before .before in let m = ready (c₁ .before .before) in let w₁ = c₁ .put-front .ensures in (search data-fits, search ids-tables)
+put-elements-requires c κs =
+    let c₁ = c .before .before .before in
+    let m = ready (c₁ .before .before) in
+    let w₁ = c₁ .put-front .ensures in
+    (search data-fits, search ids-tables)
 
 put-back-requires : tie.Need-put-back-requires
-put-back-requires c κs = let c₂ = c .before .before .before in let c₁ = c₂ .before .before .before .before in let m = ready (c₁ .before .before) in let w₁ = c₁ .put-front .ensures in let w₂ = c₂ .put-elements .ensures in (search back-fits, search message-in)
+put-back-requires c κs =
+    let c₂ = c .before .before .before in
+    let c₁ = c₂ .before .before .before .before in
+    let m = ready (c₁ .before .before) in
+    let w₁ = c₁ .put-front .ensures in
+    let w₂ = c₂ .put-elements .ensures in
+    (search back-fits, search message-in)
 
 same-length : tie.Need-same-length
 same-length c = search needs
 
 returns-5 : tie.Need-returns-5
-returns-5 c = let c₃ = c .before .before in let c₂ = c₃ .before .before .before .before in let c₁ = c₂ .before .before .before .before in let m = ready (c₁ .before .before) in let w₁ = c₁ .put-front .ensures in let w₂ = c₂ .put-elements .ensures in let w₃ = c₃ .put-back .ensures in search print-done
+returns-5 c =
+    let c₃ = c .before .before in
+    let c₂ = c₃ .before .before .before .before in
+    let c₁ = c₂ .before .before .before .before in
+    let m = ready (c₁ .before .before) in
+    let w₁ = c₁ .put-front .ensures in
+    let w₂ = c₂ .put-elements .ensures in
+    let w₃ = c₃ .put-back .ensures in
+    search print-done
 
 pub print-spec : {M : Type 1} → statement M
 print-spec =

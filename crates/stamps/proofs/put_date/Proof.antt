@@ -15,14 +15,21 @@ put-marked-requires c κs = search (next-fits, starts)
 
 put-marked-requires-2 : tie.Need-put-marked-requires-2
 unfolding dateText
-put-marked-requires-2 c κs = let c₂ = c .before .before .before in let c₁ = c₂ .before .before .before .before in last-fits (c₁ .before .before .before .pre) (c₁ .put-fixed .ensures) (c₂ .put-marked .ensures) (search starts)
+put-marked-requires-2 c κs =
+    let c₂ = c .before .before .before in
+    let c₁ = c₂ .before .before .before .before in
+    last-fits (c₁ .before .before .before .pre) (c₁ .put-fixed .ensures) (c₂ .put-marked .ensures) (search starts)
 
 same-length : tie.Need-same-length
 same-length c = search needs
 
 returns : tie.Need-returns
 unfolding dateText
-returns c = let c₃ = c .before .before in let c₂ = c₃ .before .before .before .before in let c₁ = c₂ .before .before .before .before in three-are (c₁ .before .before .before .pre) (c₁ .put-fixed .ensures) (c₂ .put-marked .ensures) (c₃ .put-marked2 .ensures) refl
+returns c =
+    let c₃ = c .before .before in
+    let c₂ = c₃ .before .before .before .before in
+    let c₁ = c₂ .before .before .before .before in
+    three-are (c₁ .before .before .before .pre) (c₁ .put-fixed .ensures) (c₂ .put-marked .ensures) (c₃ .put-marked2 .ensures) refl
 
 pub put-date-spec : {M : Type 1} → statement M
 put-date-spec =

@@ -15,14 +15,21 @@ put-marked-requires-2 c κs = search (next-fits, starts)
 
 put-marked-requires-3 : tie.Need-put-marked-requires-3
 unfolding timeText
-put-marked-requires-3 c κs = let c₂ = c .before .before .before in let c₁ = c₂ .before .before .before .before in last-fits (c₁ .before .before .before .pre) (c₁ .put-marked .ensures) (c₂ .put-marked2 .ensures) (search starts)
+put-marked-requires-3 c κs =
+    let c₂ = c .before .before .before in
+    let c₁ = c₂ .before .before .before .before in
+    last-fits (c₁ .before .before .before .pre) (c₁ .put-marked .ensures) (c₂ .put-marked2 .ensures) (search starts)
 
 same-length : tie.Need-same-length
 same-length c = search needs
 
 returns : tie.Need-returns
 unfolding timeText
-returns c = let c₃ = c .before .before in let c₂ = c₃ .before .before .before .before in let c₁ = c₂ .before .before .before .before in three-are (c₁ .before .before .before .pre) (c₁ .put-marked .ensures) (c₂ .put-marked2 .ensures) (c₃ .put-marked3 .ensures) refl
+returns c =
+    let c₃ = c .before .before in
+    let c₂ = c₃ .before .before .before .before in
+    let c₁ = c₂ .before .before .before .before in
+    three-are (c₁ .before .before .before .pre) (c₁ .put-marked .ensures) (c₂ .put-marked2 .ensures) (c₃ .put-marked3 .ensures) refl
 
 pub put-time-spec : {M : Type 1} → statement M
 put-time-spec =

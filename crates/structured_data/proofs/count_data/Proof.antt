@@ -2,20 +2,21 @@ use borrow.Author.Needs.{needs}
 use Rattle.structured_data.proofs.Counting.{Counted, count-laws}
 use Prim.Native.Nat.{_-_}
 use lib.ListN.{length}
+use Rattle.structured_data.specs.Steps.{Dead}
 use Rattle.structured_data.proofs.count_data.Statement.{statement}
 use Rattle.structured_data.proofs.count_data.Tie as tie
 
 abbrev Inv-loop : tie.InvT-loop
-Inv-loop rules s at elements₀ params₀ i₀ elements params i = Counted rules s at elements params i
+Inv-loop rules s at elements₀ params₀ i₀ dead₀ elements params i dead = Counted rules s at elements params i × Dead s i dead
 
 abbrev μ-loop : tie.MeasureT-loop
-μ-loop rules s at elements₀ params₀ i₀ elements params i = length s - i
+μ-loop rules s at elements₀ params₀ i₀ dead₀ elements params i dead = length s - i
 
 is-at-requires : tie.Need-is-at-requires Inv-loop μ-loop
 is-at-requires c κs = search (count-laws, needs)
 
-add-t12 : tie.Need-add-t12 Inv-loop μ-loop
-add-t12 c = search (count-laws, needs)
+add-t14 : tie.Need-add-t14 Inv-loop μ-loop
+add-t14 c = search (count-laws, needs)
 
 returns : tie.Need-returns Inv-loop μ-loop
 returns c = search (count-laws, needs)
@@ -25,6 +26,9 @@ loop-holds c = search (count-laws, needs)
 
 open-from-requires : tie.Need-open-from-requires Inv-loop μ-loop
 open-from-requires c κs = search (count-laws, needs)
+
+stop-from-requires : tie.Need-stop-from-requires Inv-loop μ-loop
+stop-from-requires c κs = search (count-laws, needs)
 
 walk-params-requires : tie.Need-walk-params-requires Inv-loop μ-loop
 walk-params-requires c κs = search (count-laws, needs)
@@ -57,10 +61,11 @@ count-data-spec =
     Inv-loop
     μ-loop
     is-at-requires
-    add-t12
+    add-t14
     returns
     loop-holds
     open-from-requires
+    stop-from-requires
     walk-params-requires
     turn-from-requires
     counts-at-requires

@@ -2,14 +2,15 @@ use borrow.Author.Needs.{needs}
 use Rattle.structured_data.proofs.Filling.{Filling, fill-laws}
 use Prim.Native.Nat.{_-_}
 use lib.ListN.{length}
+use Rattle.structured_data.specs.Steps.{Dead}
 use Rattle.structured_data.proofs.fill_data.Statement.{statement}
 use Rattle.structured_data.proofs.fill_data.Tie as tie
 
 abbrev Inv-loop : tie.InvT-loop
-Inv-loop rules s at e p elements₀ params₀ i₀ j₀ start₀ elements params i j start = Filling rules s at e p elements₀ params₀ elements params i j start
+Inv-loop rules s at e p elements₀ params₀ i₀ j₀ start₀ dead₀ elements params i j start dead = Filling rules s at e p elements₀ params₀ elements params i j start × Dead s start dead
 
 abbrev μ-loop : tie.MeasureT-loop
-μ-loop rules s at e p elements₀ params₀ i₀ j₀ start₀ elements params i j start = length s - start
+μ-loop rules s at e p elements₀ params₀ i₀ j₀ start₀ dead₀ elements params i j start dead = length s - start
 
 loop-holds : tie.Need-loop-holds Inv-loop μ-loop
 loop-holds c = search (fill-laws, needs)
@@ -17,11 +18,14 @@ loop-holds c = search (fill-laws, needs)
 open-from-requires : tie.Need-open-from-requires Inv-loop μ-loop
 open-from-requires c κs = search (fill-laws, needs)
 
-add-t15 : tie.Need-add-t15 Inv-loop μ-loop
-add-t15 c = search (fill-laws, needs)
+stop-from-requires : tie.Need-stop-from-requires Inv-loop μ-loop
+stop-from-requires c κs = search (fill-laws, needs)
 
-mul-t17 : tie.Need-mul-t17 Inv-loop μ-loop
-mul-t17 c = search (fill-laws, needs)
+add-t17 : tie.Need-add-t17 Inv-loop μ-loop
+add-t17 c = search (fill-laws, needs)
+
+mul-t19 : tie.Need-mul-t19 Inv-loop μ-loop
+mul-t19 c = search (fill-laws, needs)
 
 slice-set-from-elements : tie.Need-slice-set-from-elements Inv-loop μ-loop
 slice-set-from-elements c = search (fill-laws, needs)
@@ -61,8 +65,9 @@ fill-data-spec =
     μ-loop
     loop-holds
     open-from-requires
-    add-t15
-    mul-t17
+    stop-from-requires
+    add-t17
+    mul-t19
     slice-set-from-elements
     fill-params-requires
     turn-from-requires

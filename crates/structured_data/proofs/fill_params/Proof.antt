@@ -6,10 +6,10 @@ use Rattle.structured_data.proofs.fill_params.Statement.{statement}
 use Rattle.structured_data.proofs.fill_params.Tie as tie
 
 abbrev Inv-loop : tie.InvT-loop
-Inv-loop s e at params₀ first end i₀ next₀ start₀ params i next start = Storing s e at params₀ first end params i next start
+Inv-loop s e at stop params₀ first end count₀ next₀ start₀ params count next start = Storing s e at params₀ first end params count next start
 
 abbrev μ-loop : tie.MeasureT-loop
-μ-loop s e at params₀ first end i₀ next₀ start₀ params i next start = length s - start
+μ-loop s e at stop params₀ first end count₀ next₀ start₀ params count next start = length s - start
 
 loop-holds : tie.Need-loop-holds Inv-loop μ-loop
 loop-holds c = search (store-laws, needs)
@@ -17,14 +17,14 @@ loop-holds c = search (store-laws, needs)
 entry-from-requires : tie.Need-entry-from-requires Inv-loop μ-loop
 entry-from-requires c κs = search (store-laws, needs)
 
-sub-t14 : tie.Need-sub-t14 Inv-loop μ-loop
-sub-t14 c = search (store-laws, needs)
-
 same-length : tie.Need-same-length Inv-loop μ-loop
 same-length c = search (store-laws, needs)
 
 returns : tie.Need-returns Inv-loop μ-loop
 returns c = search (store-laws, needs)
+
+add-i : tie.Need-add-i Inv-loop μ-loop
+add-i c = search (store-laws, needs)
 
 same-length-2 : tie.Need-same-length-2 Inv-loop μ-loop
 same-length-2 c = search (store-laws, needs)
@@ -38,14 +38,11 @@ mul-row c = search (store-laws, needs)
 slice-set-from-row : tie.Need-slice-set-from-row Inv-loop μ-loop
 slice-set-from-row c = search (store-laws, needs)
 
-add-i : tie.Need-add-i Inv-loop μ-loop
-add-i c = search (store-laws, needs)
+add-count : tie.Need-add-count Inv-loop μ-loop
+add-count c = search (store-laws, needs)
 
 is-at-requires : tie.Need-is-at-requires Inv-loop μ-loop
 is-at-requires c κs = search (store-laws, needs)
-
-sub-t19 : tie.Need-sub-t19 Inv-loop μ-loop
-sub-t19 c = search (store-laws, needs)
 
 same-length-3 : tie.Need-same-length-3 Inv-loop μ-loop
 same-length-3 c = search (store-laws, needs)
@@ -70,16 +67,15 @@ fill-params-spec =
     μ-loop
     loop-holds
     entry-from-requires
-    sub-t14
     same-length
     returns
+    add-i
     same-length-2
     returns-2
     mul-row
     slice-set-from-row
-    add-i
+    add-count
     is-at-requires
-    sub-t19
     same-length-3
     returns-3
     add-start

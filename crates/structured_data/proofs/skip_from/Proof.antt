@@ -30,8 +30,8 @@ is-at-requires-2 c κs = search needs
 returns-3 : tie.Need-returns-3
 returns-3 c = search (skip-laws, needs)
 
-add-t9 : tie.Need-add-t9
-add-t9 c = search (skip-laws, needs)
+add-t10 : tie.Need-add-t10
+add-t10 c = search (skip-laws, needs)
 
 returns-4 : tie.Need-returns-4
 returns-4 c = search (skip-laws, needs)
@@ -49,5 +49,5 @@ skip-from-spec =
     add-end
     is-at-requires-2
     returns-3
-    add-t9
+    add-t10
     returns-4)

@@ -1,5 +1,5 @@
 use borrow.Author.Needs.{needs}
-use Rattle.structured_data.proofs.Items.{turn-laws}
+use Rattle.structured_data.proofs.Turning.{turn-laws}
 use Rattle.structured_data.proofs.turn_from.Statement.{statement}
 use Rattle.structured_data.proofs.turn_from.Tie as tie
 
@@ -11,6 +11,9 @@ returns c = search (turn-laws, needs)
 
 is-at-requires : tie.Need-is-at-requires
 is-at-requires c κs = search needs
+
+later-requires : tie.Need-later-requires
+later-requires c κs = search needs
 
 skip-from-requires-2 : tie.Need-skip-from-requires-2
 skip-from-requires-2 c κs = search needs
@@ -24,8 +27,8 @@ ends-list-requires c κs = search needs
 returns-3 : tie.Need-returns-3
 returns-3 c = search (turn-laws, needs)
 
-add-t11 : tie.Need-add-t11
-add-t11 c = search (turn-laws, needs)
+add-t13 : tie.Need-add-t13
+add-t13 c = search (turn-laws, needs)
 
 returns-4 : tie.Need-returns-4
 returns-4 c = search (turn-laws, needs)
@@ -37,9 +40,10 @@ turn-from-spec =
     skip-from-requires
     returns
     is-at-requires
+    later-requires
     skip-from-requires-2
     returns-2
     ends-list-requires
     returns-3
-    add-t11
+    add-t13
     returns-4)

@@ -1,45 +1,36 @@
 use borrow.Author.Needs.{needs}
-use Rattle.structured_data.proofs.Walks.{Walked, walk-laws}
+use Rattle.structured_data.proofs.Entries.{Walked, walk-laws}
 use Prim.Native.Nat.{_-_}
 use lib.ListN.{length}
 use Rattle.structured_data.proofs.walk_params.Statement.{statement}
 use Rattle.structured_data.proofs.walk_params.Tie as tie
 
 abbrev Inv-loop : tie.InvT-loop
-Inv-loop s at count₀ next₀ start₀ count next start = Walked s at count next start
+Inv-loop s at stop count₀ next₀ start₀ count next start = Walked s 0 at count next start
 
 abbrev μ-loop : tie.MeasureT-loop
-μ-loop s at count₀ next₀ start₀ count next start = length s - start
+μ-loop s at stop count₀ next₀ start₀ count next start = length s - start
 
 loop-holds : tie.Need-loop-holds Inv-loop μ-loop
 loop-holds c = search (walk-laws, needs)
 
-past-requires : tie.Need-past-requires Inv-loop μ-loop
-past-requires c κs = search (walk-laws, needs)
-
-param-at-requires : tie.Need-param-at-requires Inv-loop μ-loop
-param-at-requires c κs = search (walk-laws, needs)
-
-enum-known-len : tie.Need-enum-known-len Inv-loop μ-loop
-enum-known-len c = search (walk-laws, needs)
-
-enum-told : tie.Need-enum-told Inv-loop μ-loop
-enum-told c = search (walk-laws, needs)
+entry-from-requires : tie.Need-entry-from-requires Inv-loop μ-loop
+entry-from-requires c κs = search (walk-laws, needs)
 
 returns : tie.Need-returns Inv-loop μ-loop
 returns c = search (walk-laws, needs)
 
+returns-2 : tie.Need-returns-2 Inv-loop μ-loop
+returns-2 c = search (walk-laws, needs)
+
 add-count : tie.Need-add-count Inv-loop μ-loop
 add-count c = search (walk-laws, needs)
-
-add-next : tie.Need-add-next Inv-loop μ-loop
-add-next c = search (walk-laws, needs)
 
 is-at-requires : tie.Need-is-at-requires Inv-loop μ-loop
 is-at-requires c κs = search (walk-laws, needs)
 
-returns-2 : tie.Need-returns-2 Inv-loop μ-loop
-returns-2 c = search (walk-laws, needs)
+returns-3 : tie.Need-returns-3 Inv-loop μ-loop
+returns-3 c = search (walk-laws, needs)
 
 add-start : tie.Need-add-start Inv-loop μ-loop
 add-start c = search (walk-laws, needs)
@@ -57,15 +48,12 @@ walk-params-spec =
     Inv-loop
     μ-loop
     loop-holds
-    past-requires
-    param-at-requires
-    enum-known-len
-    enum-told
+    entry-from-requires
     returns
-    add-count
-    add-next
-    is-at-requires
     returns-2
+    add-count
+    is-at-requires
+    returns-3
     add-start
     loop-less
     loop-again)

@@ -21,14 +21,21 @@ put-part-requires c κs = (search (next-fits, starts), search needs)
 
 put-requires : tie.Need-put-requires
 unfolding paramText
-put-requires c κs = let c₂ = c .before .before .before in let c₁ = c₂ .before .before .before .before in last-fits (c₁ .before .before .before .before .pre .0) (c₁ .put-name .ensures) (c₂ .put-part .ensures) (search starts)
+put-requires c κs =
+    let c₂ = c .before .before .before in
+    let c₁ = c₂ .before .before .before .before in
+    last-fits (c₁ .before .before .before .before .pre .0) (c₁ .put-name .ensures) (c₂ .put-part .ensures) (search starts)
 
 same-length : tie.Need-same-length
 same-length c = search needs
 
 returns : tie.Need-returns
 unfolding paramText
-returns c = let c₃ = c .before .before in let c₂ = c₃ .before .before .before .before in let c₁ = c₂ .before .before .before .before in three-are (c₁ .before .before .before .before .pre .0) (c₁ .put-name .ensures) (c₂ .put-part .ensures) (c₃ .put .ensures) refl
+returns c =
+    let c₃ = c .before .before in
+    let c₂ = c₃ .before .before .before .before in
+    let c₁ = c₂ .before .before .before .before in
+    three-are (c₁ .before .before .before .before .pre .0) (c₁ .put-name .ensures) (c₂ .put-part .ensures) (c₃ .put .ensures) refl
 
 pub put-param-spec : {M : Type 1} → statement M
 put-param-spec =

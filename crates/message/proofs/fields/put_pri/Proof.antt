@@ -16,13 +16,20 @@ put-number-requires : tie.Need-put-number-requires
 put-number-requires c κs = search (next-fits, pri-starts)
 
 put-requires-2 : tie.Need-put-requires-2
-put-requires-2 c κs = let c₂ = c .before .before .before in let c₁ = c₂ .before .before .before .before in last-fits (c₁ .before .before .before .before .pre) (c₁ .put .ensures) (c₂ .put-number .ensures) (search (starts-named, pri-is))
+put-requires-2 c κs =
+    let c₂ = c .before .before .before in
+    let c₁ = c₂ .before .before .before .before in
+    last-fits (c₁ .before .before .before .before .pre) (c₁ .put .ensures) (c₂ .put-number .ensures) (search (starts-named, pri-is))
 
 same-length : tie.Need-same-length
 same-length c = search needs
 
 returns : tie.Need-returns
-returns c = let c₃ = c .before .before in let c₂ = c₃ .before .before .before .before in let c₁ = c₂ .before .before .before .before in three-are (c₁ .before .before .before .before .pre) (c₁ .put .ensures) (c₂ .put-number .ensures) (c₃ .put2 .ensures) (search pri-is)
+returns c =
+    let c₃ = c .before .before in
+    let c₂ = c₃ .before .before .before .before in
+    let c₁ = c₂ .before .before .before .before in
+    three-are (c₁ .before .before .before .before .pre) (c₁ .put .ensures) (c₂ .put-number .ensures) (c₃ .put2 .ensures) (search pri-is)
 
 pub put-pri-spec : {M : Type 1} → statement M
 put-pri-spec =

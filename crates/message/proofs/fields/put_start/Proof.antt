@@ -11,13 +11,20 @@ put-version-requires : tie.Need-put-version-requires
 put-version-requires c κs = search (next-fits, starts)
 
 put-requires : tie.Need-put-requires
-put-requires c κs = let c₂ = c .before .before .before in let c₁ = c₂ .before .before .before .before in last-fits (c₁ .before .before .before .pre) (c₁ .put-pri .ensures) (c₂ .put-version .ensures) (search starts)
+put-requires c κs =
+    let c₂ = c .before .before .before in
+    let c₁ = c₂ .before .before .before .before in
+    last-fits (c₁ .before .before .before .pre) (c₁ .put-pri .ensures) (c₂ .put-version .ensures) (search starts)
 
 same-length : tie.Need-same-length
 same-length c = search needs
 
 returns : tie.Need-returns
-returns c = let c₃ = c .before .before in let c₂ = c₃ .before .before .before .before in let c₁ = c₂ .before .before .before .before in three-are (c₁ .before .before .before .pre) (c₁ .put-pri .ensures) (c₂ .put-version .ensures) (c₃ .put .ensures) refl
+returns c =
+    let c₃ = c .before .before in
+    let c₂ = c₃ .before .before .before .before in
+    let c₁ = c₂ .before .before .before .before in
+    three-are (c₁ .before .before .before .pre) (c₁ .put-pri .ensures) (c₂ .put-version .ensures) (c₃ .put .ensures) refl
 
 pub put-start-spec : {M : Type 1} → statement M
 put-start-spec =

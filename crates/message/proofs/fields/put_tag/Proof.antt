@@ -23,7 +23,9 @@ slice-aggregate-put-text-2 : tie.Need-slice-aggregate-put-text-2
 slice-aggregate-put-text-2 c = search needs
 
 put-text-requires-2 : tie.Need-put-text-requires-2
-put-text-requires-2 c κs = let c₁ = c .before .before .before .before .before .before in next-fits (c₁ .before .before .before .before .before .before .pre .0) (c₁ .put-place .ensures) (search (starts-named, tag-app))
+put-text-requires-2 c κs =
+    let c₁ = c .before .before .before .before .before .before in
+    next-fits (c₁ .before .before .before .before .before .before .pre .0) (c₁ .put-place .ensures) (search (starts-named, tag-app))
 
 same-length-2 : tie.Need-same-length-2
 same-length-2 c = search needs
@@ -32,7 +34,9 @@ returns-2 : tie.Need-returns-2
 returns-2 c = search (two-are, tag-app)
 
 put-pid-requires : tie.Need-put-pid-requires
-put-pid-requires c κs = let c₁ = c .before .before .before .before .before in (next-fits (c₁ .before .before .before .before .before .before .pre .0) (c₁ .put-place .ensures) (search (starts-named, tag-pid)), search needs)
+put-pid-requires c κs =
+    let c₁ = c .before .before .before .before .before in
+    (next-fits (c₁ .before .before .before .before .before .before .pre .0) (c₁ .put-place .ensures) (search (starts-named, tag-pid)), search needs)
 
 same-length-3 : tie.Need-same-length-3
 same-length-3 c = search needs
