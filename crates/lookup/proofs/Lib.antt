@@ -1,3 +1,4 @@
+pub mod Pairs
 pub mod Compared
 pub mod Unescaping
 pub mod Finding

@@ -16,7 +16,7 @@ use Rattle.base.proofs.Parts.{step, ended}
 use Rattle.output.specs.Fits.{Fits}
 use Rattle.output.specs.Output.{Wrote}
 use Rattle.output.proofs.Writes.{Owes, owes-all, written-none, written-front, written-more, wrote-none, wrote-length}
-use Rattle.output.proofs.Pieces.{Two, first-fits, second-fits, two-laws}
+use Rattle.lookup.proofs.Pairs.{Two, first-fits, second-fits, two-laws}
 use Rattle.lookup.specs.declared.Added.{Added}
 use Rattle.lookup.specs.declared.Added.the-variants.{Nothing, One, Pair}
 use Rattle.lookup.specs.Unescape.{isEscaped, unescapedFrom, unescaped}
