@@ -1,0 +1,227 @@
+//! The five functions of the archive, each behind a safe function over slices and numbers.
+//!
+//! This is the only module with `unsafe`. What makes each call safe is the same: the archive's functions are total, whatever
+//! the bytes, numbers and lengths. They read and write within the counts that they are given and keep nothing after the call.
+//! A Rust slice gives what they ask of a pointer: it is never null (an empty slice's is dangling), it is aligned for its type,
+//! and what is behind a `&mut` overlaps nothing else of the call. Whatever numbers they store are values of `usize` and `u8`.
+//! The declarations follow `include/khamdoriem.h`: a slice is a pointer and then a count.
+
+/// The place of an element's id: start and length.
+pub(crate) type ElementEntry = [usize; 2];
+
+/// The number of a parameter's element, start and length of its name, start and length of its value.
+pub(crate) type ParamEntry = [usize; 5];
+
+/// What printing and lookup answer: 0 and the length of the result, or the number of a refusal and 0.
+#[repr(C)]
+#[derive(Clone, Copy, Debug, PartialEq, Eq)]
+pub(crate) struct Written {
+    pub(crate) number: u32,
+    pub(crate) len: usize,
+}
+
+extern "C" {
+    fn khamdoriem_read_exact(
+        line: *const u8,
+        line_len: usize,
+        variant: u32,
+        year: u32,
+        offset: i32,
+        elements: *mut ElementEntry,
+        elements_len: usize,
+        params: *mut ParamEntry,
+        params_len: usize,
+        record: *mut u8,
+        record_len: usize,
+    ) -> u32;
+
+    fn khamdoriem_read_fallback(
+        line: *const u8,
+        line_len: usize,
+        variant: u32,
+        year: u32,
+        offset: i32,
+        elements: *mut ElementEntry,
+        elements_len: usize,
+        params: *mut ParamEntry,
+        params_len: usize,
+        record: *mut u8,
+        record_len: usize,
+    ) -> u32;
+
+    fn khamdoriem_read_strict(
+        line: *const u8,
+        line_len: usize,
+        elements: *mut ElementEntry,
+        elements_len: usize,
+        params: *mut ParamEntry,
+        params_len: usize,
+        record: *mut u8,
+        record_len: usize,
+    ) -> u32;
+
+    fn khamdoriem_print(
+        line: *const u8,
+        line_len: usize,
+        record: *const u8,
+        record_len: usize,
+        elements: *const ElementEntry,
+        elements_len: usize,
+        params: *const ParamEntry,
+        params_len: usize,
+        output: *mut u8,
+        output_len: usize,
+    ) -> Written;
+
+    fn khamdoriem_lookup(
+        line: *const u8,
+        line_len: usize,
+        record: *const u8,
+        record_len: usize,
+        elements: *const ElementEntry,
+        elements_len: usize,
+        params: *const ParamEntry,
+        params_len: usize,
+        id: *const u8,
+        id_len: usize,
+        name: *const u8,
+        name_len: usize,
+        kind: u32,
+        output: *mut u8,
+        output_len: usize,
+    ) -> Written;
+}
+
+/// The settings of the loose readers, as numbers.
+#[derive(Clone, Copy)]
+pub(crate) struct Numbers {
+    pub(crate) variant: u32,
+    pub(crate) year: u32,
+    pub(crate) offset: i32,
+}
+
+/// What a record and its tables are to printing and lookup: all only read.
+#[derive(Clone, Copy)]
+pub(crate) struct Lent<'a> {
+    pub(crate) line: &'a [u8],
+    pub(crate) record: &'a [u8],
+    pub(crate) elements: &'a [ElementEntry],
+    pub(crate) params: &'a [ParamEntry],
+}
+
+/// Loose exact reading.
+pub(crate) fn read_exact(
+    line: &[u8],
+    settings: Numbers,
+    elements: &mut [ElementEntry],
+    params: &mut [ParamEntry],
+    record: &mut [u8],
+) -> u32 {
+    // SAFETY: the module's: each pointer and count are those of one slice, and the three that are written are borrowed mutably.
+    unsafe {
+        khamdoriem_read_exact(
+            line.as_ptr(),
+            line.len(),
+            settings.variant,
+            settings.year,
+            settings.offset,
+            elements.as_mut_ptr(),
+            elements.len(),
+            params.as_mut_ptr(),
+            params.len(),
+            record.as_mut_ptr(),
+            record.len(),
+        )
+    }
+}
+
+/// Loose fallback reading.
+pub(crate) fn read_fallback(
+    line: &[u8],
+    settings: Numbers,
+    elements: &mut [ElementEntry],
+    params: &mut [ParamEntry],
+    record: &mut [u8],
+) -> u32 {
+    // SAFETY: the module's: each pointer and count are those of one slice, and the three that are written are borrowed mutably.
+    unsafe {
+        khamdoriem_read_fallback(
+            line.as_ptr(),
+            line.len(),
+            settings.variant,
+            settings.year,
+            settings.offset,
+            elements.as_mut_ptr(),
+            elements.len(),
+            params.as_mut_ptr(),
+            params.len(),
+            record.as_mut_ptr(),
+            record.len(),
+        )
+    }
+}
+
+/// Strict reading.
+pub(crate) fn read_strict(
+    line: &[u8],
+    elements: &mut [ElementEntry],
+    params: &mut [ParamEntry],
+    record: &mut [u8],
+) -> u32 {
+    // SAFETY: the module's: each pointer and count are those of one slice, and the three that are written are borrowed mutably.
+    unsafe {
+        khamdoriem_read_strict(
+            line.as_ptr(),
+            line.len(),
+            elements.as_mut_ptr(),
+            elements.len(),
+            params.as_mut_ptr(),
+            params.len(),
+            record.as_mut_ptr(),
+            record.len(),
+        )
+    }
+}
+
+/// Printing.
+pub(crate) fn print(lent: Lent<'_>, output: &mut [u8]) -> Written {
+    // SAFETY: the module's: each pointer and count are those of one slice, and the output, borrowed mutably, is all that is written.
+    unsafe {
+        khamdoriem_print(
+            lent.line.as_ptr(),
+            lent.line.len(),
+            lent.record.as_ptr(),
+            lent.record.len(),
+            lent.elements.as_ptr(),
+            lent.elements.len(),
+            lent.params.as_ptr(),
+            lent.params.len(),
+            output.as_mut_ptr(),
+            output.len(),
+        )
+    }
+}
+
+/// Lookup.
+pub(crate) fn lookup(lent: Lent<'_>, id: &[u8], name: &[u8], kind: u32, output: &mut [u8]) -> Written {
+    // SAFETY: the module's: each pointer and count are those of one slice, and the output, borrowed mutably, is all that is written.
+    unsafe {
+        khamdoriem_lookup(
+            lent.line.as_ptr(),
+            lent.line.len(),
+            lent.record.as_ptr(),
+            lent.record.len(),
+            lent.elements.as_ptr(),
+            lent.elements.len(),
+            lent.params.as_ptr(),
+            lent.params.len(),
+            id.as_ptr(),
+            id.len(),
+            name.as_ptr(),
+            name.len(),
+            kind,
+            output.as_mut_ptr(),
+            output.len(),
+        )
+    }
+}
