@@ -225,3 +225,6 @@ pub(crate) fn lookup(lent: Lent<'_>, id: &[u8], name: &[u8], kind: u32, output: 
         )
     }
 }
+
+#[cfg(test)]
+mod tests;

@@ -1,0 +1,130 @@
+//! Prints where the milliseconds of each tap went: host, stage and milliseconds, a tab between, a line for each stage.
+//!
+//!     stages [FILE]
+//!
+//! FILE has a line of syslog to a line, of either protocol; without FILE they come from standard input. A gate tells of a stage in
+//! an element `stage@32473` with the parameters `name` and `ms`, a whole number. A line may have more than one. A host or a
+//! name that is absent is printed as `-`.
+//!
+//! What has no stage to print is told on standard error with the number of its line, so that nothing is lost: a line that is
+//! refused (with the refusal's number), a line without a stage, a stage without milliseconds. The last line there has the counts.
+
+use std::env;
+use std::ffi::OsString;
+use std::fmt;
+use std::fs::File;
+use std::io::{self, BufRead, BufReader, BufWriter, Write};
+use std::process::ExitCode;
+
+use khamdoriem::{Element, Offset, Settings, Tables, Unescape, Variant, Year, MAX_LINE};
+
+/// The id of the element that tells of a stage. 32473 is the enterprise number for examples.
+const STAGE: &[u8] = b"stage@32473";
+
+/// No time is printed, so a leap year serves: it takes 29 February too.
+const SETTINGS: Settings = match Year::new(2024) {
+    Some(year) => Settings::new(Variant::Either, year, Offset::UTC),
+    None => panic!("no such year"),
+};
+
+/// What was seen.
+#[derive(Default)]
+struct Counts {
+    lines: usize,
+    stages: usize,
+    without: usize,
+    damaged: usize,
+    refused: usize,
+}
+
+impl fmt::Display for Counts {
+    fn fmt(&self, f: &mut fmt::Formatter<'_>) -> fmt::Result {
+        let Counts { lines, stages, without, damaged, refused } = self;
+        write!(f, "{lines} lines: {stages} stages, {without} lines without a stage, ")?;
+        write!(f, "{damaged} stages damaged, {refused} lines refused")
+    }
+}
+
+fn main() -> ExitCode {
+    let args: Vec<OsString> = env::args_os().skip(1).collect();
+    if args.len() > 1 {
+        eprintln!("usage: stages [FILE]");
+        return ExitCode::from(2);
+    }
+    match open(args.first()).and_then(|lines| list(lines, &mut BufWriter::new(io::stdout().lock()))) {
+        Ok(counts) => {
+            eprintln!("stages: {counts}");
+            ExitCode::SUCCESS
+        }
+        Err(error) => {
+            eprintln!("stages: {error}");
+            ExitCode::FAILURE
+        }
+    }
+}
+
+fn open(path: Option<&OsString>) -> io::Result<Box<dyn BufRead>> {
+    let Some(path) = path else {
+        return Ok(Box::new(io::stdin().lock()));
+    };
+    let named = |error: io::Error| io::Error::new(error.kind(), format!("{}: {error}", path.to_string_lossy()));
+    Ok(Box::new(BufReader::new(File::open(path).map_err(named)?)))
+}
+
+/// Lists every line, with one pair of tables.
+fn list(mut lines: impl BufRead, output: &mut impl Write) -> io::Result<Counts> {
+    let mut tables = Tables::for_any_line();
+    let mut counts = Counts::default();
+    let mut line = Vec::new();
+    while lines.read_until(b'\n', &mut line)? > 0 {
+        counts.lines += 1;
+        // The reader would trim the end of the line too, but it would count to the length.
+        list_line(line.strip_suffix(b"\n").unwrap_or(&line), &mut tables, &mut counts, output)?;
+        line.clear();
+    }
+    output.flush()?;
+    Ok(counts)
+}
+
+fn list_line(line: &[u8], tables: &mut Tables, counts: &mut Counts, output: &mut impl Write) -> io::Result<()> {
+    let reading = match tables.read_exact(line, SETTINGS) {
+        Ok(reading) => reading,
+        Err(refusal) => {
+            counts.refused += 1;
+            eprintln!("stages: line {}: refusal {}: {refusal}", counts.lines, refusal.number());
+            return Ok(());
+        }
+    };
+    let host = reading.host().unwrap_or(b"-");
+    let mut stages = reading.elements().filter(|element| element.id() == STAGE).peekable();
+    if stages.peek().is_none() {
+        counts.without += 1;
+        eprintln!("stages: line {}: no stage", counts.lines);
+    }
+    let mut buffer = [0; MAX_LINE];
+    for stage in stages {
+        let Some(ms) = milliseconds(&stage, &mut buffer) else {
+            counts.damaged += 1;
+            eprintln!("stages: line {}: a stage without milliseconds: {stage:?}", counts.lines);
+            continue;
+        };
+        counts.stages += 1;
+        let name = value(&stage, b"name", &mut buffer).unwrap_or(b"-");
+        for part in [host, b"\t", name] {
+            output.write_all(part)?;
+        }
+        writeln!(output, "\t{ms}")?;
+    }
+    Ok(())
+}
+
+/// The value of the stage's first parameter of this name, unescaped. The buffer is as long as the longest line, so it is long enough.
+fn value<'buffer>(stage: &Element<'_, '_>, name: &[u8], buffer: &'buffer mut [u8; MAX_LINE]) -> Option<&'buffer [u8]> {
+    let param = stage.params().find(|param| param.name() == name)?;
+    param.unescaped(Unescape::Loose, buffer).ok()
+}
+
+/// The stage's milliseconds, where it has them and they are a whole number.
+fn milliseconds(stage: &Element<'_, '_>, buffer: &mut [u8; MAX_LINE]) -> Option<u64> {
+    std::str::from_utf8(value(stage, b"ms", buffer)?).ok()?.parse().ok()
+}

@@ -1,0 +1,227 @@
+//! The loose readers: the rules line by line, the fields of both protocols, absent and empty.
+
+use khamdoriem::{Offset, Protocol, Reading, Refusal, Settings, Tables, Timestamp, Variant, Year};
+
+fn settings(variant: Variant, year: u32, minutes: i32) -> Settings {
+    Settings::new(variant, Year::new(year).unwrap(), Offset::from_minutes(minutes).unwrap())
+}
+
+/// Reads with tables of 8 and 8 and shows the reading to `look`.
+fn read<T>(line: &str, settings: Settings, look: impl FnOnce(Reading<'_, '_>) -> T) -> Result<T, Refusal> {
+    let mut tables = Tables::new(8, 8);
+    tables.read_exact(line.as_bytes(), settings).map(look)
+}
+
+/// The same for either protocol at the year 2023 and offset +60.
+fn at_60<T>(line: &str, look: impl FnOnce(Reading<'_, '_>) -> T) -> Result<T, Refusal> {
+    read(line, settings(Variant::Either, 2023, 60), look)
+}
+
+fn text(field: Option<&[u8]>) -> Option<String> {
+    field.map(|bytes| String::from_utf8(bytes.to_vec()).unwrap())
+}
+
+fn some(text: &str) -> Option<String> {
+    Some(text.to_string())
+}
+
+fn message(line: &str) -> Result<String, Refusal> {
+    at_60(line, |r| text(Some(r.message())).unwrap())
+}
+
+fn printed(line: &str) -> Result<String, Refusal> {
+    at_60(line, |r| {
+        let mut output = [0; 512];
+        text(r.print(&mut output).ok()).unwrap()
+    })
+}
+
+#[test]
+fn priority() {
+    let levels = |line: &str| at_60(line, |r| (r.facility(), r.severity()));
+    assert_eq!(levels("<191>1 - h a p m - x"), Ok((Some(23), Some(7))));
+    assert_eq!(levels("<192>1 - h a p m - x"), Ok((None, Some(0))));
+    assert_eq!(levels("<0>1 - h a p m - x"), Ok((Some(0), Some(0))));
+    assert_eq!(levels("<013>1 - h a p m - x"), Ok((Some(1), Some(5))));
+    // Not consumed: RFC 5424 has no version behind it, and RFC 3164 no timestamp.
+    assert_eq!(levels("<256>1 - h a p m - x"), Err(Refusal::NoReading));
+    assert_eq!(levels("Feb 5 10:01:02 h t: m"), Ok((None, None)));
+}
+
+#[test]
+fn a_failing_element_is_skipped_through_the_next_bracket() {
+    let read = at_60(r#"<13>1 - h a p m [id a="x]y" b]"#, |r| (r.elements().len(), text(Some(r.message()))));
+    assert_eq!(read, Ok((0, some(r#"y" b]"#))));
+}
+
+#[test]
+fn rfc3164_elements_without_parameters_stay_in_the_message() {
+    assert_eq!(message("<13>Feb 5 10:01:02 h t: [x] m"), Ok("[x] m".to_string()));
+    assert_eq!(at_60("<13>Feb 5 10:01:02 h t: [x] m", |r| r.elements().len()), Ok(0));
+}
+
+#[test]
+fn rfc3164_dash_before_the_message_is_no_structured_data() {
+    assert_eq!(message("<13>Feb 5 10:01:02 h t: -5 ms"), Ok("5 ms".to_string()));
+}
+
+#[test]
+fn a_tag_that_is_a_dash_takes_the_host_with_it() {
+    let read = at_60("<13>Feb 5 10:01:02 gate7 - m", |r| (text(r.host()), text(r.app_name()), text(r.process_id())));
+    assert_eq!(read, Ok((None, None, None)));
+}
+
+#[test]
+fn a_timestamp_with_a_year_is_utc_shown_at_the_offset() {
+    let line = "<13>Feb 5 2023 10:01:02 gate7 reader[42]: tap ok";
+    assert_eq!(printed(line), Ok("<13> 2023-02-05T11:01:02+01:00 gate7 reader[42]: tap ok".to_string()));
+    assert_eq!(at_60(line, |r| r.timestamp().unwrap().seconds), Ok(1_675_591_262));
+}
+
+#[test]
+fn a_timestamp_without_a_year_is_local() {
+    let line = "<13>Feb  5 10:01:02 gate7 reader[42]: tap ok";
+    let expected = Timestamp { seconds: 1_675_587_662, nanoseconds: 0, offset: Offset::from_minutes(60).unwrap() };
+    assert_eq!(at_60(line, |r| r.timestamp()), Ok(Some(expected)));
+    assert_eq!(printed(line), Ok("<13> 2023-02-05T10:01:02+01:00 gate7 reader[42]: tap ok".to_string()));
+}
+
+#[test]
+fn days_by_month_and_year() {
+    let stamp = |line: &str| at_60(line, |r| r.timestamp().unwrap().seconds);
+    assert_eq!(stamp("<13>1 2023-02-29T00:00:00Z h a p m - x"), Err(Refusal::NoReading));
+    assert_eq!(stamp("<13>1 2024-02-29T00:00:00Z h a p m - x"), Ok(1_709_164_800));
+    // The year of RFC 3164 is the setting's.
+    let line = "<13>Feb 29 00:00:00 h t: m";
+    assert_eq!(stamp(line), Err(Refusal::NoReading));
+    let leap = settings(Variant::Either, 2024, 0);
+    assert_eq!(read(line, leap, |r| r.timestamp().unwrap().seconds), Ok(1_709_164_800));
+}
+
+#[test]
+fn a_quoted_value_may_hold_a_bracket() {
+    let line = r#"<13>1 - h a p m [id a="x]y"] z"#;
+    let read = at_60(line, |r| {
+        let values: Vec<_> = r.params().map(|p| text(Some(p.value())).unwrap()).collect();
+        (values, text(Some(r.message())))
+    });
+    assert_eq!(read, Ok((vec!["x]y".to_string()], some("z"))));
+}
+
+#[test]
+fn a_host_that_ends_in_a_colon_has_no_reading_in_rfc5424() {
+    assert_eq!(message("<13>1 - h: a p m - x"), Err(Refusal::NoReading));
+    assert_eq!(message("<13>1 - h a p m - x"), Ok("x".to_string()));
+}
+
+#[test]
+fn fields_of_rfc3164() {
+    let read = at_60("<13>Feb  5 10:01:02 gate7 reader[42]: tap ok", |r| {
+        assert_eq!(r.protocol(), Protocol::Rfc3164);
+        assert_eq!((r.facility(), r.severity()), (Some(1), Some(5)));
+        assert_eq!(text(r.host()), some("gate7"));
+        assert_eq!(text(r.app_name()), some("reader"));
+        assert_eq!(text(r.process_id()), some("42"));
+        assert_eq!(text(r.message_id()), None);
+        assert_eq!(r.message(), b"tap ok");
+        assert_eq!((r.elements().len(), r.params().len()), (0, 0));
+    });
+    assert_eq!(read, Ok(()));
+}
+
+#[test]
+fn fields_of_rfc5424() {
+    let line = r#"<13>1 2026-01-05T10:01:02.003Z gate7 reader 42 TAP [stage@32473 name="denylist" ms="212"] ok"#;
+    let read = at_60(line, |r| {
+        assert_eq!(r.line(), line.as_bytes());
+        assert_eq!(r.protocol(), Protocol::Rfc5424 { version: 1 });
+        assert_eq!((r.facility(), r.severity()), (Some(1), Some(5)));
+        let stamp = Timestamp { seconds: 1_767_607_262, nanoseconds: 3_000_000, offset: Offset::UTC };
+        assert_eq!(r.timestamp(), Some(stamp));
+        assert_eq!(text(r.host()), some("gate7"));
+        assert_eq!(text(r.app_name()), some("reader"));
+        assert_eq!(text(r.process_id()), some("42"));
+        assert_eq!(text(r.message_id()), some("TAP"));
+        assert_eq!(r.message(), b"ok");
+    });
+    assert_eq!(read, Ok(()));
+}
+
+#[test]
+fn versions_have_32_bits() {
+    let version = |line: &str| at_60(line, |r| r.protocol());
+    assert_eq!(version("<13>007 - h a p m - x"), Ok(Protocol::Rfc5424 { version: 7 }));
+    assert_eq!(version("<13>4294967295 - h a p m - x"), Ok(Protocol::Rfc5424 { version: u32::MAX }));
+    assert_eq!(version("<13>4294967296 - h a p m - x"), Err(Refusal::NoReading));
+}
+
+#[test]
+fn absent_and_empty_differ() {
+    let fields = |line: &str| at_60(line, |r| [r.host(), r.app_name(), r.process_id(), r.message_id()].map(text));
+    assert_eq!(fields("<13>1 - - - - - - x"), Ok([None, None, None, None]));
+    assert_eq!(at_60("<13>1 - - - - - - x", |r| r.timestamp()), Ok(None));
+    // A field that is wholly `[1]` splits into an app that is empty and there.
+    assert_eq!(fields("<13>Feb 5 10:01:02 [1]: m"), Ok([None, some(""), some("1"), None]));
+    assert_eq!(printed("<13>Feb 5 10:01:02 [1]: m"), Ok("<13> 2023-02-05T10:01:02+01:00 - [1]: m".to_string()));
+    assert_eq!(message("<13>1 - h a p m -"), Ok(String::new()));
+}
+
+#[test]
+fn an_empty_value_lies_between_its_quotes() {
+    let line = r#"<13>1 - h a p m [id a=""] x"#;
+    let at = at_60(line, |r| {
+        let value = r.params().next().unwrap().value();
+        (value.len(), value.as_ptr() as usize - r.line().as_ptr() as usize)
+    });
+    assert_eq!(at, Ok((0, line.find(r#""""#).unwrap() + 1)));
+}
+
+#[test]
+fn timestamps_before_1970_have_negative_seconds() {
+    let stamp = |line: &str| at_60(line, |r| r.timestamp());
+    let utc = |seconds, nanoseconds| Some(Timestamp { seconds, nanoseconds, offset: Offset::UTC });
+    assert_eq!(stamp("<13>1 1969-12-31T23:59:59Z h a p m - x"), Ok(utc(-1, 0)));
+    assert_eq!(stamp("<13>1 1969-12-31T23:59:59.25Z h a p m - x"), Ok(utc(-1, 250_000_000)));
+    assert_eq!(stamp("<13>1 0000-01-01T00:00:00Z h a p m - x"), Ok(utc(-62_167_219_200, 0)));
+    let west = Timestamp { seconds: 86_340, nanoseconds: 999_999_999, offset: Offset::MIN };
+    assert_eq!(stamp("<13>1 1970-01-01T00:00:00.999999999-23:59 h a p m - x"), Ok(Some(west)));
+    let east = Timestamp { seconds: -86_340, nanoseconds: 0, offset: Offset::MAX };
+    assert_eq!(stamp("<13>1 1970-01-01T00:00:00+23:59 h a p m - x"), Ok(Some(east)));
+}
+
+#[test]
+fn variants_choose_the_protocol() {
+    let (old, new) = ("<13>Feb 5 10:01:02 h t: m", "<13>1 - h a p m - x");
+    let reads = |line, variant| read(line, settings(variant, 2023, 0), |r| r.protocol());
+    assert_eq!(reads(old, Variant::Either), Ok(Protocol::Rfc3164));
+    assert_eq!(reads(old, Variant::Rfc3164), Ok(Protocol::Rfc3164));
+    assert_eq!(reads(old, Variant::Rfc5424), Err(Refusal::NoReading));
+    assert_eq!(reads(new, Variant::Either), Ok(Protocol::Rfc5424 { version: 1 }));
+    assert_eq!(reads(new, Variant::Rfc5424), Ok(Protocol::Rfc5424 { version: 1 }));
+    assert_eq!(reads(new, Variant::Rfc3164), Err(Refusal::NoReading));
+}
+
+#[test]
+fn the_line_is_trimmed_by_the_exact_reader() {
+    assert_eq!(message("\u{3000} <13>1 - h a p m - x\u{85}\r\n"), Ok("x".to_string()));
+}
+
+#[test]
+fn the_fallback_reader_makes_a_message_of_a_line_with_no_reading() {
+    let at = settings(Variant::Either, 2023, 60);
+    let mut tables = Tables::new(0, 0);
+    let reading = tables.read_fallback(b"  tap ok ", at).unwrap();
+    assert_eq!(reading.message(), b"  tap ok ");
+    assert_eq!(reading.protocol(), Protocol::Rfc3164);
+    assert_eq!((reading.facility(), reading.severity(), reading.timestamp()), (None, None, None));
+    assert_eq!([reading.host(), reading.app_name(), reading.process_id(), reading.message_id()], [None; 4]);
+    let mut output = [0; 64];
+    assert_eq!(reading.print(&mut output), Ok(&b"<47> - - :   tap ok "[..]));
+
+    assert_eq!(tables.read_fallback(b"", at).unwrap().message(), b"");
+    assert_eq!(tables.read_exact(b"", at).unwrap_err(), Refusal::NoReading);
+
+    // A line that has a reading is read as by the exact reader.
+    let line = b"<13>Feb  5 10:01:02 gate7 reader[42]: tap ok";
+    assert_eq!(tables.read_fallback(line, at).unwrap().host(), Some(&b"gate7"[..]));
+}

@@ -1,0 +1,102 @@
+//! The strict reader: what the grammar of RFC 5424 takes and refuses, and what only it tells.
+
+use khamdoriem::{Offset, Protocol, Refusal, Tables, Timestamp, MAX_LINE};
+
+fn taken(line: &[u8]) -> Result<(), Refusal> {
+    Tables::new(8, 8).read_strict(line).map(|_| ())
+}
+
+#[test]
+fn fields() {
+    let mut tables = Tables::new(8, 8);
+    let line = br#"<165>1 2003-10-11T22:14:15.003-07:00 gate7 reader 42 TAP [stage@32473 name="denylist" ms="212"] ok"#;
+    let reading = tables.read_strict(line).unwrap();
+    assert_eq!(reading.line(), line);
+    assert_eq!(reading.protocol(), Protocol::Rfc5424 { version: 1 });
+    assert_eq!((reading.facility(), reading.severity()), (Some(20), Some(5)));
+    let offset = Offset::from_minutes(-420).unwrap();
+    assert_eq!(reading.timestamp(), Some(Timestamp { seconds: 1_065_935_655, nanoseconds: 3_000_000, offset }));
+    assert_eq!(reading.timestamp_text(), Some(&b"2003-10-11T22:14:15.003-07:00"[..]));
+    assert_eq!(reading.host(), Some(&b"gate7"[..]));
+    assert_eq!(reading.app_name(), Some(&b"reader"[..]));
+    assert_eq!(reading.process_id(), Some(&b"42"[..]));
+    assert_eq!(reading.message_id(), Some(&b"TAP"[..]));
+    assert_eq!(reading.message(), Some(&b"ok"[..]));
+    assert_eq!((reading.elements().len(), reading.params().len()), (1, 2));
+}
+
+#[test]
+fn a_message_is_absent_or_empty() {
+    let mut tables = Tables::new(0, 0);
+    assert_eq!(tables.read_strict(b"<13>1 - h a p m -").unwrap().message(), None);
+    assert_eq!(tables.read_strict(b"<13>1 - h a p m - ").unwrap().message(), Some(&b""[..]));
+    assert_eq!(tables.read_strict(b"<13>1 - h a p m - \xff").unwrap().message(), Some(&b"\xff"[..]));
+    let none = tables.read_strict(b"<13>1 - h a p m -").unwrap();
+    assert_eq!(none.into_loose().message(), b"");
+}
+
+#[test]
+fn a_mark_in_front_of_a_message_stays_and_asks_for_utf8() {
+    let mut tables = Tables::new(0, 0);
+    let marked = tables.read_strict("<13>1 - h a p m - \u{feff}tür".as_bytes()).unwrap();
+    assert_eq!(marked.message(), Some("\u{feff}tür".as_bytes()));
+    assert_eq!(taken(b"<13>1 - h a p m - \xef\xbb\xbf\xff"), Err(Refusal::NoReading));
+}
+
+#[test]
+fn absent_fields() {
+    let mut tables = Tables::new(0, 0);
+    let reading = tables.read_strict(b"<13>1 - - - - - x").err();
+    assert_eq!(reading, Some(Refusal::NoReading));
+    let reading = tables.read_strict(b"<13>1 - - - - - - x").unwrap();
+    assert_eq!((reading.timestamp(), reading.timestamp_text()), (None, None));
+    assert_eq!([reading.host(), reading.app_name(), reading.process_id(), reading.message_id()], [None; 4]);
+}
+
+#[test]
+fn line_by_line() {
+    // The loose reader takes the first and has no reading of the second.
+    assert_eq!(taken(br#"<13>1 - h a p m [id a="x]y"]"#), Err(Refusal::NoReading));
+    assert_eq!(taken(b"<13>1 - h: a p m - x"), Ok(()));
+    assert_eq!(taken(b"<13>1 2023-02-29T00:00:00Z h a p m - x"), Err(Refusal::NoReading));
+    assert_eq!(taken(b"<13>1 2024-02-29T00:00:00Z h a p m - x"), Ok(()));
+    assert_eq!(taken(b"<191>1 - h a p m - x"), Ok(()));
+    assert_eq!(taken(b"<192>1 - h a p m - x"), Err(Refusal::NoReading));
+    assert_eq!(taken(b"<013>1 - h a p m - x"), Err(Refusal::NoReading));
+    assert_eq!(taken(br#"<13>1 - h a p m [id a="x\"]"#), Err(Refusal::NoReading));
+    assert_eq!(taken(br#"<13>1 - h a p m [id a="x\\"]"#), Ok(()));
+    assert_eq!(taken(b"<13>1 - h a p m [x]"), Ok(()));
+    assert_eq!(taken(b" <13>1 - h a p m - x"), Err(Refusal::NoReading));
+    assert_eq!(taken(b""), Err(Refusal::NoReading));
+}
+
+#[test]
+fn a_host_has_at_most_255_bytes() {
+    let with_host = |len: usize| format!("<13>1 - {} a p m - x", "h".repeat(len));
+    assert_eq!(taken(with_host(255).as_bytes()), Ok(()));
+    assert_eq!(taken(with_host(256).as_bytes()), Err(Refusal::NoReading));
+}
+
+#[test]
+fn a_line_has_at_most_8192_bytes() {
+    let mut line = b"<13>1 - h a p m - ".to_vec();
+    line.resize(MAX_LINE, b'x');
+    assert_eq!(taken(&line), Ok(()));
+    line.push(b'x');
+    assert_eq!(taken(&line), Err(Refusal::LineTooLong));
+}
+
+#[test]
+fn a_fraction_has_at_most_six_digits() {
+    let mut tables = Tables::new(0, 0);
+    let stamp = |t: &mut Tables, line: &[u8]| t.read_strict(line).map(|r| r.timestamp().unwrap().nanoseconds);
+    assert_eq!(stamp(&mut tables, b"<13>1 2024-02-29T00:00:00.000001Z h a p m - x"), Ok(1_000));
+    assert_eq!(stamp(&mut tables, b"<13>1 2024-02-29T00:00:00.0000001Z h a p m - x"), Err(Refusal::NoReading));
+}
+
+#[test]
+fn before_1970() {
+    let mut tables = Tables::new(0, 0);
+    let reading = tables.read_strict(b"<13>1 1969-12-31T23:59:58.5Z h a p m - x").unwrap();
+    assert_eq!(reading.timestamp(), Some(Timestamp { seconds: -2, nanoseconds: 500_000_000, offset: Offset::UTC }));
+}
