@@ -57,19 +57,17 @@ fn archive() -> Result<PathBuf, String> {
 }
 
 fn make(repository: &Path) -> Result<(), String> {
-    let otherwise = format!("set {VARIABLE} to the file libexports.a, or put the Rattle toolchain's rt on the PATH");
+    let named = format!("set {VARIABLE} to the file libexports.a");
     if !repository.join("crates/exports").is_dir() {
-        return Err(format!(
-            "no archive, and no crate 'exports' below {} to make it from: {otherwise}",
-            repository.display()
-        ));
+        let below = repository.display();
+        return Err(format!("no archive, and no crate 'exports' below {below} to make it from: {named}"));
     }
     let made = Command::new("rt")
         .args(["staticlib", "exports"])
         .current_dir(repository)
         .stdin(Stdio::null())
         .output()
-        .map_err(|e| format!("no archive, and rt cannot be run to make it ({e}): {otherwise}"))?;
+        .map_err(|e| format!("no archive, and rt cannot be run to make it ({e}): {named}, or put rt on the PATH"))?;
     if made.status.success() {
         return Ok(());
     }

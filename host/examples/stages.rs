@@ -40,8 +40,8 @@ struct Counts {
 impl fmt::Display for Counts {
     fn fmt(&self, f: &mut fmt::Formatter<'_>) -> fmt::Result {
         let Counts { lines, stages, without, damaged, refused } = self;
-        write!(f, "{lines} lines: {stages} stages, {without} lines without a stage, ")?;
-        write!(f, "{damaged} stages damaged, {refused} lines refused")
+        write!(f, "lines {lines}, stages {stages}, lines without a stage {without}, ")?;
+        write!(f, "damaged stages {damaged}, refused lines {refused}")
     }
 }
 
@@ -64,11 +64,18 @@ fn main() -> ExitCode {
 }
 
 fn open(path: Option<&OsString>) -> io::Result<Box<dyn BufRead>> {
-    let Some(path) = path else {
-        return Ok(Box::new(io::stdin().lock()));
-    };
-    let named = |error: io::Error| io::Error::new(error.kind(), format!("{}: {error}", path.to_string_lossy()));
-    Ok(Box::new(BufReader::new(File::open(path).map_err(named)?)))
+    match path {
+        None => Ok(Box::new(io::stdin().lock())),
+        Some(path) => {
+            let file = File::open(path).map_err(telling(&path.to_string_lossy()))?;
+            Ok(Box::new(BufReader::new(file)))
+        }
+    }
+}
+
+/// An error with the place where it came up in front.
+fn telling(place: &str) -> impl Fn(io::Error) -> io::Error + '_ {
+    move |error| io::Error::new(error.kind(), format!("{place}: {error}"))
 }
 
 /// Lists every line, with one pair of tables.
@@ -76,7 +83,7 @@ fn list(mut lines: impl BufRead, output: &mut impl Write) -> io::Result<Counts> 
     let mut tables = Tables::for_any_line();
     let mut counts = Counts::default();
     let mut line = Vec::new();
-    while lines.read_until(b'\n', &mut line)? > 0 {
+    while lines.read_until(b'\n', &mut line).map_err(telling("reading lines"))? > 0 {
         counts.lines += 1;
         // The reader would trim the end of the line too, but it would count to the length.
         list_line(line.strip_suffix(b"\n").unwrap_or(&line), &mut tables, &mut counts, output)?;
@@ -101,21 +108,26 @@ fn list_line(line: &[u8], tables: &mut Tables, counts: &mut Counts, output: &mut
         counts.without += 1;
         eprintln!("stages: line {}: no stage", counts.lines);
     }
-    let mut buffer = [0; MAX_LINE];
     for stage in stages {
-        let Some(ms) = milliseconds(&stage, &mut buffer) else {
-            counts.damaged += 1;
-            eprintln!("stages: line {}: a stage without milliseconds: {stage:?}", counts.lines);
-            continue;
-        };
+        list_stage(host, &stage, counts, output)?;
+    }
+    Ok(())
+}
+
+fn list_stage(host: &[u8], stage: &Element<'_, '_>, counts: &mut Counts, output: &mut impl Write) -> io::Result<()> {
+    let mut buffer = [0; MAX_LINE];
+    if let Some(ms) = milliseconds(stage, &mut buffer) {
         counts.stages += 1;
-        let name = value(&stage, b"name", &mut buffer).unwrap_or(b"-");
+        let name = value(stage, b"name", &mut buffer).unwrap_or(b"-");
         for part in [host, b"\t", name] {
             output.write_all(part)?;
         }
-        writeln!(output, "\t{ms}")?;
+        writeln!(output, "\t{ms}")
+    } else {
+        counts.damaged += 1;
+        eprintln!("stages: line {}: a stage without milliseconds: {stage:?}", counts.lines);
+        Ok(())
     }
-    Ok(())
 }
 
 /// The value of the stage's first parameter of this name, unescaped. The buffer is as long as the longest line, so it is long enough.

@@ -176,7 +176,7 @@ impl<'line, 'tables, Kind> Reading<'line, 'tables, Kind> {
     }
 }
 
-impl<'line, 'tables> Reading<'line, 'tables, Loose> {
+impl<'line> Reading<'line, '_, Loose> {
     /// The message, which may be empty.
     pub fn message(&self) -> &'line [u8] {
         self.record.message(self.line)

@@ -11,8 +11,8 @@ use crate::MAX_LINE;
 
 /// The tables that a reader fills: one of elements, one of parameters, and the record beside them.
 ///
-/// Make them once and read every line with them: a call allocates nothing and clears nothing. A [`Reading`] borrows its tables,
-/// so the next line cannot be read while something still looks at this one:
+/// Make them once and read every line with them, one for each thread: a call allocates nothing and clears nothing. A [`Reading`]
+/// borrows its tables, so the next line cannot be read while something still looks at this one:
 ///
 /// ```compile_fail,E0499
 /// use khamdoriem::Tables;

@@ -1,5 +1,7 @@
 //! Each refusal by its number, that it leaves what it was lent, and that 2 and 7 do not arise.
 
+use std::thread;
+
 use khamdoriem::{Offset, Reading, Refusal, Settings, Tables, Unescape, Variant, Year, MAX_LINE};
 
 const SETTINGS: Settings = Settings::new(Variant::Either, Year::MIN, Offset::UTC);
@@ -101,6 +103,23 @@ fn a_loose_reading_after_a_strict_one_and_back() {
     assert_eq!((loose.timestamp(), loose.message()), (None, &b"ok"[..]));
     let strict = tables.read_strict(b"<13>1 - gate7 reader 42 TAP -").unwrap();
     assert_eq!((strict.timestamp_text(), strict.message()), (None, None));
+}
+
+#[test]
+fn each_thread_reads_with_its_own_tables() {
+    thread::scope(|scope| {
+        for gate in 0..4 {
+            scope.spawn(move || {
+                let line = format!("<13>1 - gate{gate} reader {gate}{gate} TAP [a@1 x=\"{gate}\"] ok");
+                let mut tables = Tables::new(1, 1);
+                for _ in 0..500 {
+                    let reading = tables.read_strict(line.as_bytes()).unwrap();
+                    let mut output = [0; 64];
+                    assert_eq!(reading.print(&mut output), Ok(line.as_bytes()));
+                }
+            });
+        }
+    });
 }
 
 /// Prints the reading and looks each of its parameters up. An answer of 2 or 7 would panic.

@@ -70,6 +70,20 @@ fn a_kind_out_of_range_is_refused_with_2() {
 }
 
 #[test]
+fn a_lone_backslash_at_the_end_of_a_value_goes_or_stays_by_kind() {
+    // No reader leaves such a value: backslash takes the next character with it. Here the place ends a byte early.
+    let line = br#"<13>1 - gate7 reader 42 TAP [a@1 x="1\\"]"#;
+    let mut memory = Memory::new(1, 1, 240);
+    assert_eq!(memory.read_strict(line), 0);
+    memory.params[0][4] -= 1;
+    let mut output = [b'.'; 2];
+    assert_eq!(lookup(memory.lent(line), b"a@1", b"x", 0, &mut output), Written { number: 0, len: 1 });
+    assert_eq!(&output, b"1.");
+    assert_eq!(lookup(memory.lent(line), b"a@1", b"x", 1, &mut output), Written { number: 0, len: 2 });
+    assert_eq!(&output, br"1\");
+}
+
+#[test]
 fn refused_readers_change_nothing() {
     for (elements, params, record, line, number) in
         [(2, 2, 240, &b"no line"[..], 4), (1, 2, 240, LINE, 5), (2, 1, 240, LINE, 6), (2, 2, 207, LINE, 8)]
