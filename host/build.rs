@@ -35,7 +35,7 @@ fn link() -> Result<(), String> {
 
 /// The file that the variable names, else the repository's archive, else the one that `rt` makes there.
 fn archive() -> Result<PathBuf, String> {
-    if let Some(named) = env::var_os(VARIABLE) {
+    if let Some(named) = env::var_os(VARIABLE).filter(|named| !named.is_empty()) {
         let named = PathBuf::from(named);
         return if named.is_file() {
             Ok(named)

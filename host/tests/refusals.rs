@@ -14,8 +14,10 @@ fn refused<T: std::fmt::Debug>(result: Result<T, Refusal>) -> u32 {
 #[test]
 fn number_1() {
     let mut tables = Tables::new(0, 0);
-    let mut line = vec![b'x'; MAX_LINE];
-    assert_eq!(tables.read_fallback(&line, SETTINGS).unwrap().message(), line);
+    let mut line = b"<13>1 - h a p m - ".to_vec();
+    line.resize(MAX_LINE, b'x');
+    assert_eq!(tables.read_exact(&line, SETTINGS).unwrap().message(), &line[18..]);
+    assert_eq!(tables.read_fallback(&line, SETTINGS).unwrap().message(), &line[18..]);
     line.push(b'x');
     assert_eq!(refused(tables.read_exact(&line, SETTINGS)), 1);
     assert_eq!(refused(tables.read_fallback(&line, SETTINGS)), 1);

@@ -99,3 +99,41 @@ fn before_1970() {
     let reading = tables.read_strict(b"<13>1 1969-12-31T23:59:58.5Z h a p m - x").unwrap();
     assert_eq!(reading.timestamp(), Some(Timestamp { seconds: -2, nanoseconds: 500_000_000, offset: Offset::UTC }));
 }
+
+#[test]
+fn examples_of_rfc5424() {
+    let mut tables = Tables::new(2, 4);
+    let line = "<34>1 2003-10-11T22:14:15.003Z mymachine.example.com su - ID47 - \u{feff}'su root' failed for lonvick on /dev/pts/8";
+    let reading = tables.read_strict(line.as_bytes()).unwrap();
+    assert_eq!((reading.facility(), reading.severity()), (Some(4), Some(2)));
+    assert_eq!((reading.process_id(), reading.message_id()), (None, Some(&b"ID47"[..])));
+    assert_eq!(reading.message(), Some("\u{feff}'su root' failed for lonvick on /dev/pts/8".as_bytes()));
+
+    let line = b"<165>1 2003-08-24T05:14:15.000003-07:00 192.0.2.1 myproc 8710 - - %% It's time to make the do-nuts.";
+    let reading = tables.read_strict(line).unwrap();
+    let offset = Offset::from_minutes(-420).unwrap();
+    assert_eq!(reading.timestamp(), Some(Timestamp { seconds: 1_061_727_255, nanoseconds: 3_000, offset }));
+    assert_eq!((reading.process_id(), reading.message_id()), (Some(&b"8710"[..]), None));
+
+    let line = br#"<165>1 2003-10-11T22:14:15.003Z mymachine.example.com evntslog - ID47 [exampleSDID@32473 iut="3" eventSource="Application" eventID="1011"][examplePriority@32473 class="high"]"#;
+    let reading = tables.read_strict(line).unwrap();
+    let ids: Vec<&[u8]> = reading.elements().map(|element| element.id()).collect();
+    assert_eq!(ids, [&b"exampleSDID@32473"[..], b"examplePriority@32473"]);
+    let values: Vec<&[u8]> = reading.params().map(|param| param.value()).collect();
+    assert_eq!(values, [&b"3"[..], b"Application", b"1011", b"high"]);
+    assert_eq!(reading.message(), None);
+}
+
+#[test]
+fn timestamps_of_rfc5424() {
+    let mut tables = Tables::new(0, 0);
+    let mut seconds = |stamp: &str| {
+        let line = format!("<13>1 {stamp} h a p m - x");
+        tables.read_strict(line.as_bytes()).map(|reading| reading.timestamp().unwrap().seconds)
+    };
+    assert_eq!(seconds("1985-04-12T23:20:50.52Z"), Ok(482_196_050));
+    assert_eq!(seconds("1985-04-12T19:20:50.52-04:00"), Ok(482_196_050));
+    assert_eq!(seconds("2003-08-24T05:14:15.000000003-07:00"), Err(Refusal::NoReading));
+    assert_eq!(seconds("2003-08-24t05:14:15Z"), Err(Refusal::NoReading));
+    assert_eq!(seconds("2003-08-24T05:14:60Z"), Err(Refusal::NoReading));
+}
