@@ -1,6 +1,6 @@
 /* The C boundary of Khamdoriem. docs/INTERFACE.md says what each call answers and how the record is laid out.
    A slice is a pointer and a count. A pointer may not be null, also where its count is 0; the memory of a table is aligned for size_t.
-   Nothing lent is kept after a call, and no two things lent to one call overlap. */
+   Nothing lent is kept after a call. What a call writes to may not overlap anything else that it is lent. */
 #ifndef KHAMDORIEM_H
 #define KHAMDORIEM_H
 
