@@ -93,6 +93,18 @@ module _ (u d : ℕ) (l m : ℤ) (fl : SFits w64 l) (fm : SFits w64 m) (el : l �
   pub joined : (r : ℤ) → SFits w64 r → r ≡ toZ w64 (ofZ w64 l) -ℤ toZ w64 (ofZ w64 m) → toZ w64 (ofZ w64 r) ≡ subℕ u d
   joined r fr er = back r fr ∙ er ∙ rw (back l fl, back m fm, el, em) (pos-sub u d)
 
+-- a number below 0
+less-one : (n : ℕ) → negsuc 0 -ℤ pos n ≡ negsuc n
+less-one zero = refl
+less-one (suc n) = let e : 0 + n ≡ n = omega arith in ap (λ (k : ℕ). negsuc (suc k)) e
+
+module _ (n : ℕ) (b : n < 2 ^ 63) (l : ℤ) (fl : SFits w64 l) (el : l ≡ pos n) where
+  pub negative-fits : SFits w64 (negsuc 0 -ℤ toZ w64 (ofZ w64 l))
+  negative-fits = rw (back l fl, el, less-one) (record { sfits = b })
+
+  pub negative-is : (r : ℤ) → SFits w64 r → r ≡ negsuc 0 -ℤ toZ w64 (ofZ w64 l) → toZ w64 (ofZ w64 r) ≡ negsuc n
+  negative-is r fr er = back r fr ∙ er ∙ rw (back l fl, el) (less-one n)
+
 -- computing with differences
 pub as-diff : (z : ℤ) → z ≡ subℕ (up z) (down z)
 as-diff (pos n) = let p : n ≡ n - 0 = omega arith in ap pos p ∙ sym (sub-ge n 0 (omega arith))

@@ -106,6 +106,8 @@ pub struct StrictAnswer {
     pub params: usize,
 }
 
+// As a C caller gets it.
+#[repr(C)]
 pub struct OutputAnswer {
     pub number: u32,
     pub len: usize,
