@@ -1,0 +1,4 @@
+pub mod Words
+pub mod Fields
+pub mod Bits
+pub mod Numbers

@@ -1,0 +1,15 @@
+use borrow.Author.Needs.{needs}
+use Rattle.layout.proofs.message_at.Statement.{statement}
+use Rattle.layout.proofs.message_at.Tie as tie
+
+word-at-requires : tie.Need-word-at-requires
+word-at-requires c κs = search needs
+
+word-at-requires-2 : tie.Need-word-at-requires-2
+word-at-requires-2 c κs = search needs
+
+returns : tie.Need-returns
+returns c = cc
+
+pub message-at-spec : {M : Type 1} → statement M
+message-at-spec = tie.close (tie.spec word-at-requires word-at-requires-2 returns)
