@@ -29,36 +29,53 @@ use Rattle.loose.specs.declared.Judged.{Judged}
 use Rattle.loose.specs.declared.Judged.the-variants.{Refuse, Fitting}
 use Rattle.loose.proofs.Judging.{passed}
 
-module _ (line : List ℕ) (variant year : ℕ) (o : ℤ) (f : SFits w32 o) (e₀ p₀ : List (List ℕ)) (j : Judged)
-    (c : Judges line variant year (toZ w32 (ofZ w32 o)) (length e₀) (length p₀) j) where
-  here : Judges line variant year o (length e₀) (length p₀) j
+-- what was judged of tables of `e` and `p` entries, no table at hand
+module _ (line : List ℕ) (variant year : ℕ) (o : ℤ) (f : SFits w32 o) (e p : ℕ) (j : Judged) (c : Judges line variant year (toZ w32 (ofZ w32 o)) e p j) where
+  here : Judges line variant year o e p j
   here = rw (toZ-ofZ w32 o f) at c
 
-  pub exact-refused : (x : Refusal) → j ≡ Refuse x → ReadsExact line variant year o e₀ p₀ (Refused x) e₀ p₀
-  exact-refused x z = record { answer = sym (rw z at (here .is)); elements = refl; params = refl }
+  pub answer-refused : (x : Refusal) → j ≡ Refuse x → Refused x ≡ answered line variant year o (outcomeOf line variant year o) e p
+  answer-refused x z = sym (rw z at (here .is))
 
   module _ (rules : Rules) (r : Record) (end at n m : ℕ) (z : j ≡ Fitting rules r end at n m) where
-    fits : Fits line variant year o (length e₀) (length p₀) rules r end at n m
+    fits : Fits line variant year o e p rules r end at n m
     fits = rw z at (here .is)
 
+    pub answer-read : Read r n m ≡ answered line variant year o (outcomeOf line variant year o) e p
+    answer-read =
+        let d = fits .drafts in
+        sym (passed line variant year o (fits .passes) (outcomeOf line variant year o) e p _
+        (rw (d .is, ← d .elements-are, le-ltb e n (fits .elements-fit), ← d .params-are, le-ltb p m (fits .params-fit))))
+
+pub ruleset answer-laws = (answer-refused, answer-read)
+
+-- and of the tables
+module _ (line : List ℕ) (variant year : ℕ) (o : ℤ) (f : SFits w32 o) (e₀ p₀ : List (List ℕ)) (j : Judged)
+    (c : Judges line variant year (toZ w32 (ofZ w32 o)) (length e₀) (length p₀) j) where
+  pub exact-refused : (x : Refusal) → j ≡ Refuse x → ReadsExact line variant year o e₀ p₀ (Refused x) e₀ p₀
+  exact-refused x z = record { answer = answer-refused line variant year o f (length e₀) (length p₀) j c x z; elements = refl; params = refl }
+
+  module _ (rules : Rules) (r : Record) (end at n m : ℕ) (z : j ≡ Fitting rules r end at n m) where
+    fitting : Fits line variant year o (length e₀) (length p₀) rules r end at n m
+    fitting = fits line variant year o f (length e₀) (length p₀) j c rules r end at n m z
+
     pub part-ends : end ≤ length line
-    part-ends = fits .inside
+    part-ends = fitting .inside
 
     pub part-whole : end - 0 ≡ end
     part-whole = omega arith
 
     pub tables-room : Room rules (take (end - 0) line) at n m e₀ p₀
     tables-room =
-        let d = fits .drafts in
-        rw part-whole (record { elements-are = d .elements-are; params-are = d .params-are; elements-fit = fits .elements-fit; params-fit = fits .params-fit })
+        let d = fitting .drafts in
+        rw part-whole (record { elements-are = d .elements-are; params-are = d .params-are; elements-fit = fitting .elements-fit; params-fit = fitting .params-fit })
 
     pub exact-read : (e₁ p₁ : List (List ℕ)) → Fills rules (take (end - 0) line) at e₀ p₀ e₁ p₁ → ReadsExact line variant year o e₀ p₀ (Read r n m) e₁ p₁
     exact-read e₁ p₁ g =
-        let d = fits .drafts in
+        let d = fitting .drafts in
         let k : Fills rules (take end line) at e₀ p₀ e₁ p₁ = rw part-whole at g in
         record {
-          answer = sym (passed line variant year o (fits .passes) (outcomeOf line variant year o) (length e₀) (length p₀) _
-              (rw (d .is, ← d .elements-are, le-ltb (length e₀) n (fits .elements-fit), ← d .params-are, le-ltb (length p₀) m (fits .params-fit))));
+          answer = answer-read line variant year o f (length e₀) (length p₀) j c rules r end at n m z;
           elements = k .elements ∙ rw (d .is);
           params = k .params ∙ rw (d .is);
         }
@@ -112,6 +129,13 @@ module _ (line : List ℕ) (variant year : ℕ) (o : ℤ) (e p : ℕ) where
       ∙ sym (unfilled (answered line variant year o (orWhole line noReading) e p) (side (endAt 0)) old z)
   whole-tables side z old (isReading r at rows) = refl
 
+pub fallback-answers : (line : List ℕ) (variant year : ℕ) (o : ℤ) → SFits w32 o → (e p : ℕ) (r x : Reading)
+    → r ≡ answered line variant year (toZ w32 (ofZ w32 o)) (outcomeOf line variant year (toZ w32 (ofZ w32 o))) e p → x ≡ orMessage (length line) r
+    → x ≡ answered line variant year o (orWhole line (outcomeOf line variant year o)) e p
+fallback-answers line variant year o f e p r x h q =
+    let k : r ≡ answered line variant year o (outcomeOf line variant year o) e p = rw (toZ-ofZ w32 o f) at h in
+    q ∙ ap (orMessage (length line)) k ∙ sym (whole-answered line variant year o e p (outcomeOf line variant year o))
+
 module _ (line : List ℕ) (variant year : ℕ) (o : ℤ) (f : SFits w32 o) (e₀ p₀ : List (List ℕ)) (r : Reading) (e₁ p₁ : List (List ℕ))
     (h : ReadsExact line variant year (toZ w32 (ofZ w32 o)) e₀ p₀ r e₁ p₁) (x : Reading) (q : x ≡ orMessage (length line) r) where
   exactly : ReadsExact line variant year o e₀ p₀ r e₁ p₁
@@ -121,7 +145,7 @@ module _ (line : List ℕ) (variant year : ℕ) (o : ℤ) (f : SFits w32 o) (e�
   outcome = outcomeOf line variant year o
 
   whole-answer : x ≡ answered line variant year o (orWhole line outcome) (length e₀) (length p₀)
-  whole-answer = q ∙ ap (orMessage (length line)) (exactly .answer) ∙ sym (whole-answered line variant year o (length e₀) (length p₀) outcome)
+  whole-answer = fallback-answers line variant year o f (length e₀) (length p₀) r x (h .answer) q
 
   whole-table : (side : Rows → List (List ℕ)) → side (endAt 0) ≡ [] → (old new : List (List ℕ)) → new ≡ tableAfter r (side (rowsOf outcome)) old
       → new ≡ tableAfter x (side (rowsOf (orWhole line outcome))) old

@@ -15,7 +15,7 @@ ghost use lib.IntN.{natAbs};
 ghost use lib.ListN.{length};
 ghost use Rattle.rfc3164.specs.Rfc3164.{rfc3164};
 ghost use Rattle.rfc5424.specs.Rfc5424.{rfc5424};
-ghost use Rattle.loose.specs.Loose.{byVariant, whole, settingsOk, ReadsExact, ReadsFallback};
+ghost use Rattle.loose.specs.Loose.{byVariant, outcomeOf, whole, orWhole, settingsOk, answered, ReadsExact, ReadsFallback};
 ghost use Rattle.loose.specs.Judging.{Finds, Passes, Judges, orMessage};
 
 // What a reader of lines found: the rules that its structured data is read by, the record, where the structured data stands, and the
@@ -156,6 +156,23 @@ fn judge(line: &[u8], variant: u32, year: u32, offset: i32, e: usize, p: usize) 
     judge_text(line, variant, year, offset, e, p)
 }
 
+// What exact reading answers to tables of `e` and `p` entries, with no table at hand.
+pub fn answer(line: &[u8], variant: u32, year: u32, offset: i32, e: usize, p: usize) -> Reading
+    ensures { λ r. ⌜ r ≡ answered (now (line .entry)) variant year offset (outcomeOf (now (line .entry)) variant year offset) e p ⌝ }
+{
+    match judge(line, variant, year, offset, e, p) {
+        Judged::Refuse(refusal) => Reading::Refused(refusal),
+        Judged::Fitting {
+            rules: _,
+            read,
+            end: _,
+            at: _,
+            elements,
+            params,
+        } => Reading::Read(read, elements, params),
+    }
+}
+
 // Loose exact reading: a line with no reading is refused.
 pub fn read_exact(
     line: &[u8],
@@ -212,6 +229,20 @@ fn or_message(len: usize, r: Reading) -> Reading
         return Reading::Read(whole(len), 0, 0);
     }
     r
+}
+
+// What fallback reading answers to tables of `e` and `p` entries, with no table at hand.
+pub fn answer_fallback(
+    line: &[u8],
+    variant: u32,
+    year: u32,
+    offset: i32,
+    e: usize,
+    p: usize,
+) -> Reading
+    ensures { λ r. ⌜ r ≡ answered (now (line .entry)) variant year offset (orWhole (now (line .entry)) (outcomeOf (now (line .entry)) variant year offset)) e p ⌝ }
+{
+    or_message(line.len(), answer(line, variant, year, offset, e, p))
 }
 
 // Loose fallback reading: a line with no reading becomes the message.
