@@ -1,11 +1,14 @@
 -- The reading: each answer of the reader is the one that its contract names.
 use Prim.Native.Nat.{ℕ, _≤_, _<_}
 use mathlib.Core.Path.{_≡_, refl, sym, ap, ap₂, _∙_}
-use mathlib.Core.Bool.{true, false}
+use mathlib.Core.Bool.{Bool, true, false}
 use mathlib.Core.List.{List, []}
 use mathlib.Core.Option.{Option, none, some}
+use native.Mathlib.Omega.{arith}
+use lib.Dec.{ltb}
 use lib.ListN.{length, drop}
-use Rattle.base.specs.Choose.{isAt}
+use borrow.Author.Tests.{lt-ltb, le-ltb, ltb-true, ltb-false}
+use Rattle.base.specs.Choose.{if_then_else_, isAt}
 use Rattle.base.specs.Fills.{filled}
 use Rattle.base.proofs.Tests.{clash}
 use Rattle.grammar.specs.Line.{Division, Element, dataThen, messageText, Derives}
@@ -18,10 +21,14 @@ use Rattle.grammar.proofs.Header.{headerThen, HeaderOk, header-reads}
 use Rattle.grammar.proofs.Data.{data-reads}
 use Rattle.grammar.proofs.Lines.{headerOf, parse-sound, none-derived}
 use Rattle.elements.specs.Filling.{elementsAt, elementsOf, Fillable}
+use Rattle.record.specs.declared.StrictReading.{StrictReading}
 use Rattle.record.specs.declared.StrictReading.the-variants.{Read, Refused}
 use Rattle.record.specs.declared.StrictRecord.{StrictRecord}
+use Rattle.record.specs.declared.Refusal.{Refusal}
 use Rattle.record.specs.declared.Refusal.the-variants.{LineTooLong, NoReading, TooManyElements, TooManyParams}
-use Rattle.strict.specs.Scan.{scanOf}
+use Rattle.strict.specs.Scan.{scanOf, fitting, judged, readingOf, answered}
+use Rattle.strict.specs.declared.Judged.{Judged}
+use Rattle.strict.specs.declared.Judged.the-variants.{Refuse, Fitting}
 use Rattle.strict.specs.declared.Scan.{Scan}
 use Rattle.strict.specs.declared.Scan.the-variants.{NoScan, IsScan}
 use Rattle.strict.proofs.Scans.{header-size}
@@ -74,57 +81,177 @@ data-found line d h =
 
 -- ---- the answers
 
-module _ (line : List ℕ) (e₀ p₀ : List (List ℕ)) where
-  pub read-long : 8192 < length line → StrictReads line e₀ p₀ (Refused LineTooLong) e₀ p₀
-  read-long h = too-long h refl refl refl
+-- in the order in which they are checked
+module _ (line : List ℕ) (e p : ℕ) where
+  pub judge-long : 8192 < length line → Refuse LineTooLong ≡ judged line e p
+  unfolding judged
+  judge-long h = rw (lt-ltb 8192 (length line) h)
 
-  module _ (short : length line ≤ 8192) (f : Scan) (e : f ≡ scanOf (parse line)) where
-    pub read-none : f ≡ NoScan → StrictReads line e₀ p₀ (Refused NoReading) e₀ p₀
-    read-none h = underivable short (none-derived line (none-scanned (parse line) f e h)) refl refl refl
+  module _ (short : length line ≤ 8192) (f : Scan) (q : f ≡ scanOf (parse line)) where
+    pub judge-none : f ≡ NoScan → Refuse NoReading ≡ judged line e p
+    unfolding judged
+    judge-none h = rw (le-ltb 8192 (length line) short, ← q, h)
 
     module _ (r : StrictRecord) (at len n k : ℕ) (h : f ≡ IsScan r at len n k) where
-      division : Divided line r at len n k
-      division = divided-is line (parse line) f r at len n k refl e h
+      pub judge-elements : e < n → Refuse TooManyElements ≡ judged line e p
+      unfolding judged
+      judge-elements l = rw (le-ltb 8192 (length line) short, ← q, h, lt-ltb e n l)
 
-      pub read-elements : length e₀ < n → StrictReads line e₀ p₀ (Refused TooManyElements) e₀ p₀
-      read-elements l =
-          let w = division in
-          elements-over (w .into-fields) short (w .derived) (rw (w .elements-counted) at l) refl refl refl
+      module _ (room : n ≤ e) where
+        pub judge-params : p < k → Refuse TooManyParams ≡ judged line e p
+        unfolding judged
+        judge-params l = rw (le-ltb 8192 (length line) short, ← q, h, le-ltb e n room, lt-ltb p k l)
 
-      module _ (room : n ≤ length e₀) where
-        pub read-params : length p₀ < k → StrictReads line e₀ p₀ (Refused TooManyParams) e₀ p₀
-        read-params l =
-            let w = division in
-            params-over (w .into-fields) short (w .derived) (rw (w .elements-counted) at room) (rw (w .params-counted) at l) refl refl refl
+        pub judge-fits : k ≤ p → Fitting r at len n k ≡ judged line e p
+        unfolding judged
+        judge-fits l = rw (le-ltb 8192 (length line) short, ← q, h, le-ltb e n room, le-ltb p k l)
 
-        module _ (space : k ≤ length p₀) where
-          found-there : structured (drop at line) ≡ found (division .into-fields .elements) len
-          found-there =
-              let w = division in
-              ap (λ (a : ℕ). structured (drop a line)) (w .data-at)
-              ∙ data-found line (w .into-fields) (w .derived)
-              ∙ ap (found (w .into-fields .elements)) (sym (w .data-len))
+pub ruleset judge-laws = (judge-long, judge-none, judge-elements, judge-params, judge-fits)
 
-          same-elements : elementsAt line at ≡ division .into-fields .elements
-          same-elements = ap elementsOf found-there
+-- no table at hand
+module _ (line : List ℕ) (e p : ℕ) (j : Judged) (q : j ≡ judged line e p) where
+  pub answer-refused : (x : Refusal) → j ≡ Refuse x → Refused x ≡ answered line e p
+  unfolding answered
+  answer-refused x z = rw (← q, z)
 
-          pub fill-there : Fillable line at len e₀ p₀
-          fill-there =
-              let w = division in
-              record {
-                data-found = found-there ∙ ap (λ (es : List Element). found es len) (sym same-elements);
-                elements-room = rw (same-elements, ← w .elements-counted) room;
-                params-room = rw (same-elements, ← w .params-counted) space;
-              }
+  pub answer-read : (r : StrictRecord) (at len n k : ℕ) → j ≡ Fitting r at len n k → Read r n k ≡ answered line e p
+  unfolding answered
+  answer-read r at len n k z = rw (← q, z)
 
-          pub read-done : (e₁ p₁ : List (List ℕ)) → e₁ ≡ filled (elementRows at (elementsAt line at)) e₀ → p₁ ≡ filled (paramRows 0 at (elementsAt line at)) p₀
-              → StrictReads line e₀ p₀ (Read r n k) e₁ p₁
-          read-done e₁ p₁ ee ep =
-              let w = division in
-              let d = w .into-fields in
-              accepted d short (w .derived) (rw (w .elements-counted) at room) (rw (w .params-counted) at space)
-              (λ i. Read (w .record-is i) (w .elements-counted i) (w .params-counted i))
-              (ee ∙ ap₂ (λ (a : ℕ) (es : List Element). filled (elementRows a es) e₀) (w .data-at) same-elements)
-              (ep ∙ ap₂ (λ (a : ℕ) (es : List Element). filled (paramRows 0 a es) p₀) (w .data-at) same-elements)
+pub ruleset answer-laws = (answer-refused, answer-read)
 
-pub ruleset read-laws = (read-long, read-none, read-elements, read-params, fill-there, read-done)
+-- what a judgement says of the line
+record Fits (line : List ℕ) (e p : ℕ) (r : StrictRecord) (at len n k : ℕ) : Type 0 where
+  short : length line ≤ 8192
+  division : Divided line r at len n k
+  room : n ≤ e
+  space : k ≤ p
+
+module _ (line : List ℕ) (e₀ p₀ : List (List ℕ)) where
+  module _ (short : length line ≤ 8192) (r : StrictRecord) (at len n k : ℕ) (w : Divided line r at len n k) where
+    elements-refused : length e₀ < n → StrictReads line e₀ p₀ (Refused TooManyElements) e₀ p₀
+    elements-refused l = elements-over (w .into-fields) short (w .derived) (rw (w .elements-counted) at l) refl refl refl
+
+    params-refused : n ≤ length e₀ → length p₀ < k → StrictReads line e₀ p₀ (Refused TooManyParams) e₀ p₀
+    params-refused room l = params-over (w .into-fields) short (w .derived) (rw (w .elements-counted) at room) (rw (w .params-counted) at l) refl refl refl
+
+  -- a refusal leaves the tables
+  module _ (x : Refusal) where
+    abbrev Refuses : Type 0
+    Refuses = StrictReads line e₀ p₀ (Refused x) e₀ p₀
+
+    refused-fitting : length line ≤ 8192 → (o : Scan) → o ≡ scanOf (parse line) → fitting o (length e₀) (length p₀) ≡ Refuse x → Refuses
+    refused-fitting short NoScan eo h =
+        let q : x ≡ NoReading = cc in
+        rw q (underivable short (none-derived line (none-scanned (parse line) NoScan eo refl)) refl refl refl)
+    refused-fitting short (IsScan r at len n k) eo h = go (ltb (length e₀) n) (ltb (length p₀) k) refl refl h
+      where
+        go : (a b : Bool) → ltb (length e₀) n ≡ a → ltb (length p₀) k ≡ b
+            → (if a then Refuse TooManyElements else if b then Refuse TooManyParams else Fitting r at len n k) ≡ Refuse x → Refuses
+        go true b ea eb g =
+            let q : x ≡ TooManyElements = cc in
+            rw q (elements-refused short r at len n k (divided-is line (parse line) (IsScan r at len n k) r at len n k refl eo refl) (ltb-true (length e₀) n ea))
+        go false true ea eb g =
+            let q : x ≡ TooManyParams = cc in
+            rw q (params-refused short r at len n k (divided-is line (parse line) (IsScan r at len n k) r at len n k refl eo refl) (ltb-false (length e₀) n ea) (ltb-true (length p₀) k eb))
+        go false false ea eb g = let z : _≡_ {A = ℕ} 0 1 = cc in absurd (omega arith)
+
+    refused-reads : judged line (length e₀) (length p₀) ≡ Refuse x → Refuses
+    unfolding judged
+    refused-reads h = go (ltb 8192 (length line)) refl h
+      where
+        go : (b : Bool) → ltb 8192 (length line) ≡ b → (if b then Refuse LineTooLong else fitting (scanOf (parse line)) (length e₀) (length p₀)) ≡ Refuse x → Refuses
+        go true eb g = let q : x ≡ LineTooLong = cc in rw q (too-long (ltb-true 8192 (length line) eb) refl refl refl)
+        go false eb g = refused-fitting (ltb-false 8192 (length line) eb) (scanOf (parse line)) refl g
+
+  module _ (r : StrictRecord) (at len n k : ℕ) where
+    fits-scan : length line ≤ 8192 → (o : Scan) → o ≡ scanOf (parse line) → fitting o (length e₀) (length p₀) ≡ Fitting r at len n k → Fits line (length e₀) (length p₀) r at len n k
+    fits-scan short NoScan eo h = let z : _≡_ {A = ℕ} 0 1 = cc in absurd (omega arith)
+    fits-scan short (IsScan r′ at′ len′ n′ k′) eo h = go (ltb (length e₀) n′) (ltb (length p₀) k′) refl refl h
+      where
+        go : (a b : Bool) → ltb (length e₀) n′ ≡ a → ltb (length p₀) k′ ≡ b
+            → (if a then Refuse TooManyElements else if b then Refuse TooManyParams else Fitting r′ at′ len′ n′ k′) ≡ Fitting r at len n k → Fits line (length e₀) (length p₀) r at len n k
+        go true b ea eb g = let z : _≡_ {A = ℕ} 0 1 = cc in absurd (omega arith)
+        go false true ea eb g = let z : _≡_ {A = ℕ} 0 1 = cc in absurd (omega arith)
+        go false false ea eb g =
+            let en : n′ ≡ n = cc in
+            let ek : k′ ≡ k = cc in
+            let same : IsScan r′ at′ len′ n′ k′ ≡ IsScan r at len n k = cc in
+            record {
+              short = short;
+              division = divided-is line (parse line) (IsScan r′ at′ len′ n′ k′) r at len n k refl eo same;
+              room = rw en at (ltb-false (length e₀) n′ ea);
+              space = rw ek at (ltb-false (length p₀) k′ eb);
+            }
+
+    fits : judged line (length e₀) (length p₀) ≡ Fitting r at len n k → Fits line (length e₀) (length p₀) r at len n k
+    unfolding judged
+    fits h = go (ltb 8192 (length line)) refl h
+      where
+        go : (b : Bool) → ltb 8192 (length line) ≡ b → (if b then Refuse LineTooLong else fitting (scanOf (parse line)) (length e₀) (length p₀)) ≡ Fitting r at len n k
+            → Fits line (length e₀) (length p₀) r at len n k
+        go true eb g = let z : _≡_ {A = ℕ} 0 1 = cc in absurd (omega arith)
+        go false eb g = fits-scan (ltb-false 8192 (length line) eb) (scanOf (parse line)) refl g
+
+    module _ (c : Fits line (length e₀) (length p₀) r at len n k) where
+      found-there : structured (drop at line) ≡ found (c .division .into-fields .elements) len
+      found-there =
+          let w = c .division in
+          ap (λ (a : ℕ). structured (drop a line)) (w .data-at)
+          ∙ data-found line (w .into-fields) (w .derived)
+          ∙ ap (found (w .into-fields .elements)) (sym (w .data-len))
+
+      same-elements : elementsAt line at ≡ c .division .into-fields .elements
+      same-elements = ap elementsOf found-there
+
+      fits-fill : Fillable line at len e₀ p₀
+      fits-fill =
+          let w = c .division in
+          record {
+            data-found = found-there ∙ ap (λ (es : List Element). found es len) (sym same-elements);
+            elements-room = rw (same-elements, ← w .elements-counted) (c .room);
+            params-room = rw (same-elements, ← w .params-counted) (c .space);
+          }
+
+      fits-read : (e₁ p₁ : List (List ℕ)) → e₁ ≡ filled (elementRows at (elementsAt line at)) e₀ → p₁ ≡ filled (paramRows 0 at (elementsAt line at)) p₀
+          → StrictReads line e₀ p₀ (Read r n k) e₁ p₁
+      fits-read e₁ p₁ ee ep =
+          let w = c .division in
+          let d = w .into-fields in
+          accepted d (c .short) (w .derived) (rw (w .elements-counted) at (c .room)) (rw (w .params-counted) at (c .space))
+          (λ i. Read (w .record-is i) (w .elements-counted i) (w .params-counted i))
+          (ee ∙ ap₂ (λ (a : ℕ) (es : List Element). filled (elementRows a es) e₀) (w .data-at) same-elements)
+          (ep ∙ ap₂ (λ (a : ℕ) (es : List Element). filled (paramRows 0 a es) p₀) (w .data-at) same-elements)
+
+  module _ (j : Judged) (q : j ≡ judged line (length e₀) (length p₀)) where
+    pub read-refused : (x : Refusal) → j ≡ Refuse x → StrictReads line e₀ p₀ (Refused x) e₀ p₀
+    read-refused x z = refused-reads x (sym q ∙ z)
+
+    module _ (r : StrictRecord) (at len n k : ℕ) (z : j ≡ Fitting r at len n k) where
+      pub fill-there : Fillable line at len e₀ p₀
+      fill-there = fits-fill r at len n k (fits r at len n k (sym q ∙ z))
+
+      pub read-done : (e₁ p₁ : List (List ℕ)) → e₁ ≡ filled (elementRows at (elementsAt line at)) e₀ → p₁ ≡ filled (paramRows 0 at (elementsAt line at)) p₀
+          → StrictReads line e₀ p₀ (Read r n k) e₁ p₁
+      read-done = fits-read r at len n k (fits r at len n k (sym q ∙ z))
+
+pub ruleset read-laws = (read-refused, fill-there, read-done)
+
+-- What is answered with no table at hand is what a reading into tables of those sizes answers.
+pub record Answers (line : List ℕ) (e₀ p₀ : List (List ℕ)) (r : StrictReading) : Type 0 where
+  pub elements : List (List ℕ)
+  pub params : List (List ℕ)
+  pub reads : StrictReads line e₀ p₀ r elements params
+
+pub answers : (line : List ℕ) (e₀ p₀ : List (List ℕ)) → Answers line e₀ p₀ (answered line (length e₀) (length p₀))
+unfolding answered
+answers line e₀ p₀ = go (judged line (length e₀) (length p₀)) refl
+  where
+    go : (j : Judged) → j ≡ judged line (length e₀) (length p₀) → Answers line e₀ p₀ (readingOf j)
+    go (Refuse x) q = record { elements = e₀; params = p₀; reads = read-refused line e₀ p₀ (Refuse x) q x refl }
+    go (Fitting r at len n k) q =
+        record {
+          elements = filled (elementRows at (elementsAt line at)) e₀;
+          params = filled (paramRows 0 at (elementsAt line at)) p₀;
+          reads = read-done line e₀ p₀ (Fitting r at len n k) q r at len n k refl _ _ refl refl;
+        }

@@ -14,12 +14,18 @@ ghost use mathlib.Core.Path.{_≡_};
 ghost use Prim.Native.Nat.{_≤_};
 ghost use Rattle.grammar.specs.Parse as parse;
 ghost use Rattle.grammar.specs.Reading.{StrictReads};
-ghost use Rattle.strict.specs.Scan.{recordWith, scanOf};
+ghost use Rattle.strict.specs.Scan.{recordWith, scanOf, judged, answered};
 
 // What a line holds before its rows are stored: the record, where the structured data stands and how many bytes it takes, and both counts.
 enum Scan {
     NoScan,
     IsScan(StrictRecord, usize, usize, usize, usize),
+}
+
+// A line that is refused, or a scan that the tables have room for.
+enum Judged {
+    Refuse(Refusal),
+    Fitting(StrictRecord, usize, usize, usize, usize),
 }
 
 // The record of a header and a message.
@@ -89,22 +95,44 @@ fn scan_line(line: &[u8]) -> Scan
     }
 }
 
+// What is known of a line before a table is touched: the refusals in order, tables of `e` and `p` entries.
+fn judge(line: &[u8], e: usize, p: usize) -> Judged
+    ensures { λ r. ⌜ r ≡ judged (now (line .entry)) e p ⌝ }
+{
+    if 8192 < line.len() {
+        return Judged::Refuse(Refusal::LineTooLong);
+    }
+    let Scan::IsScan(r, at, len, n, k) = scan_line(line) else {
+        return Judged::Refuse(Refusal::NoReading);
+    };
+    if e < n {
+        return Judged::Refuse(Refusal::TooManyElements);
+    }
+    if p < k {
+        return Judged::Refuse(Refusal::TooManyParams);
+    }
+    Judged::Fitting(r, at, len, n, k)
+}
+
+// What reading answers to tables of `e` and `p` entries, with no table at hand.
+pub fn answer(line: &[u8], e: usize, p: usize) -> StrictReading
+    ensures { λ r. ⌜ r ≡ answered (now (line .entry)) e p ⌝ }
+{
+    match judge(line, e, p) {
+        Judged::Refuse(refusal) => StrictReading::Refused(refusal),
+        Judged::Fitting(r, _, _, n, k) => StrictReading::Read(r, n, k),
+    }
+}
+
 // Reads a line strictly. On a refusal the tables keep their entries, and entries past the counts are kept always.
 pub fn read(line: &[u8], elements: &mut [[usize; 2]], params: &mut [[usize; 5]]) -> StrictReading
     ensures { λ r. ⌜ StrictReads (now (line .entry)) (now (elements .entry)) (now (params .entry)) r (now (elements .exit)) (now (params .exit)) ⌝ }
 {
-    if 8192 < line.len() {
-        return StrictReading::Refused(Refusal::LineTooLong);
+    match judge(line, elements.len(), params.len()) {
+        Judged::Refuse(refusal) => StrictReading::Refused(refusal),
+        Judged::Fitting(r, at, len, e, p) => {
+            elements::fill_data(line, at, len, elements, params);
+            StrictReading::Read(r, e, p)
+        }
     }
-    let Scan::IsScan(r, at, len, e, p) = scan_line(line) else {
-        return StrictReading::Refused(Refusal::NoReading);
-    };
-    if elements.len() < e {
-        return StrictReading::Refused(Refusal::TooManyElements);
-    }
-    if params.len() < p {
-        return StrictReading::Refused(Refusal::TooManyParams);
-    }
-    elements::fill_data(line, at, len, elements, params);
-    StrictReading::Read(r, e, p)
 }
