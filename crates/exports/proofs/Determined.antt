@@ -1,0 +1,90 @@
+-- The contracts leave nothing open: any two results that one allows on the same inputs are equal.
+use Prim.Native.Nat.{ℕ}
+use mathlib.Core.Path.{_≡_, sym, ap, ap₂, _∙_}
+use mathlib.Core.Bool.{true, false}
+use mathlib.Core.List.{List}
+use lib.IntN.{ℤ}
+use lib.ListN.{length}
+use Rattle.base.specs.Fills.{filled}
+use Rattle.base.proofs.Tests.{clash}
+use Rattle.record.specs.Answers.{outputAnswerOf}
+use Rattle.record.specs.declared.Record.{Record}
+use Rattle.record.specs.declared.Written.{Written}
+use Rattle.record.specs.declared.Refusal.{Refusal}
+use Rattle.record.specs.declared.OutputAnswer.{OutputAnswer}
+use Rattle.grammar.proofs.Readings.{strict-determined}
+use Rattle.grammar.specs.Reading.{StrictReads}
+use Rattle.loose.specs.Loose.{outcomeOf, orWhole, ReadsExact, ReadsFallback}
+use Rattle.loose.proofs.Determined.{one-reading}
+use Rattle.message.specs.Prints.{Prints}
+use Rattle.message.proofs.Laws.{answers-agree, outputs-agree}
+use Rattle.lookup.specs.Lookup.{Looks}
+use Rattle.lookup.proofs.Answers.{looks-one}
+use Rattle.layout.specs.Incoming.{recordAt, elementCountAt, paramCountAt}
+use Rattle.exports.specs.Exports.{leftNumber, kept, Leaves, numberOf, bytesOf, strictNumberOf, strictBytesOf, LeavesExact, LeavesFallback, LeavesStrict, Serves, printFirst, lookupFirst, ServesPrint, ServesLookup}
+use Rattle.exports.specs.Exports.Serves.{held, unheld}
+
+-- the number, the tables and the record's memory
+pub record Same (n m : ℕ) (e e′ p p′ : List (List ℕ)) (out out′ : List ℕ) : Type 0 where
+  pub number : n ≡ m
+  pub elements : e ≡ e′
+  pub params : p ≡ p′
+  pub memory : out ≡ out′
+
+-- a reader, where its reading is determined
+module _ {A : Type 0} (number : A → ℕ) (bytes : A → List ℕ) (size : ℕ) (ReadsTo : A → List (List ℕ) → List (List ℕ) → Type 0)
+    (one : (r s : A) (e₁ e₂ p₁ p₂ : List (List ℕ)) → ReadsTo r e₁ p₁ → ReadsTo s e₂ p₂ → (r ≡ s) × (e₁ ≡ e₂) × (p₁ ≡ p₂))
+    (e₀ p₀ : List (List ℕ)) (out : List ℕ) where
+  pub leaves-one : (n m : ℕ) (e e′ p p′ : List (List ℕ)) (new new′ : List ℕ)
+      → Leaves number bytes size ReadsTo e₀ p₀ out n e p new → Leaves number bytes size ReadsTo e₀ p₀ out m e′ p′ new′ → Same n m e e′ p p′ new new′
+  leaves-one n m e e′ p p′ new new′ h k =
+      let (a, b, c) = one (h .answer) (k .answer) (h .elements) (k .elements) (h .params) (k .params) (h .reads) (k .reads) in
+      let q : n ≡ m = h .number-is ∙ ap (λ (r : A). leftNumber (number r) size (length out)) a ∙ sym (k .number-is) in
+      record {
+        number = q;
+        elements = h .elements-are ∙ ap₂ (λ (i : ℕ) (t : List (List ℕ)). kept i t e₀) q b ∙ sym (k .elements-are);
+        params = h .params-are ∙ ap₂ (λ (i : ℕ) (t : List (List ℕ)). kept i t p₀) q c ∙ sym (k .params-are);
+        memory = h .record-is ∙ ap₂ (λ (i : ℕ) (r : A). kept i (filled (bytes r) out) out) q a ∙ sym (k .record-is);
+      }
+
+-- a service, where it is determined
+module _ (bytes : List ℕ) (first : Refusal) (Service : Record → ℕ → ℕ → Written → List ℕ → Type 0)
+    (one : (v w : Written) (new other : List ℕ) → Service (recordAt bytes) (elementCountAt bytes) (paramCountAt bytes) v new
+    → Service (recordAt bytes) (elementCountAt bytes) (paramCountAt bytes) w other → (v ≡ w) × (new ≡ other))
+    (old : List ℕ) where
+  pub serves-one : {a b : OutputAnswer} {new other : List ℕ} → Serves bytes first Service old a new → Serves bytes first Service old b other → (a ≡ b) × (new ≡ other)
+  serves-one {a} {b} {new} {other} (held t v h e) (held u w k f) = let (x, y) = one v w new other h k in (e ∙ ap outputAnswerOf x ∙ sym f, y)
+  serves-one (held t v h e) (unheld u f g) = clash (sym t ∙ u)
+  serves-one (unheld t e g) (held u w k f) = clash (sym u ∙ t)
+  serves-one (unheld t e g) (unheld u f k) = (e ∙ sym f, g ∙ sym k)
+
+-- ---- the five functions
+
+module _ (line : List ℕ) (variant year : ℕ) (offset : ℤ) (e₀ p₀ : List (List ℕ)) (out : List ℕ) (n m : ℕ) (e e′ p p′ : List (List ℕ)) (new new′ : List ℕ) where
+  pub exact-one : LeavesExact line variant year offset e₀ p₀ out n e p new → LeavesExact line variant year offset e₀ p₀ out m e′ p′ new′ → Same n m e e′ p p′ new new′
+  exact-one =
+      leaves-one numberOf bytesOf 208 (ReadsExact line variant year offset e₀ p₀) (one-reading line variant year offset (outcomeOf line variant year offset) e₀ p₀)
+      e₀ p₀ out n m e e′ p p′ new new′
+
+  pub fallback-one : LeavesFallback line variant year offset e₀ p₀ out n e p new → LeavesFallback line variant year offset e₀ p₀ out m e′ p′ new′ → Same n m e e′ p p′ new new′
+  fallback-one =
+      leaves-one numberOf bytesOf 208 (ReadsFallback line variant year offset e₀ p₀) (one-reading line variant year offset (orWhole line (outcomeOf line variant year offset)) e₀ p₀)
+      e₀ p₀ out n m e e′ p p′ new new′
+
+  pub strict-one : LeavesStrict line e₀ p₀ out n e p new → LeavesStrict line e₀ p₀ out m e′ p′ new′ → Same n m e e′ p p′ new new′
+  strict-one =
+      leaves-one strictNumberOf strictBytesOf 240 (StrictReads line e₀ p₀) (λ r s e₁ e₂ p₁ p₂ h k. strict-determined h k) e₀ p₀ out n m e e′ p p′ new new′
+
+module _ (line bytes : List ℕ) (elements params : List (List ℕ)) (old : List ℕ) {a b : OutputAnswer} {new other : List ℕ} where
+  pub print-one : ServesPrint line bytes elements params old a new → ServesPrint line bytes elements params old b other → (a ≡ b) × (new ≡ other)
+  print-one =
+      let r = recordAt bytes in
+      let e = elementCountAt bytes in
+      let p = paramCountAt bytes in
+      serves-one bytes (printFirst (length line)) (λ r e p w new. Prints line r e p elements params old w new)
+      (λ v w new other h k. (answers-agree line r e p elements params old v w new other h k, outputs-agree line r e p elements params old v w new other h k)) old
+
+  pub lookup-one : (id name : List ℕ) (kind : ℕ) → ServesLookup line bytes elements params id name kind old a new → ServesLookup line bytes elements params id name kind old b other
+      → (a ≡ b) × (new ≡ other)
+  lookup-one id name kind =
+      serves-one bytes (lookupFirst (length line) kind) (λ r e p w new. Looks line r e p elements params id name kind old w new) (λ v w new other h k. looks-one h k) old

@@ -1,0 +1,3 @@
+mod Calls
+mod Services
+pub mod Determined

@@ -1,0 +1,13 @@
+use borrow.Author.Needs.{needs}
+use Rattle.exports.proofs.Services.{first-laws}
+use Rattle.exports.proofs.print_first.Statement.{statement}
+use Rattle.exports.proofs.print_first.Tie as tie
+
+returns : tie.Need-returns
+returns c = search (first-laws, needs)
+
+returns-2 : tie.Need-returns-2
+returns-2 c = search (first-laws, needs)
+
+pub print-first-spec : {M : Type 1} → statement M
+print-first-spec = tie.close (tie.spec returns returns-2)

@@ -1,0 +1,97 @@
+-- The five functions of include/khamdoriem.h: the number that each answers, and what it leaves in what it was lent.
+use Prim.Native.Nat.{ℕ}
+use mathlib.Core.Path.{_≡_}
+use mathlib.Core.Bool.{true, false}
+use mathlib.Core.List.{List, []}
+use lib.Dec.{eqb, ltb}
+use lib.IntN.{ℤ}
+use lib.ListN.{length}
+use Rattle.base.specs.Choose.{if_then_else_}
+use Rattle.base.specs.Fills.{filled}
+use Rattle.record.specs.Answers.{answerOf, strictAnswerOf, outputAnswerOf}
+use Rattle.record.specs.declared.Record.{Record}
+use Rattle.record.specs.declared.Reading.{Reading}
+use Rattle.record.specs.declared.Reading.the-variants.{Read, Refused}
+use Rattle.record.specs.declared.StrictReading.{StrictReading}
+use Rattle.record.specs.declared.StrictReading.the-variants as strict
+use Rattle.record.specs.declared.Written.{Written}
+use Rattle.record.specs.declared.Written.the-variants as written
+use Rattle.record.specs.declared.Refusal.{Refusal}
+use Rattle.record.specs.declared.Refusal.the-variants.{LineTooLong, BadSetting, Unsuitable}
+use Rattle.record.specs.declared.OutputAnswer.{OutputAnswer}
+use Rattle.layout.specs.Layout.{recordBytes, strictBytes}
+use Rattle.layout.specs.Incoming.{holdsRecord, recordAt, elementCountAt, paramCountAt}
+use Rattle.grammar.specs.Reading.{StrictReads}
+use Rattle.loose.specs.Loose.{ReadsExact, ReadsFallback}
+use Rattle.message.specs.Prints.{Prints}
+use Rattle.lookup.specs.Lookup.{Looks}
+
+-- ---- the readers
+
+-- 8, last of all, where the record's memory is too short
+abbrev pub shortNumber : ℕ → ℕ
+shortNumber n = if eqb n 0 then 8 else n
+
+-- the number of an answer, where `room` bytes are lent for a record of `size` bytes
+abbrev pub leftNumber : ℕ → ℕ → ℕ → ℕ
+leftNumber n size room = if ltb room size then shortNumber n else n
+
+-- a call that answers a number other than 0 has changed nothing that it was lent
+abbrev pub kept : {A : Type 0} → ℕ → A → A → A
+kept n new old = if eqb n 0 then new else old
+
+-- A call of a reader: it has an answer, and the tables as the reading leaves them, by `Reads`.
+pub record Leaves {A : Type 0} (number : A → ℕ) (bytes : A → List ℕ) (size : ℕ) (Reads : A → List (List ℕ) → List (List ℕ) → Type 0)
+    (e₀ p₀ : List (List ℕ)) (out₀ : List ℕ) (n : ℕ) (e₁ p₁ : List (List ℕ)) (out₁ : List ℕ) : Type 0 where
+  pub answer : A
+  pub elements : List (List ℕ)
+  pub params : List (List ℕ)
+  pub reads : Reads answer elements params
+  pub number-is : n ≡ leftNumber (number answer) size (length out₀)
+  pub elements-are : e₁ ≡ kept n elements e₀
+  pub params-are : p₁ ≡ kept n params p₀
+  pub record-is : out₁ ≡ kept n (filled (bytes answer) out₀) out₀
+
+abbrev pub numberOf : Reading → ℕ
+numberOf r = answerOf r .number
+
+abbrev pub bytesOf : Reading → List ℕ
+bytesOf (Read r e p) = recordBytes r e p
+bytesOf (Refused f) = []
+
+abbrev pub strictNumberOf : StrictReading → ℕ
+strictNumberOf r = strictAnswerOf r .number
+
+abbrev pub strictBytesOf : StrictReading → List ℕ
+strictBytesOf (strict.Read r e p) = strictBytes r e p
+strictBytesOf (strict.Refused f) = []
+
+abbrev pub LeavesExact : List ℕ → ℕ → ℕ → ℤ → List (List ℕ) → List (List ℕ) → List ℕ → ℕ → List (List ℕ) → List (List ℕ) → List ℕ → Type 0
+LeavesExact line variant year offset e₀ p₀ = Leaves numberOf bytesOf 208 (ReadsExact line variant year offset e₀ p₀) e₀ p₀
+
+abbrev pub LeavesFallback : List ℕ → ℕ → ℕ → ℤ → List (List ℕ) → List (List ℕ) → List ℕ → ℕ → List (List ℕ) → List (List ℕ) → List ℕ → Type 0
+LeavesFallback line variant year offset e₀ p₀ = Leaves numberOf bytesOf 208 (ReadsFallback line variant year offset e₀ p₀) e₀ p₀
+
+abbrev pub LeavesStrict : List ℕ → List (List ℕ) → List (List ℕ) → List ℕ → ℕ → List (List ℕ) → List (List ℕ) → List ℕ → Type 0
+LeavesStrict line e₀ p₀ = Leaves strictNumberOf strictBytesOf 240 (StrictReads line e₀ p₀) e₀ p₀
+
+-- ---- printing and lookup
+
+-- A call over the bytes of a record: where they hold one, the service's answer; where not, refusal `first`, and the output as it was.
+pub data Serves (bytes : List ℕ) (first : Refusal) (Service : Record → ℕ → ℕ → Written → List ℕ → Type 0) (old : List ℕ) (a : OutputAnswer) (new : List ℕ) : Type 0 where
+  held : holdsRecord bytes ≡ true → (w : Written) → Service (recordAt bytes) (elementCountAt bytes) (paramCountAt bytes) w new → a ≡ outputAnswerOf w
+      → Serves bytes first Service old a new
+  unheld : holdsRecord bytes ≡ false → a ≡ outputAnswerOf (written.Refused first) → new ≡ old → Serves bytes first Service old a new
+
+-- the first of the refusals 1, 2 and 7 that applies to a line of `len` bytes and bytes that hold no record; printing has no kind
+abbrev pub printFirst : ℕ → Refusal
+printFirst len = if ltb 8192 len then LineTooLong else Unsuitable
+
+abbrev pub lookupFirst : ℕ → ℕ → Refusal
+lookupFirst len kind = if ltb 8192 len then LineTooLong else if ltb 1 kind then BadSetting else Unsuitable
+
+abbrev pub ServesPrint : List ℕ → List ℕ → List (List ℕ) → List (List ℕ) → List ℕ → OutputAnswer → List ℕ → Type 0
+ServesPrint line bytes elements params old = Serves bytes (printFirst (length line)) (λ r e p w new. Prints line r e p elements params old w new) old
+
+abbrev pub ServesLookup : List ℕ → List ℕ → List (List ℕ) → List (List ℕ) → List ℕ → List ℕ → ℕ → List ℕ → OutputAnswer → List ℕ → Type 0
+ServesLookup line bytes elements params id name kind old = Serves bytes (lookupFirst (length line) kind) (λ r e p w new. Looks line r e p elements params id name kind old w new) old

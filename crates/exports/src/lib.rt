@@ -1,0 +1,175 @@
+// The C boundary: include/khamdoriem.h declares these functions, docs/INTERFACE.md says what they answer.
+use record::OutputAnswer;
+use record::Reading;
+use record::Refusal;
+use record::StrictReading;
+use record::Written;
+ghost use mathlib.Core.Path.{_≡_};
+ghost use Prim.Native.Nat.{_≤_};
+ghost use lib.ListN.{length};
+ghost use Rattle.exports.specs.Exports.{shortNumber, LeavesExact, LeavesFallback, LeavesStrict, printFirst, lookupFirst, ServesPrint, ServesLookup};
+ghost use Rattle.exports.specs.Steps.{Left, StrictLeft};
+
+// The number of an answer where the record's memory is too short.
+fn short(number: u32) -> u32
+    ensures { λ n. ⌜ n ≡ shortNumber number ⌝ }
+{
+    if number == 0 {
+        return 8;
+    }
+    number
+}
+
+// The number of an answer, and its record.
+fn leave(r: Reading, memory: &mut [u8]) -> u32
+    requires { ⌜ 208 ≤ length (now memory) ⌝ }
+    ensures { λ n. ⌜ Left r (now (memory .entry)) n (now (memory .exit)) ⌝ }
+{
+    match r {
+        Reading::Refused(refusal) => record::refusal_number(refusal),
+        Reading::Read(read, elements, params) => {
+            layout::put_record(memory, read, elements, params);
+            0
+        }
+    }
+}
+
+fn leave_strict(r: StrictReading, memory: &mut [u8]) -> u32
+    requires { ⌜ 240 ≤ length (now memory) ⌝ }
+    ensures { λ n. ⌜ StrictLeft r (now (memory .entry)) n (now (memory .exit)) ⌝ }
+{
+    match r {
+        StrictReading::Refused(refusal) => record::refusal_number(refusal),
+        StrictReading::Read(read, elements, params) => {
+            layout::put_strict(memory, read, elements, params);
+            0
+        }
+    }
+}
+
+#[no_mangle]
+pub extern "C" fn khamdoriem_read_exact(
+    line: &[u8],
+    variant: u32,
+    year: u32,
+    offset: i32,
+    elements: &mut [[usize; 2]],
+    params: &mut [[usize; 5]],
+    memory: &mut [u8],
+) -> u32
+    ensures { λ n. ⌜ LeavesExact (now (line .entry)) variant year offset (now (elements .entry)) (now (params .entry)) (now (memory .entry)) n (now (elements .exit)) (now (params .exit)) (now (memory .exit)) ⌝ }
+{
+    if memory.len() < 208 {
+        let r = loose::answer(line, variant, year, offset, elements.len(), params.len());
+        let a = record::answer_of(r);
+        return short(a.number);
+    }
+    let r = loose::read_exact(line, variant, year, offset, elements, params);
+    leave(r, memory)
+}
+
+#[no_mangle]
+pub extern "C" fn khamdoriem_read_fallback(
+    line: &[u8],
+    variant: u32,
+    year: u32,
+    offset: i32,
+    elements: &mut [[usize; 2]],
+    params: &mut [[usize; 5]],
+    memory: &mut [u8],
+) -> u32
+    ensures { λ n. ⌜ LeavesFallback (now (line .entry)) variant year offset (now (elements .entry)) (now (params .entry)) (now (memory .entry)) n (now (elements .exit)) (now (params .exit)) (now (memory .exit)) ⌝ }
+{
+    if memory.len() < 208 {
+        let r = loose::answer_fallback(line, variant, year, offset, elements.len(), params.len());
+        let a = record::answer_of(r);
+        return short(a.number);
+    }
+    let r = loose::read_fallback(line, variant, year, offset, elements, params);
+    leave(r, memory)
+}
+
+#[no_mangle]
+pub extern "C" fn khamdoriem_read_strict(
+    line: &[u8],
+    elements: &mut [[usize; 2]],
+    params: &mut [[usize; 5]],
+    memory: &mut [u8],
+) -> u32
+    ensures { λ n. ⌜ LeavesStrict (now (line .entry)) (now (elements .entry)) (now (params .entry)) (now (memory .entry)) n (now (elements .exit)) (now (params .exit)) (now (memory .exit)) ⌝ }
+{
+    if memory.len() < 240 {
+        let r = strict::answer(line, elements.len(), params.len());
+        let a = record::strict_answer_of(r);
+        return short(a.number);
+    }
+    let r = strict::read(line, elements, params);
+    leave_strict(r, memory)
+}
+
+// The refusal of bytes that hold no record.
+fn print_first(len: usize) -> Refusal
+    ensures { λ f. ⌜ f ≡ printFirst len ⌝ }
+{
+    if 8192 < len {
+        return Refusal::LineTooLong;
+    }
+    Refusal::Unsuitable
+}
+
+fn lookup_first(len: usize, kind: u32) -> Refusal
+    ensures { λ f. ⌜ f ≡ lookupFirst len kind ⌝ }
+{
+    if 8192 < len {
+        return Refusal::LineTooLong;
+    }
+    if 1 < kind {
+        return Refusal::BadSetting;
+    }
+    Refusal::Unsuitable
+}
+
+#[no_mangle]
+pub extern "C" fn khamdoriem_print(
+    line: &[u8],
+    memory: &[u8],
+    elements: &[[usize; 2]],
+    params: &[[usize; 5]],
+    output: &mut [u8],
+) -> OutputAnswer
+    ensures { λ a. ⌜ ServesPrint (now (line .entry)) (now (memory .entry)) (now (elements .entry)) (now (params .entry)) (now (output .entry)) a (now (output .exit)) ⌝ }
+{
+    if !layout::holds_record(memory) {
+        let first = print_first(line.len());
+        return record::output_answer_of(Written::Refused(first));
+    }
+    let r = layout::record_at(memory);
+    let e = layout::element_count(memory);
+    let p = layout::param_count(memory);
+    let w = message::print(line, r, e, p, elements, params, output);
+    record::output_answer_of(w)
+}
+
+#[no_mangle]
+pub extern "C" fn khamdoriem_lookup(
+    line: &[u8],
+    memory: &[u8],
+    elements: &[[usize; 2]],
+    params: &[[usize; 5]],
+    id: &[u8],
+    name: &[u8],
+    kind: u32,
+    output: &mut [u8],
+) -> OutputAnswer
+    ensures { λ a. ⌜ ServesLookup (now (line .entry)) (now (memory .entry)) (now (elements .entry)) (now (params .entry)) (now (id .entry)) (now (name .entry)) kind (now (output .entry)) a (now (output .exit)) ⌝ }
+{
+    if !layout::holds_record(memory) {
+        let first = lookup_first(line.len(), kind);
+        return record::output_answer_of(Written::Refused(first));
+    }
+    let r = layout::record_at(memory);
+    let e = layout::element_count(memory);
+    let p = layout::param_count(memory);
+    let w = lookup::lookup(line, r, e, p, elements, params, id, name, kind, output);
+    record::output_answer_of(w)
+}
