@@ -1,1 +1,3 @@
 pub mod PCases
+pub mod Determined
+pub mod Demands

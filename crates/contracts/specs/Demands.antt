@@ -1,0 +1,77 @@
+-- What is demanded of the services, as statements to be read without their proofs, which are in proofs/Demands.antt.
+use Prim.Native.Nat.{ℕ, _<_, _≤_}
+use mathlib.Core.Path.{_≡_}
+use mathlib.Core.List.{List}
+use lib.ListN.{length}
+use Rattle.base.specs.Fills.{filled}
+use Rattle.record.specs.declared.StrictReading.{StrictReading}
+use Rattle.record.specs.declared.StrictReading.the-variants.{Read, Refused}
+use Rattle.record.specs.declared.StrictRecord.{StrictRecord}
+use Rattle.record.specs.declared.Refusal.the-variants.{LineTooLong, NoReading}
+use Rattle.grammar.specs.Line.{Division, Derives}
+use Rattle.grammar.specs.Reading.{dataAt, recordOf, paramCount, elementRows, paramRows, StrictReads}
+use Rattle.contracts.specs.Services.{Service, Elements, Params, Given, Result, number, Contract, before, after}
+
+-- ---- demand 1, its last sentence
+
+-- A refused call changes nothing it was lent.
+abbrev pub RefusedChangesNothing : Type 0
+RefusedChangesNothing = (s : Service) (i : Given s) (x : Result s) → Contract s i x → (number s x ≡ 0 → ⊥) → after s x ≡ before s i
+
+-- ---- how much each contract must say
+
+-- Any two results that the contract allows of one call are equal: answer, record, counts, tables and output.
+abbrev pub OneResult : Service → Type 0
+OneResult s = (i : Given s) (x y : Result s) → Contract s i x → Contract s i y → x ≡ y
+
+-- ---- the words of demand 3
+
+-- the one where the other is, and there only
+pub record Exactly (P Q : Type 0) : Type 0 where
+  pub only : P → Q
+  pub whenever : Q → P
+
+-- the answer is a record with its counts, and no refusal
+pub record Accepted (r : StrictReading) : Type 0 where
+  pub reading : StrictRecord
+  pub elements : ℕ
+  pub params : ℕ
+  pub is : r ≡ Read reading elements params
+
+-- the grammar derives the line, which has at most 8,192 bytes, and the tables have room for its elements and its parameters
+pub record Derivable (line : List ℕ) (e₀ : Elements) (p₀ : Params) : Type 0 where
+  pub division : Division
+  pub derived : Derives line division
+  pub short : length line ≤ 8192
+  pub elements-fit : length (division .elements) ≤ length e₀
+  pub params-fit : paramCount (division .elements) ≤ length p₀
+
+-- the grammar derives the line in no way
+abbrev pub Underivable : List ℕ → Type 0
+Underivable line = (d : Division) → Derives line d → ⊥
+
+-- the answer's record and counts are those of the division d, and so are the tables in front of the entries that they keep
+pub record Holds (d : Division) (e₀ : Elements) (p₀ : Params) (r : StrictReading) (e₁ : Elements) (p₁ : Params) : Type 0 where
+  pub answer : r ≡ Read (recordOf d) (length (d .elements)) (paramCount (d .elements))
+  pub elements : e₁ ≡ filled (elementRows (dataAt d) (d .elements)) e₀
+  pub params : p₁ ≡ filled (paramRows 0 (dataAt d) (d .elements)) p₀
+
+-- ---- demand 3
+
+-- of a call of the strict reader on a line, with tables that held e₀ and p₀, which answers r and leaves e₁ and p₁ in them
+pub record StrictCall (line : List ℕ) (e₀ : Elements) (p₀ : Params) (r : StrictReading) (e₁ : Elements) (p₁ : Params) : Type 0 where
+  -- It accepts exactly what the grammar derives,
+  pub accepts-exactly : Exactly (Accepted r) (Derivable line e₀ p₀)
+  -- and refuses as no reading exactly what the grammar does not derive.
+  pub refuses-exactly : Exactly (r ≡ Refused NoReading) ((length line ≤ 8192) × Underivable line)
+  -- The record and the tables hold the one division there is.
+  pub holds-the-one : Accepted r → (d : Division) → Derives line d → Holds d e₀ p₀ r e₁ p₁
+  -- A line has at most 8,192 bytes: a longer one, and no other, is refused as too long.
+  pub at-most-8192 : Exactly (r ≡ Refused LineTooLong) (8192 < length line)
+
+pub record Demand3 : Type 0 where
+  -- No line has two divisions.
+  pub one-division : (line : List ℕ) (d d′ : Division) → Derives line d → Derives line d′ → d ≡ d′
+  -- Each call is as said above.
+  pub each-call : {line : List ℕ} {e₀ : Elements} {p₀ : Params} {r : StrictReading} {e₁ : Elements} {p₁ : Params}
+      → StrictReads line e₀ p₀ r e₁ p₁ → StrictCall line e₀ p₀ r e₁ p₁

@@ -1,0 +1,123 @@
+-- The five services side by side: what a call is given, what it leaves, and the contract between the two. Each contract is the one that its function ensures.
+use Prim.Native.Nat.{ℕ}
+use mathlib.Core.List.{List}
+use lib.IntN.{ℤ}
+use Rattle.record.specs.Answers.{answerOf, strictAnswerOf, outputAnswerOf}
+use Rattle.record.specs.declared.Record.{Record}
+use Rattle.record.specs.declared.Reading.{Reading}
+use Rattle.record.specs.declared.StrictReading.{StrictReading}
+use Rattle.record.specs.declared.Written.{Written}
+use Rattle.loose.specs.Loose.{ReadsExact, ReadsFallback}
+use Rattle.grammar.specs.Reading.{StrictReads}
+use Rattle.message.specs.Prints.{Prints}
+use Rattle.lookup.specs.Lookup.{Looks}
+
+pub data Service : Type 0 where
+  exact : Service
+  fallback : Service
+  strict : Service
+  print : Service
+  lookup : Service
+
+-- the entries of a lent table, each a row of numbers
+abbrev pub Elements : Type 0
+Elements = List (List ℕ)
+
+abbrev pub Params : Type 0
+Params = List (List ℕ)
+
+-- ---- what a call is given
+
+pub record LooseGiven : Type 0 where
+  pub line : List ℕ
+  pub variant : ℕ
+  pub year : ℕ
+  pub offset : ℤ
+  pub elements : Elements
+  pub params : Params
+
+pub record StrictGiven : Type 0 where
+  pub line : List ℕ
+  pub elements : Elements
+  pub params : Params
+
+-- line, record, counts and tables, and the output
+pub record PrintGiven : Type 0 where
+  pub line : List ℕ
+  pub reading : Record
+  pub element-count : ℕ
+  pub param-count : ℕ
+  pub elements : Elements
+  pub params : Params
+  pub output : List ℕ
+
+pub record LookupGiven : Type 0 where
+  pub printing : PrintGiven
+  pub id : List ℕ
+  pub name : List ℕ
+  pub kind : ℕ
+
+abbrev pub Given : Service → Type 0
+Given Service.exact = LooseGiven
+Given Service.fallback = LooseGiven
+Given Service.strict = StrictGiven
+Given Service.print = PrintGiven
+Given Service.lookup = LookupGiven
+
+-- ---- what it leaves: an answer, which holds the record and the counts or the length, and what it was lent as it is then
+
+pub record Tables (Answer : Type 0) : Type 0 where
+  pub answer : Answer
+  pub elements : Elements
+  pub params : Params
+
+pub record Output : Type 0 where
+  pub answer : Written
+  pub output : List ℕ
+
+abbrev pub Result : Service → Type 0
+Result Service.exact = Tables Reading
+Result Service.fallback = Tables Reading
+Result Service.strict = Tables StrictReading
+Result Service.print = Output
+Result Service.lookup = Output
+
+-- 01's number: 0 where the call is done
+abbrev pub number : (s : Service) → Result s → ℕ
+number Service.exact x = answerOf (x .answer) .number
+number Service.fallback x = answerOf (x .answer) .number
+number Service.strict x = strictAnswerOf (x .answer) .number
+number Service.print x = outputAnswerOf (x .answer) .number
+number Service.lookup x = outputAnswerOf (x .answer) .number
+
+-- ---- the contracts
+
+abbrev pub Contract : (s : Service) → Given s → Result s → Type 0
+Contract Service.exact i x = ReadsExact (i .line) (i .variant) (i .year) (i .offset) (i .elements) (i .params) (x .answer) (x .elements) (x .params)
+Contract Service.fallback i x = ReadsFallback (i .line) (i .variant) (i .year) (i .offset) (i .elements) (i .params) (x .answer) (x .elements) (x .params)
+Contract Service.strict i x = StrictReads (i .line) (i .elements) (i .params) (x .answer) (x .elements) (x .params)
+Contract Service.print i x =
+    Prints (i .line) (i .reading) (i .element-count) (i .param-count) (i .elements) (i .params) (i .output) (x .answer) (x .output)
+Contract Service.lookup i x =
+    let p = i .printing in
+    Looks (p .line) (p .reading) (p .element-count) (p .param-count) (p .elements) (p .params) (i .id) (i .name) (i .kind) (p .output) (x .answer) (x .output)
+
+-- ---- what was lent, before and after
+
+pub data Lent : Type 0 where
+  tables : Elements → Params → Lent
+  output : List ℕ → Lent
+
+abbrev pub before : (s : Service) → Given s → Lent
+before Service.exact i = Lent.tables (i .elements) (i .params)
+before Service.fallback i = Lent.tables (i .elements) (i .params)
+before Service.strict i = Lent.tables (i .elements) (i .params)
+before Service.print i = Lent.output (i .output)
+before Service.lookup i = Lent.output (i .printing .output)
+
+abbrev pub after : (s : Service) → Result s → Lent
+after Service.exact x = Lent.tables (x .elements) (x .params)
+after Service.fallback x = Lent.tables (x .elements) (x .params)
+after Service.strict x = Lent.tables (x .elements) (x .params)
+after Service.print x = Lent.output (x .output)
+after Service.lookup x = Lent.output (x .output)
