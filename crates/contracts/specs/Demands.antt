@@ -1,7 +1,9 @@
 -- What is demanded of the services, as statements to be read without their proofs, which are in proofs/Demands.antt.
 use Prim.Native.Nat.{ℕ, _<_, _≤_}
 use mathlib.Core.Path.{_≡_}
-use mathlib.Core.List.{List}
+use mathlib.Core.Bool.{Bool, true, false, _||_}
+use mathlib.Core.List.{List, [], _∷_}
+use lib.Dec.{eqb}
 use lib.ListN.{length}
 use Rattle.base.specs.Fills.{filled}
 use Rattle.record.specs.declared.StrictReading.{StrictReading}
@@ -17,6 +19,24 @@ use Rattle.contracts.specs.Services.{Service, Elements, Params, Given, R
 -- A refused call changes nothing it was lent.
 abbrev pub RefusedChangesNothing : Type 0
 RefusedChangesNothing = (s : Service) (i : Given s) (x : Result s) → Contract s i x → (number s x ≡ 0 → ⊥) → after s x ≡ before s i
+
+-- ---- the numbers a caller may get back
+
+-- 0 where the call is done; loose readers give 1 to 6 (fallback never 4), strict 1, 4, 5, 6, printing 1, 7, 8, lookup 1, 2, 7, 9, 8
+abbrev pub numbers : Service → List ℕ
+numbers Service.exact = 0 ∷ 1 ∷ 2 ∷ 3 ∷ 4 ∷ 5 ∷ 6 ∷ []
+numbers Service.fallback = 0 ∷ 1 ∷ 2 ∷ 3 ∷ 5 ∷ 6 ∷ []
+numbers Service.strict = 0 ∷ 1 ∷ 4 ∷ 5 ∷ 6 ∷ []
+numbers Service.print = 0 ∷ 1 ∷ 7 ∷ 8 ∷ []
+numbers Service.lookup = 0 ∷ 1 ∷ 2 ∷ 7 ∷ 9 ∷ 8 ∷ []
+
+abbrev pub among : ℕ → List ℕ → Bool
+among n [] = false
+among n (m ∷ l) = eqb n m || among n l
+
+-- No call answers another number.
+abbrev pub NoOtherNumber : Type 0
+NoOtherNumber = (s : Service) (i : Given s) (x : Result s) → Contract s i x → among (number s x) (numbers s) ≡ true
 
 -- ---- how much each contract must say
 
