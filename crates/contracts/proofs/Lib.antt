@@ -1,3 +1,4 @@
 pub mod PCases
 pub mod Determined
+pub mod Numbers
 pub mod Demands
