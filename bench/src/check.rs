@@ -1,0 +1,71 @@
+//! Before anything is measured: the readers answer alike on every line that is read, so that the same work is compared.
+use crate::gate;
+use crate::readers::{rust, Lent};
+use crate::shapes::{Shape, GROWING, LENGTHS, SLOW};
+
+// Words of the record (docs/INTERFACE.md).
+const SECONDS: usize = 7;
+const MESSAGE: usize = 22;
+const MESSAGE_LEN: usize = 23;
+const ELEMENTS: usize = 24;
+const PARAMS: usize = 25;
+
+/// Whether the line has a reading, if the Rust and ours agree on it.
+fn agreed(line: &str, variant: u32, lent: &mut Lent) -> Result<bool, String> {
+    let number = lent.loose(line.as_bytes(), variant);
+    let Ok(theirs) = rust(line, variant) else {
+        return if number == 4 { Ok(false) } else { Err(format!("the Rust has no reading, ours answers {number}: {line}")) };
+    };
+    let params = theirs.structured_data.iter().map(|e| e.params.len()).sum();
+    let start = theirs.msg.as_ptr() as usize - line.as_ptr() as usize;
+    let seconds = theirs.timestamp.map_or(0, |t| t.timestamp()) as usize;
+    let same = number == 0
+        && lent.word(ELEMENTS) == theirs.structured_data.len()
+        && lent.word(PARAMS) == params
+        && lent.word(MESSAGE_LEN) == theirs.msg.len()
+        && lent.word(MESSAGE) == start
+        && lent.word(SECONDS) == seconds;
+    if same { Ok(true) } else { Err(format!("the Rust and ours (number {number}) read differently: {line}")) }
+}
+
+/// The lines of one kind: all have a reading, and the strict reader takes those of RFC 5424.
+fn kind(name: &str, variant: u32, lines: &[&str], lent: &mut Lent) -> Result<(), String> {
+    for line in lines {
+        if !agreed(line, variant, lent)? {
+            return Err(format!("no reading: {line}"));
+        }
+        if variant == 2 && lent.strict(line.as_bytes()) != 0 {
+            return Err(format!("refused strictly: {line}"));
+        }
+    }
+    println!("kind {name} {} {}", lines.len(), lines.iter().map(|l| l.len()).sum::<usize>());
+    Ok(())
+}
+
+fn shape(shape: &Shape, lengths: &[usize], strict: bool, lent: &mut Lent) -> Result<(), String> {
+    for &bytes in lengths {
+        let line = shape.line(bytes).ok_or(format!("{bytes} bytes have no room for '{}'", shape.name))?;
+        let read = agreed(&line, 0, lent)?;
+        if strict && lent.strict(line.as_bytes()) != 0 {
+            return Err(format!("refused strictly: {line}"));
+        }
+        println!("answer {} {bytes} {}", shape.name, if read { "read" } else { "refused" });
+    }
+    Ok(())
+}
+
+/// Checks the file and all shapes, and says on standard output what was found, as rows of the results.
+pub fn check(text: &str) -> Result<(), String> {
+    let mut lent = Lent::new();
+    for name in gate::KINDS_OF_LINES {
+        let (variant, lines) = gate::of_kind(name, text).expect("a kind");
+        kind(name, variant, &lines, &mut lent)?;
+    }
+    for growing in &GROWING {
+        shape(growing, &LENGTHS, growing.is_5424(), &mut lent)?;
+    }
+    for slow in &SLOW {
+        shape(slow, &LENGTHS[1..], false, &mut lent)?;
+    }
+    Ok(())
+}

@@ -1,0 +1,100 @@
+//! The driver of the bench: makes the file, checks it, reads it, and writes the documents. bench/run says what is called when.
+mod check;
+mod gate;
+mod plot;
+mod random;
+mod readers;
+mod report;
+mod results;
+mod shapes;
+
+use readers::{Lent, Reader};
+use std::process::ExitCode;
+use std::time::Instant;
+
+const USAGE: &str = "usage: driver make FILE LINES SEED | check FILE | pass READER KIND FILE TIMES | shape READER NAME BYTES TIMES \
+                     | time READER KIND FILE | report RESULTS DOCS";
+
+fn number<T: std::str::FromStr>(text: &str) -> Result<T, String> {
+    text.parse().map_err(|_| format!("'{text}' is no number, or too large"))
+}
+
+fn reader(name: &str) -> Result<Reader, String> {
+    match name {
+        "rust" => Ok(Reader::Rust),
+        "loose" => Ok(Reader::Loose),
+        "strict" => Ok(Reader::Strict),
+        _ => Err(format!("'{name}' is no reader")),
+    }
+}
+
+fn text_of(file: &str) -> Result<String, String> {
+    std::fs::read_to_string(file).map_err(|e| format!("{file}: {e}"))
+}
+
+fn write(file: &str, text: &str) -> Result<(), String> {
+    std::fs::write(file, text).map_err(|e| format!("{file}: {e}"))
+}
+
+/// Reads the lines of a kind `times` times, and gives the nanoseconds of each time.
+fn passes(name: &str, kind: &str, file: &str, times: usize) -> Result<Vec<u128>, String> {
+    let text = text_of(file)?;
+    let (variant, lines) = gate::of_kind(kind, &text).ok_or(format!("'{kind}' is no kind of lines"))?;
+    let reader = reader(name)?;
+    let mut lent = Lent::new();
+    let mut spent = Vec::with_capacity(times);
+    for _ in 0..times {
+        let start = Instant::now();
+        readers::pass(reader, variant, &lines, &mut lent);
+        spent.push(start.elapsed().as_nanos());
+    }
+    Ok(spent)
+}
+
+/// The median of nine.
+fn time(name: &str, kind: &str, file: &str) -> Result<(), String> {
+    let mut spent = passes(name, kind, file, 9)?;
+    spent.sort_unstable();
+    println!("{}", spent[4]);
+    Ok(())
+}
+
+fn shape(name: &str, shape: &str, bytes: &str, times: &str) -> Result<(), String> {
+    let line = shapes::named(shape).ok_or(format!("'{shape}' is no shape"))?.line(number(bytes)?);
+    let line = line.ok_or(format!("{bytes} bytes have no room for '{shape}'"))?;
+    let lines = vec![&line[..]; number(times)?];
+    readers::pass(reader(name)?, 0, &lines, &mut Lent::new());
+    Ok(())
+}
+
+fn report(results: &str, docs: &str) -> Result<(), String> {
+    let results = results::Results::of(&text_of(results)?);
+    write(&format!("{docs}/BENCH.md"), &report::page(&results)?)?;
+    write(&format!("{docs}/bench.svg"), &plot::picture(&results)?)?;
+    println!("{}", report::closing(&results)?);
+    Ok(())
+}
+
+fn run(args: &[&str]) -> Result<(), String> {
+    match args {
+        ["make", file, lines, seed] => write(file, &gate::file(number(lines)?, number(seed)?)),
+        ["check", file] => check::check(&text_of(file)?),
+        ["pass", name, kind, file, times] => passes(name, kind, file, number(times)?).map(|_| ()),
+        ["shape", name, what, bytes, times] => shape(name, what, bytes, times),
+        ["time", name, kind, file] => time(name, kind, file),
+        ["report", results, docs] => report(results, docs),
+        _ => Err(USAGE.to_string()),
+    }
+}
+
+fn main() -> ExitCode {
+    let args: Vec<String> = std::env::args().skip(1).collect();
+    let args: Vec<&str> = args.iter().map(|a| &a[..]).collect();
+    match run(&args) {
+        Ok(()) => ExitCode::SUCCESS,
+        Err(why) => {
+            eprintln!("driver: {why}");
+            ExitCode::from(2)
+        }
+    }
+}

@@ -1,0 +1,115 @@
+//! The readers that are measured: the Rust, and the archive's loose exact and strict ones.
+use chrono::FixedOffset;
+use std::hint::black_box;
+use syslog_loose::{parse_message_with_year_exact_tz, Message, Variant};
+
+const YEAR: i32 = 2023;
+const OFFSET: i32 = 60;
+
+// A slice crosses as a pointer and a count (include/khamdoriem.h).
+#[link(name = "exports", kind = "static")]
+extern "C" {
+    fn khamdoriem_read_exact(
+        line: *const u8,
+        line_len: usize,
+        variant: u32,
+        year: u32,
+        offset: i32,
+        elements: *mut [usize; 2],
+        elements_len: usize,
+        params: *mut [usize; 5],
+        params_len: usize,
+        record: *mut u8,
+        record_len: usize,
+    ) -> u32;
+    fn khamdoriem_read_strict(
+        line: *const u8,
+        line_len: usize,
+        elements: *mut [usize; 2],
+        elements_len: usize,
+        params: *mut [usize; 5],
+        params_len: usize,
+        record: *mut u8,
+        record_len: usize,
+    ) -> u32;
+}
+
+#[derive(Clone, Copy, PartialEq)]
+pub enum Reader {
+    Rust,
+    Loose,
+    Strict,
+}
+
+/// What a call is lent: the tables, never cleared, and the record's memory.
+pub struct Lent {
+    elements: Vec<[usize; 2]>,
+    params: Vec<[usize; 5]>,
+    record: [u8; 240],
+}
+
+impl Lent {
+    /// Room for any line of 8,192 bytes.
+    pub fn new() -> Lent {
+        Lent { elements: vec![[0; 2]; 4096], params: vec![[0; 5]; 4096], record: [0; 240] }
+    }
+
+    /// Word `i` of the record (docs/INTERFACE.md).
+    pub fn word(&self, i: usize) -> usize {
+        let bytes = &self.record[8 * i..8 * i + 8];
+        usize::from_le_bytes(bytes.try_into().expect("a word has 8 bytes"))
+    }
+
+    #[inline]
+    pub fn loose(&mut self, line: &[u8], variant: u32) -> u32 {
+        let (e, p, r) = (&mut self.elements, &mut self.params, &mut self.record);
+        // SAFETY: each pointer comes with its own slice's length, and the slices do not overlap.
+        unsafe {
+            khamdoriem_read_exact(
+                line.as_ptr(),
+                line.len(),
+                variant,
+                YEAR as u32,
+                OFFSET,
+                e.as_mut_ptr(),
+                e.len(),
+                p.as_mut_ptr(),
+                p.len(),
+                r.as_mut_ptr(),
+                r.len(),
+            )
+        }
+    }
+
+    #[inline]
+    pub fn strict(&mut self, line: &[u8]) -> u32 {
+        let (e, p, r) = (&mut self.elements, &mut self.params, &mut self.record);
+        // SAFETY: as above.
+        unsafe { khamdoriem_read_strict(line.as_ptr(), line.len(), e.as_mut_ptr(), e.len(), p.as_mut_ptr(), p.len(), r.as_mut_ptr(), r.len()) }
+    }
+}
+
+#[inline]
+pub fn rust(line: &str, variant: u32) -> Result<Message<&str>, String> {
+    let variant = match variant {
+        0 => Variant::Either,
+        1 => Variant::RFC3164,
+        _ => Variant::RFC5424,
+    };
+    parse_message_with_year_exact_tz(line, |_| YEAR, FixedOffset::east_opt(60 * OFFSET), variant)
+}
+
+/// Reads every line once. This is the measured part: nothing is printed and nothing is cleared.
+pub fn pass(reader: Reader, variant: u32, lines: &[&str], lent: &mut Lent) {
+    match reader {
+        Reader::Rust => lines.iter().for_each(|line| {
+            black_box(&rust(black_box(line), variant));
+        }),
+        Reader::Loose => lines.iter().for_each(|line| {
+            black_box(lent.loose(black_box(line.as_bytes()), variant));
+        }),
+        Reader::Strict => lines.iter().for_each(|line| {
+            black_box(lent.strict(black_box(line.as_bytes())));
+        }),
+    }
+}

@@ -1,0 +1,146 @@
+//! docs/BENCH.md, from the results.
+use crate::results::Results;
+use crate::shapes::{GROWING, LENGTHS, SLOW};
+use std::fmt::Write;
+
+pub const KINDS: [(&str, &str); 3] = [("all", "all, variant 0"), ("3164", "RFC 3164, variant 1"), ("5424", "RFC 5424, variant 2")];
+
+/// A count with commas.
+pub fn commas(n: f64) -> String {
+    let digits = format!("{n:.0}");
+    let mut text = String::new();
+    for (i, d) in digits.chars().enumerate() {
+        if i > 0 && (digits.len() - i) % 3 == 0 {
+            text.push(',');
+        }
+        text.push(d);
+    }
+    text
+}
+
+/// A cost a byte: enough digits to compare, and no more.
+pub fn cost(n: f64) -> String {
+    if n < 100.0 { format!("{n:.1}") } else { commas(n) }
+}
+
+fn add(page: &mut String, line: &str) {
+    page.push_str(line);
+    page.push('\n');
+}
+
+fn intro(results: &Results) -> Result<String, String> {
+    let about = |name| results.words(&["about", name]);
+    Ok(format!(
+        "# What reading costs\n\n\
+         `bench/run` makes {} lines as the readers of a gate send them (seed {}), reads them with syslog_loose (\"the Rust\") and with the archive (\"ours\"), and writes this page.\n\
+         Counted are the instructions that the x86-64 program runs, as the difference of two run lengths, so that start-up is not in them. Both are optimised (opt-level 3), nothing is printed, and the tables are\n\
+         not cleared. Before that every line is read by both and compared. Our loose reader checks that the line is UTF-8; the Rust is given text that is known to be. The Rust allocates its lists; ours fills lent tables\n\
+         and writes the record's bytes.\n\n\
+         Measured on {} with {}.\n\n\
+         ![The three tables as a plot](bench.svg)\n\n",
+        commas(results.number(&["kind", "all"], 0)?),
+        about("seed")?,
+        about("machine")?,
+        about("versions")?,
+    ))
+}
+
+fn lines(results: &Results) -> Result<String, String> {
+    let mut page = String::from("## Instructions a line\n\nThe aim is a ratio of at most 1.0, the goal 0.5.\n\n");
+    add(&mut page, "| lines | count | bytes a line | the Rust | ours, loose | ratio | ours, strict | ratio |");
+    add(&mut page, "|---|---|---|---|---|---|---|---|");
+    for (kind, name) in KINDS {
+        let count = results.number(&["kind", kind], 0)?;
+        let bytes = results.number(&["kind", kind], 1)? / count;
+        let (rust, loose) = (results.a_line(kind, "rust")?, results.a_line(kind, "loose")?);
+        let strict = match results.a_line(kind, "strict") {
+            Ok(strict) => format!("{} | {:.2}", commas(strict), strict / rust),
+            Err(_) => " | ".to_string(),
+        };
+        add(&mut page, &format!("| {name} | {} | {bytes:.1} | {} | {} | {:.2} | {strict} |", commas(count), commas(rust), commas(loose), loose / rust));
+    }
+    Ok(page + "\n")
+}
+
+/// Only where the machine runs the program itself.
+fn times(results: &Results) -> Result<String, String> {
+    let mut page = String::new();
+    if results.behind(&["nanos"]).next().is_none() {
+        return Ok(page);
+    }
+    add(&mut page, "## Nanoseconds a line\n\nThe median of nine passes.\n\n| lines | the Rust | ours, loose | ratio | ours, strict |\n|---|---|---|---|---|");
+    for (kind, name) in KINDS {
+        let count = results.number(&["kind", kind], 0)?;
+        let of = |reader: &str| results.number(&["nanos", kind, reader], 0).map(|n| n / count);
+        let (rust, loose) = (of("rust")?, of("loose")?);
+        let strict = of("strict").map_or(String::new(), |n| format!("{n:.0}"));
+        add(&mut page, &format!("| {name} | {rust:.0} | {loose:.0} | {:.2} | {strict} |", loose / rust));
+    }
+    Ok(page + "\n")
+}
+
+fn growing(results: &Results) -> Result<String, String> {
+    let mut page = String::from("## Instructions a byte, by the line's length\n\n| line | bytes | the Rust | ours, loose | ratio | ours, strict |\n|---|---|---|---|---|---|\n");
+    for shape in &GROWING {
+        for bytes in LENGTHS {
+            let of = |reader| results.a_byte(shape.name, bytes, reader);
+            let (rust, loose) = (of("rust")?, of("loose")?);
+            let strict = of("strict").map_or(String::new(), cost);
+            add(&mut page, &format!("| {} | {} | {} | {} | {:.2} | {strict} |", shape.what, commas(bytes as f64), cost(rust), cost(loose), loose / rust));
+        }
+    }
+    Ok(page + "\n")
+}
+
+fn slow(results: &Results) -> Result<String, String> {
+    let mut page = String::from(
+        "## Lines made to be slow\n\n\
+         Instructions a byte at 1,024 and at 8,192 bytes, variant 0. A cost that is linear in the line stays as it is or falls; one that is quadratic grows eightfold.\n\n",
+    );
+    add(&mut page, "| line | answer | the Rust, 1,024 | 8,192 | ours, loose, 1,024 | 8,192 | ours grows by |");
+    add(&mut page, "|---|---|---|---|---|---|---|");
+    for shape in &SLOW {
+        let of = |reader| -> Result<(f64, f64), String> { Ok((results.a_byte(shape.name, LENGTHS[1], reader)?, results.a_byte(shape.name, LENGTHS[2], reader)?)) };
+        let (rust, ours) = (of("rust")?, of("loose")?);
+        let answer = results.words(&["answer", shape.name, "8192"])?;
+        let cells = [rust.0, rust.1, ours.0, ours.1].map(cost).join(" | ");
+        add(&mut page, &format!("| {} | {answer} | {cells} | {:.2} |", shape.what, ours.1 / ours.0));
+    }
+    Ok(page + "\n")
+}
+
+/// The functions that the compiler left as such, with the instructions a line of each. Those below one are left out.
+fn functions(results: &Results) -> Result<String, String> {
+    let columns = [("3164", "loose"), ("5424", "loose"), ("5424", "strict")];
+    let mut rows: Vec<(String, [f64; 3])> = Vec::new();
+    for (i, (kind, reader)) in columns.iter().enumerate() {
+        let count = results.number(&["kind", kind], 0)?;
+        for row in results.behind(&["function", kind, reader]) {
+            let a_line = row[1].parse::<f64>().map_err(|_| "a function without a number")? / count;
+            match rows.iter_mut().find(|r| r.0 == row[0]) {
+                Some(r) => r.1[i] = a_line,
+                None => rows.push((row[0].clone(), std::array::from_fn(|k| if k == i { a_line } else { 0.0 }))),
+            }
+        }
+    }
+    rows.retain(|r| r.1.iter().any(|n| *n >= 1.0));
+    rows.sort_by(|a, b| b.1.iter().sum::<f64>().total_cmp(&a.1.iter().sum()));
+    let mut page = String::from("## Where ours goes\n\nInstructions a line in each function of the archive, those that were inlined counted with their caller. `?` is the C library's copying.\n\n");
+    add(&mut page, "| function | loose, RFC 3164 | loose, RFC 5424 | strict, RFC 5424 |\n|---|---|---|---|");
+    for (name, cells) in rows {
+        let cells = cells.map(|n| if n < 1.0 { String::new() } else { commas(n) }).join(" | ");
+        writeln!(page, "| `{name}` | {cells} |").expect("a String takes all");
+    }
+    Ok(page)
+}
+
+pub fn page(results: &Results) -> Result<String, String> {
+    Ok(intro(results)? + &lines(results)? + &times(results)? + &growing(results)? + &slow(results)? + &functions(results)?)
+}
+
+/// The line that the bench ends with.
+pub fn closing(results: &Results) -> Result<String, String> {
+    let (rust, loose) = (results.a_line("all", "rust")?, results.a_line("all", "loose")?);
+    let lines = commas(results.number(&["kind", "all"], 0)?);
+    Ok(format!("{lines} lines: {} instructions a line by the Rust, {} by ours, ratio {:.2}", commas(rust), commas(loose), loose / rust))
+}

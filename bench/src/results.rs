@@ -1,0 +1,46 @@
+//! What bench/run measured: rows of words, the last of which is a number.
+//!
+//!     kind KIND LINES BYTES            what the file has
+//!     answer SHAPE BYTES read|refused  whether a shaped line has a reading
+//!     insns KIND READER COUNT          instructions of a pass over the lines of a kind
+//!     nanos KIND READER COUNT          the median of nine, where the machine runs the program itself
+//!     shape SHAPE BYTES READER COUNT   instructions of one reading
+//!     function KIND READER NAME COUNT  instructions of a pass in one function
+//!     about NAME WORDS..               the seed, the machine, the versions
+
+pub struct Results(Vec<Vec<String>>);
+
+impl Results {
+    pub fn of(text: &str) -> Results {
+        Results(text.lines().map(|l| l.split(' ').map(String::from).collect()).collect())
+    }
+
+    /// What stands behind the words `key` in each row that starts with them.
+    pub fn behind<'a>(&'a self, key: &'a [&str]) -> impl Iterator<Item = &'a [String]> + 'a {
+        let starts = move |row: &&Vec<String>| row.len() > key.len() && row.iter().zip(key).all(|(a, b)| a == b);
+        self.0.iter().filter(starts).map(move |row| &row[key.len()..])
+    }
+
+    fn first<'a>(&'a self, key: &'a [&str]) -> Result<&'a [String], String> {
+        self.behind(key).next().ok_or(format!("the results have no '{}'", key.join(" ")))
+    }
+
+    pub fn words(&self, key: &[&str]) -> Result<String, String> {
+        Ok(self.first(key)?.join(" "))
+    }
+
+    pub fn number(&self, key: &[&str], i: usize) -> Result<f64, String> {
+        let row = self.first(key)?;
+        row.get(i).and_then(|w| w.parse().ok()).ok_or(format!("'{}' has no number", key.join(" ")))
+    }
+
+    /// Instructions a line.
+    pub fn a_line(&self, kind: &str, reader: &str) -> Result<f64, String> {
+        Ok(self.number(&["insns", kind, reader], 0)? / self.number(&["kind", kind], 0)?)
+    }
+
+    /// Instructions a byte of a shaped line.
+    pub fn a_byte(&self, shape: &str, bytes: usize, reader: &str) -> Result<f64, String> {
+        Ok(self.number(&["shape", shape, &bytes.to_string(), reader], 0)? / bytes as f64)
+    }
+}

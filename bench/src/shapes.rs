@@ -1,0 +1,67 @@
+//! Lines of a given length: those that grow in one place, and those made to be slow.
+
+const HEAD: &str = "<134>1 2023-02-05T10:01:02.003Z gate7 reader 4211 TAP ";
+const OLD_HEAD: &str = "<134>Feb  5 10:01:02 gate7 ";
+
+/// The lengths that the growing lines are read at; the slow ones are read at the last two.
+pub const LENGTHS: [usize; 3] = [128, 1024, 8192];
+
+/// A line: `head`, then `unit` again and again, then `tail`; where a unit does not fit, the line is filled with the byte `fill` in front of the tail.
+pub struct Shape {
+    pub name: &'static str,
+    pub what: &'static str,
+    head: (&'static str, &'static str),
+    unit: &'static str,
+    fill: char,
+    tail: &'static str,
+}
+
+const fn shape(name: &'static str, what: &'static str, head: (&'static str, &'static str), unit: &'static str, fill: char, tail: &'static str) -> Shape {
+    Shape { name, what, head, unit, fill, tail }
+}
+
+/// Lines that grow in one place.
+pub const GROWING: [Shape; 3] = [
+    shape("message", "RFC 5424, the message grows", (HEAD, "[stage@32473 name=\"denylist\" ms=\"212\"] "), "antenna 12 ms, ", 'x', ""),
+    shape("elements", "RFC 5424, the structured data grows", (HEAD, ""), "[stage@32473 name=\"paddle\" ms=\"31\"]", ' ', " x"),
+    shape("old", "RFC 3164, the message grows", (OLD_HEAD, "reader[42]: "), "antenna 12 ms, ", 'x', ""),
+];
+
+/// Lines made to be slow. The measure is how the cost a byte grows with the length.
+pub const SLOW: [Shape; 14] = [
+    shape("open-values", "`[a b=\"` again and again", (HEAD, ""), "[a b=\"", 'x', ""),
+    shape("open-elements", "`[a b=\"x\" ` again and again", (HEAD, ""), "[a b=\"x\" ", 'x', ""),
+    shape("brackets", "`[` again and again", (HEAD, ""), "[", '[', ""),
+    shape("late-brackets", "`[a \" b=\"]` again and again: each element fails at the line's end", (HEAD, ""), "[a \" b=\"]", 'x', ""),
+    shape("blanks", "blanks in front of the structured data", (HEAD, ""), " ", ' ', "- x"),
+    shape("field", "a long host", ("<134>1 2023-02-05T10:01:02.003Z ", ""), "h", 'h', " a p m - x"),
+    shape("backslashes", "a value of backslashes", (HEAD, "[a b=\""), "\\\\", 'x', "\"] x"),
+    shape("small-elements", "`[a]` again and again", (HEAD, ""), "[a]", 'x', ""),
+    shape("white", "white space alone", ("", ""), " ", ' ', ""),
+    shape("wide-white", "U+3000 alone", ("", ""), "\u{3000}", ' ', ""),
+    shape("open-quote", "an unfinished value behind many elements", (HEAD, ""), "[a b=\"x\"]", 'x', "[a b=\"x"),
+    shape("old-tag", "RFC 3164, a long tag", (OLD_HEAD, ""), "t", 't', ": x"),
+    shape("old-open-values", "RFC 3164, `[a b=\"` again and again", (OLD_HEAD, "reader[42]: "), "[a b=\"", 'x', ""),
+    shape("old-late-brackets", "RFC 3164, `[a \" b=\"]` again and again", (OLD_HEAD, "reader[42]: "), "[a \" b=\"]", 'x', ""),
+];
+
+pub fn named(name: &str) -> Option<&'static Shape> {
+    GROWING.iter().chain(&SLOW).find(|s| s.name == name)
+}
+
+impl Shape {
+    pub fn is_5424(&self) -> bool {
+        self.head.0 == HEAD
+    }
+
+    /// The line of `len` bytes, if `len` has room for the shape.
+    pub fn line(&self, len: usize) -> Option<String> {
+        let head = format!("{}{}", self.head.0, self.head.1);
+        let room = len.checked_sub(head.len() + self.tail.len())?;
+        let mut line = head + &self.unit.repeat(room / self.unit.len());
+        while line.len() + self.tail.len() < len {
+            line.push(self.fill);
+        }
+        Some(line + self.tail)
+    }
+}
