@@ -50,8 +50,12 @@ impl Axis {
 
     /// The powers of ten on it.
     fn tens(&self) -> Vec<f64> {
-        (0..12).map(|i| 10f64.powi(i)).filter(|t| self.low <= *t && *t <= self.high).collect()
+        (-1..12).map(|i| 10f64.powi(i)).filter(|t| self.low <= *t && *t <= self.high).collect()
     }
+}
+
+fn tick(ten: f64) -> String {
+    if ten < 1.0 { ten.to_string() } else { commas(ten) }
 }
 
 fn legend(svg: &mut Svg, y: f64) {
@@ -92,7 +96,7 @@ fn field(svg: &mut Svg, results: &Results, shape: &Shape, left: f64, y: &Axis) -
     svg.text("", left + 95.0, y.to - 12.0, "middle", shape.what);
     for ten in y.tens() {
         svg.line("grid", (x.from, y.at(ten)), (x.to, y.at(ten)));
-        svg.text("n", left - 6.0, y.at(ten) + 4.0, "end", &commas(ten));
+        svg.text("n", left - 6.0, y.at(ten) + 4.0, "end", &tick(ten));
     }
     svg.line("axis", (x.from, y.from), (x.to, y.from));
     for bytes in LENGTHS {
@@ -111,7 +115,7 @@ fn field(svg: &mut Svg, results: &Results, shape: &Shape, left: f64, y: &Axis) -
 
 fn fields(svg: &mut Svg, results: &Results, top: f64) -> Result<f64, String> {
     svg.text("h", 20.0, top, "start", "Instructions a byte, by the line's length in bytes");
-    let y = Axis { low: 1.0, high: 100.0, from: top + 210.0, to: top + 45.0 };
+    let y = Axis { low: 0.1, high: 100.0, from: top + 210.0, to: top + 45.0 };
     for (i, shape) in GROWING.iter().enumerate() {
         field(svg, results, shape, 60.0 + 270.0 * i as f64, &y)?;
     }
@@ -141,11 +145,11 @@ fn pairs(svg: &mut Svg, results: &Results, top: f64) -> Result<f64, String> {
     for row in SLOW.iter().flat_map(|s| LENGTHS[1..].iter().map(move |b| (s, b))) {
         most = most.max(results.a_byte(row.0.name, *row.1, "rust")?).max(results.a_byte(row.0.name, *row.1, "loose")?);
     }
-    let x = Axis { low: 1.0, high: most, from: LEFT, to: RIGHT };
+    let x = Axis { low: 0.1, high: most, from: LEFT, to: RIGHT };
     let bottom = top + 24.0 + 24.0 * SLOW.len() as f64;
     for ten in x.tens() {
         svg.line("grid", (x.at(ten), top + 14.0), (x.at(ten), bottom));
-        svg.text("n", x.at(ten), bottom + 17.0, "middle", &commas(ten));
+        svg.text("n", x.at(ten), bottom + 17.0, "middle", &tick(ten));
     }
     svg.line("axis", (x.from, bottom), (x.to, bottom));
     for (i, shape) in SLOW.iter().enumerate() {

@@ -33,10 +33,10 @@ fn intro(results: &Results) -> Result<String, String> {
     Ok(format!(
         "# What reading costs\n\n\
          `bench/run` makes {} lines as the readers of a gate send them (seed {}), reads them with syslog_loose (\"the Rust\") and with the archive (\"ours\"), and writes this page.\n\
-         Counted are the instructions that the x86-64 program runs, as the difference of two run lengths, so that start-up is not in them. Both are optimised (opt-level 3), nothing is printed, and the tables are\n\
-         not cleared. Before that every line is read by both and compared. Our loose reader checks that the line is UTF-8; the Rust is given text that is known to be. The Rust allocates its lists; ours fills lent tables\n\
+         Counted are the instructions that the x86-64 program runs, as the difference of two run lengths, so that start-up is not in them. Both are optimised (opt-level 3; for the Rust, with link-time optimisation too in a column of its own), nothing\n\
+         is printed, and the tables are not cleared. Before that every line is read by both and compared. Our loose reader checks that the line is UTF-8; the Rust is given text that is known to be. The Rust allocates its lists; ours fills lent tables\n\
          and writes the record's bytes.\n\n\
-         Measured on {} with {}.\n\n\
+         Measured on a machine of the kind {}, against {}.\n\n\
          ![The three tables as a plot](bench.svg)\n\n",
         commas(results.number(&["kind", "all"], 0)?),
         about("seed")?,
@@ -46,9 +46,9 @@ fn intro(results: &Results) -> Result<String, String> {
 }
 
 fn lines(results: &Results) -> Result<String, String> {
-    let mut page = String::from("## Instructions a line\n\nThe aim is a ratio of at most 1.0, the goal 0.5.\n\n");
-    add(&mut page, "| lines | count | bytes a line | the Rust | ours, loose | ratio | ours, strict | ratio |");
-    add(&mut page, "|---|---|---|---|---|---|---|---|");
+    let mut page = String::from("## Instructions a line\n\nA ratio is of ours to the Rust at opt-level 3. The aim is at most 1.0, the goal 0.5.\n\n");
+    add(&mut page, "| lines | count | bytes a line | the Rust | with LTO | ours, loose | ratio | ours, strict | ratio |");
+    add(&mut page, "|---|---|---|---|---|---|---|---|---|");
     for (kind, name) in KINDS {
         let count = results.number(&["kind", kind], 0)?;
         let bytes = results.number(&["kind", kind], 1)? / count;
@@ -57,7 +57,8 @@ fn lines(results: &Results) -> Result<String, String> {
             Ok(strict) => format!("{} | {:.2}", commas(strict), strict / rust),
             Err(_) => " | ".to_string(),
         };
-        add(&mut page, &format!("| {name} | {} | {bytes:.1} | {} | {} | {:.2} | {strict} |", commas(count), commas(rust), commas(loose), loose / rust));
+        let lto = commas(results.a_line(kind, "rust-lto")?);
+        add(&mut page, &format!("| {name} | {} | {bytes:.1} | {} | {lto} | {} | {:.2} | {strict} |", commas(count), commas(rust), commas(loose), loose / rust));
     }
     Ok(page + "\n")
 }

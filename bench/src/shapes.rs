@@ -28,7 +28,7 @@ pub const GROWING: [Shape; 3] = [
 ];
 
 /// Lines made to be slow. The measure is how the cost a byte grows with the length.
-pub const SLOW: [Shape; 14] = [
+pub const SLOW: [Shape; 15] = [
     shape("open-values", "`[a b=\"` again and again", (HEAD, ""), "[a b=\"", 'x', ""),
     shape("open-elements", "`[a b=\"x\" ` again and again", (HEAD, ""), "[a b=\"x\" ", 'x', ""),
     shape("brackets", "`[` again and again", (HEAD, ""), "[", '[', ""),
@@ -41,6 +41,7 @@ pub const SLOW: [Shape; 14] = [
     shape("wide-white", "U+3000 alone", ("", ""), "\u{3000}", ' ', ""),
     shape("open-quote", "an unfinished value behind many elements", (HEAD, ""), "[a b=\"x\"]", 'x', "[a b=\"x"),
     shape("old-tag", "RFC 3164, a long tag", (OLD_HEAD, ""), "t", 't', ": x"),
+    shape("old-zeros", "RFC 3164, a day of many digits", ("<134>Feb ", ""), "0", '0', "5 10:01:02 gate7 reader[42]: x"),
     shape("old-open-values", "RFC 3164, `[a b=\"` again and again", (OLD_HEAD, "reader[42]: "), "[a b=\"", 'x', ""),
     shape("old-late-brackets", "RFC 3164, `[a \" b=\"]` again and again", (OLD_HEAD, "reader[42]: "), "[a \" b=\"]", 'x', ""),
 ];
