@@ -36,12 +36,13 @@ fn intro(results: &Results) -> Result<String, String> {
          Counted are the instructions that the x86-64 program runs, as the difference of two run lengths, so that start-up is not in them. Both are optimised (opt-level 3; for the Rust, with link-time optimisation too in a column of its own), nothing\n\
          is printed, and the tables are not cleared. Before that every line is read by both and compared. Our loose reader checks that the line is UTF-8; the Rust is given text that is known to be. The Rust allocates its lists; ours fills lent tables\n\
          and writes the record's bytes.\n\n\
-         Measured on a machine of the kind {}, against {}.\n\n\
+         Measured on a machine of the kind {}, against {}. The archive is {}.\n\n\
          ![The three tables as a plot](bench.svg)\n\n",
         commas(results.number(&["kind", "all"], 0)?),
         about("seed")?,
         about("machine")?,
         about("versions")?,
+        about("archive")?,
     ))
 }
 
