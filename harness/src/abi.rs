@@ -1,0 +1,96 @@
+//! The archive's five functions, as include/khamdoriem.h declares them.
+
+pub type Element = [usize; 2];
+pub type Param = [usize; 5];
+
+/// Bytes and words of a record from the loose readers, and from the strict one.
+pub const RECORD: usize = 208;
+pub const STRICT_RECORD: usize = 240;
+pub const WORDS: usize = 26;
+pub const STRICT_WORDS: usize = 30;
+pub const LONGEST: usize = 8192;
+
+#[derive(Clone, Copy, Debug, PartialEq)]
+pub struct Settings {
+    pub variant: u32,
+    pub year: u32,
+    pub offset: i32,
+}
+
+#[repr(C)]
+#[derive(Clone, Copy, Debug, PartialEq)]
+pub struct Written {
+    pub number: u32,
+    pub len: usize,
+}
+
+#[derive(Clone, Copy, Debug, PartialEq)]
+pub enum Reader {
+    Exact,
+    Fallback,
+    Strict,
+}
+
+/// What printing and lookup are lent to read.
+#[derive(Clone, Copy)]
+pub struct Given<'a> {
+    pub line: &'a [u8],
+    pub record: &'a [u8],
+    pub elements: &'a [Element],
+    pub params: &'a [Param],
+}
+
+#[link(name = "exports", kind = "static")]
+extern "C" {
+    fn khamdoriem_read_exact(
+        line: *const u8, line_len: usize, variant: u32, year: u32, offset: i32, elements: *mut Element, elements_len: usize,
+        params: *mut Param, params_len: usize, record: *mut u8, record_len: usize,
+    ) -> u32;
+    fn khamdoriem_read_fallback(
+        line: *const u8, line_len: usize, variant: u32, year: u32, offset: i32, elements: *mut Element, elements_len: usize,
+        params: *mut Param, params_len: usize, record: *mut u8, record_len: usize,
+    ) -> u32;
+    fn khamdoriem_read_strict(
+        line: *const u8, line_len: usize, elements: *mut Element, elements_len: usize, params: *mut Param, params_len: usize,
+        record: *mut u8, record_len: usize,
+    ) -> u32;
+    fn khamdoriem_print(
+        line: *const u8, line_len: usize, record: *const u8, record_len: usize, elements: *const Element, elements_len: usize,
+        params: *const Param, params_len: usize, output: *mut u8, output_len: usize,
+    ) -> Written;
+    fn khamdoriem_lookup(
+        line: *const u8, line_len: usize, record: *const u8, record_len: usize, elements: *const Element, elements_len: usize,
+        params: *const Param, params_len: usize, id: *const u8, id_len: usize, name: *const u8, name_len: usize, kind: u32,
+        output: *mut u8, output_len: usize,
+    ) -> Written;
+}
+
+pub fn read(reader: Reader, line: &[u8], s: Settings, elements: &mut [Element], params: &mut [Param], record: &mut [u8]) -> u32 {
+    let (e, el, p, pl, r, rl) =
+        (elements.as_mut_ptr(), elements.len(), params.as_mut_ptr(), params.len(), record.as_mut_ptr(), record.len());
+    unsafe {
+        match reader {
+            Reader::Exact => khamdoriem_read_exact(line.as_ptr(), line.len(), s.variant, s.year, s.offset, e, el, p, pl, r, rl),
+            Reader::Fallback => khamdoriem_read_fallback(line.as_ptr(), line.len(), s.variant, s.year, s.offset, e, el, p, pl, r, rl),
+            Reader::Strict => khamdoriem_read_strict(line.as_ptr(), line.len(), e, el, p, pl, r, rl),
+        }
+    }
+}
+
+pub fn print(g: Given, output: &mut [u8]) -> Written {
+    unsafe {
+        khamdoriem_print(
+            g.line.as_ptr(), g.line.len(), g.record.as_ptr(), g.record.len(), g.elements.as_ptr(), g.elements.len(),
+            g.params.as_ptr(), g.params.len(), output.as_mut_ptr(), output.len(),
+        )
+    }
+}
+
+pub fn lookup(g: Given, id: &[u8], name: &[u8], kind: u32, output: &mut [u8]) -> Written {
+    unsafe {
+        khamdoriem_lookup(
+            g.line.as_ptr(), g.line.len(), g.record.as_ptr(), g.record.len(), g.elements.as_ptr(), g.elements.len(),
+            g.params.as_ptr(), g.params.len(), id.as_ptr(), id.len(), name.as_ptr(), name.len(), kind, output.as_mut_ptr(), output.len(),
+        )
+    }
+}

@@ -1,0 +1,387 @@
+//! Lines by seed: good ones of both protocols, damaged copies, timestamps at the limits, lines at the strict grammar's limits and around 8,192 bytes.
+
+use crate::abi::{Settings, LONGEST};
+use crate::everywhere::{Everywhere, TOKENS};
+use crate::random::Random;
+use crate::short::Short;
+
+pub struct Lines {
+    random: Random,
+    short: Short,
+    everywhere: Everywhere,
+}
+
+const YEARS: [u32; 14] = [0, 1, 3, 4, 100, 400, 1900, 1970, 2000, 2023, 2024, 2100, 9998, 9999];
+const OFFSETS: [i32; 13] = [-1439, -1438, -720, -61, -60, -1, 0, 1, 60, 330, 720, 1438, 1439];
+const MONTHS: [&str; 17] = [
+    "Jan", "Feb", "Mar", "Apr", "May", "Jun", "Jul", "Aug", "Sep", "Oct", "Nov", "Dec", "fEB", "JAN", "dec", "Fe", "\u{17F}ep",
+];
+const YEARS_B: [&str; 19] = [
+    "0", "00", "1", "4", "99", "100", "1900", "1969", "1970", "2000", "2023", "2024", "9999", "09999", "10000", "12345", "262142", "2147483647", "2147483648",
+];
+const FRACTIONS: [&str; 14] = [
+    "", "", "", ".0", ".5", ".12", ".003", ".123456", ".1234567", ".123456789", ".1234567890", ".000000000000", ".", ".12a",
+];
+const ZONES: [&str; 22] = [
+    "Z", "Z", "z", "+00:00", "-00:00", "+01:00", "-01:30", "+23:59", "-23:59", "+24:00", "-24:00", "+12:60", "\u{2212}01:00", "+0100", "+01", "", "+1:00", "+01:0", "+01 :00",
+    " Z", "+01:00Z", "-23:60",
+];
+const FIELDS: [&str; 28] = [
+    "-", "gate7", "h", "10.0.0.7", "reader", "app[42]", "app[042]", "app[x y]", "[1]", "[]", "a[", "a]", "a[b]c", "a[b]]", "[[1]]", ":", "h:", "-:", "::", "a:b", "--", "\u{e9}t\u{e9}",
+    "\u{3000}", "x\u{a0}y", "+42", "-0", "2147483648", "007",
+];
+const IDS: [&str; 9] = ["id", "t@32473", "a", "exampleSDID@32473", "\"", "\u{e9}", "-", "[", "x\"y"];
+const NAMES: [&str; 10] = ["ms", "a", "b", "iut", "eventSource", "n m", "\"", "\u{e9}", "\\", "["];
+const VALUES: [&str; 22] = [
+    "", "212", "x", "x]y", "\\]", "\\\"", "\\\\", "\\n", "\\x", "a\\nb", "\\\\\\\"", "\\\u{e9}", "\u{e9}", " ", "=", "[", "a b", "\\", "\\\\n", "\u{10FFFF}", "\\]\\]", "\t",
+];
+const MESSAGES: [&str; 20] = [
+    "", "tap ok", "x", "-5 ms", "-", ": m", "[x]", "[a b=\"c\"]", "[a b=\"c\"] m", "[a b=\"c\"", "\u{feff}bom", "a  b ", "\u{85}m", "m\u{2003}", "y\" b]", "\\", "\"", "[", "]", "- [a b=\"c\"] m",
+];
+
+impl Lines {
+    /// `part` of `parts` shares the exhaustive lists with the others and has random numbers of its own.
+    pub fn new(seed: u64, part: u64, parts: u64) -> Self {
+        let mut random = Random::new(seed.wrapping_mul(0x1_0000_0001).wrapping_add(part));
+        random.next();
+        Lines { random, short: Short::new(part, parts), everywhere: Everywhere::new(part, parts) }
+    }
+
+    /// The next line, its settings, and a number that chooses what the calls are lent.
+    pub fn next(&mut self, line: &mut Vec<u8>) -> (Settings, u64) {
+        line.clear();
+        match self.random.below(100) {
+            0..=29 => self.short.next(line),
+            30..=41 => self.everywhere.next(line),
+            42..=51 => self.good(line),
+            52..=54 => self.near_limit(line),
+            55 => self.long(line),
+            56..=67 => self.stamped(line),
+            _ => {
+                self.good(line);
+                self.damage(line);
+            }
+        }
+        (self.settings(), self.random.next())
+    }
+
+    /// How many letters all short strings have been gone through with.
+    pub fn letters(&self) -> u32 {
+        self.short.done()
+    }
+
+    pub fn settings(&mut self) -> Settings {
+        let r = &mut self.random;
+        let mut s = Settings { variant: r.of(&[0, 0, 0, 1, 2]), year: r.of(&YEARS), offset: r.of(&OFFSETS) };
+        if r.one_in(8) {
+            s.year = r.below(10_000) as u32;
+            s.offset = r.below(2879) as i32 - 1439;
+        }
+        if r.one_in(40) {
+            match r.below(3) {
+                0 => s.variant = r.of(&[3, 4, u32::MAX, 1 << 31]),
+                1 => s.year = r.of(&[10_000, 10_001, u32::MAX, 1 << 31]),
+                _ => s.offset = r.of(&[-1440, 1440, i32::MIN, i32::MAX, -1441, 86_400]),
+            }
+        }
+        s
+    }
+
+    fn good(&mut self, line: &mut Vec<u8>) {
+        if self.random.one_in(2) {
+            self.line_5424(line);
+        } else {
+            self.line_3164(line);
+        }
+        if self.random.one_in(12) {
+            line.extend_from_slice(self.random.pick(&TOKENS));
+        }
+    }
+
+    fn blank(&mut self, line: &mut Vec<u8>) {
+        line.extend_from_slice(self.random.pick(&[b" ", b" ", b" ", b" ", b" ", b" ", b" ", b"  ", b"\t", b" \t "]));
+    }
+
+    fn put(&mut self, line: &mut Vec<u8>, from: &[&str]) {
+        line.extend_from_slice(self.random.pick(from).as_bytes());
+    }
+
+    fn number(&mut self, line: &mut Vec<u8>, below: usize) {
+        line.extend_from_slice(self.random.below(below).to_string().as_bytes());
+    }
+
+    fn priority(&mut self, line: &mut Vec<u8>) {
+        match self.random.below(8) {
+            0 => self.put(line, &["", "<>", "<256>", "<0>", "<00013>", "<191>", "<192>", "<255>", "<013>", "<99999999999999999999>", "<1", "1>", "<-1>", "<+1>"]),
+            1 => line.extend_from_slice(format!("<{}>", self.random.below(260)).as_bytes()),
+            _ => line.extend_from_slice(format!("<{}>", self.random.below(192)).as_bytes()),
+        }
+    }
+
+    fn field(&mut self, line: &mut Vec<u8>) {
+        match self.random.below(3) {
+            0 => self.put(line, &FIELDS),
+            1 => self.put(line, &["gate7", "-", "reader", "42", "TAP", "h"]),
+            _ => self.word(line),
+        }
+    }
+
+    fn word(&mut self, line: &mut Vec<u8>) {
+        for _ in 0..1 + self.random.below(6) {
+            line.push(self.random.of(b"abcxyzABC0189-_.:[]@/+"));
+        }
+    }
+
+    fn elements(&mut self, line: &mut Vec<u8>) {
+        for _ in 0..1 + self.random.below(4) {
+            line.push(b'[');
+            self.put(line, &IDS);
+            for _ in 0..self.random.below(4) {
+                self.put(line, &[" ", " ", " ", " ", " ", "  ", "\t", ""]);
+                self.put(line, &NAMES);
+                self.put(line, &["=\"", "=\"", "=\"", "=\"", "=\"", "= \"", "=\t\"", "\""]);
+                for _ in 0..1 + self.random.below(2) {
+                    self.put(line, &VALUES);
+                }
+                line.push(b'"');
+            }
+            self.put(line, &["]", "]", "]", "]", "]", "]", "]", "] ", " ]", "", "]]"]);
+        }
+    }
+
+    fn structured(&mut self, line: &mut Vec<u8>) {
+        match self.random.below(3) {
+            0 => self.put(line, &["-", "-", "", "[", "[]", "[id]", "[id a=\"b\"]"]),
+            _ => self.elements(line),
+        }
+    }
+
+    fn line_5424(&mut self, line: &mut Vec<u8>) {
+        self.priority(line);
+        self.put(line, &["1", "1", "1", "1", "2", "0", "007", "999", "1000", "4294967295", "4294967296", ""]);
+        self.blank(line);
+        if self.random.one_in(3) {
+            line.push(b'-');
+        } else {
+            self.form_c(line);
+        }
+        for _ in 0..4 {
+            self.blank(line);
+            self.field(line);
+        }
+        self.blank(line);
+        self.structured(line);
+        if !self.random.one_in(4) {
+            self.blank(line);
+            self.put(line, &MESSAGES);
+        }
+    }
+
+    fn line_3164(&mut self, line: &mut Vec<u8>) {
+        self.priority(line);
+        self.put(line, &["", "", "", "", " ", "\t "]);
+        match self.random.below(8) {
+            0 => line.push(b'-'),
+            1 => self.form_c(line),
+            2..=3 => self.form_b(line),
+            _ => self.form_a(line),
+        }
+        for _ in 0..self.random.of(&[0, 1, 2, 2, 2, 2, 2, 3]) {
+            self.blank(line);
+            self.field(line);
+        }
+        self.put(line, &["", "", ":", ": ", ": ", " : ", "::", "\t:\t"]);
+        if self.random.one_in(3) {
+            self.structured(line);
+            self.put(line, &[" ", " ", "", "\t"]);
+        }
+        self.put(line, &MESSAGES);
+    }
+
+    fn clock(&mut self, line: &mut Vec<u8>) {
+        match self.random.below(6) {
+            0 => self.put(line, &["23:59:59", "00:00:00", "0:0:0", "24:00:00", "23:60:00", "23:59:60", "23:59:61", "10:01", "10:01:02.5", "010:001:002", "4294967295:0:0", "10:4294967296:0", "10::2"]),
+            _ => {
+                let r = &mut self.random;
+                line.extend_from_slice(format!("{:02}:{:02}:{:02}", r.below(24), r.below(60), r.below(60)).as_bytes());
+            }
+        }
+    }
+
+    fn month_and_day(&mut self, line: &mut Vec<u8>) {
+        self.put(line, &MONTHS);
+        self.blank(line);
+        match self.random.below(4) {
+            0 => self.put(line, &["0", "1", "01", "28", "29", "30", "31", "32", "4294967295", "4294967296", "-1", "", "005"]),
+            1 => line.extend_from_slice(format!(" {}", 1 + self.random.below(9)).as_bytes()),
+            _ => self.number(line, 32),
+        }
+        self.blank(line);
+    }
+
+    fn form_a(&mut self, line: &mut Vec<u8>) {
+        self.month_and_day(line);
+        self.clock(line);
+        self.put(line, &["", "", "", "", "", ":", "::", "Z"]);
+    }
+
+    fn form_b(&mut self, line: &mut Vec<u8>) {
+        self.month_and_day(line);
+        match self.random.below(3) {
+            0 => self.put(line, &YEARS_B),
+            _ => self.number(line, 10_000),
+        }
+        self.blank(line);
+        self.clock(line);
+        self.put(line, &["", "", "", "", "", ":", "::", "Z"]);
+    }
+
+    fn form_c(&mut self, line: &mut Vec<u8>) {
+        let r = &mut self.random;
+        let year = if r.one_in(3) { r.of(&YEARS) as usize } else { r.below(10_000) };
+        let (month, day) = match r.below(4) {
+            0 => (r.below(14), r.below(33)),
+            _ => (1 + r.below(12), 1 + r.below(28)),
+        };
+        line.extend_from_slice(format!("{year:04}-{month:02}-{day:02}").as_bytes());
+        self.put(line, &["T", "T", "T", "T", "T", "T", "T", "t", " ", "_"]);
+        self.clock(line);
+        self.put(line, &FRACTIONS);
+        self.put(line, &ZONES);
+    }
+
+    /// A good header around a timestamp of any form, often at its limits.
+    fn stamped(&mut self, line: &mut Vec<u8>) {
+        let new = self.random.one_in(3);
+        line.extend_from_slice(if new { b"<13>1 " } else { b"<13>" });
+        match self.random.below(if new { 2 } else { 6 }) {
+            0 => self.limit_c(line),
+            1 => self.form_c(line),
+            2 => self.form_a(line),
+            3 => self.limit_b(line),
+            _ => self.form_b(line),
+        }
+        self.put(line, if new { &[" h a 42 m - x", " - - - - -", "\th a p m - x"] } else { &[" h t: m", " h t[7]: m", "", " ", ": m", "Z h"] });
+    }
+
+    fn limit_b(&mut self, line: &mut Vec<u8>) {
+        self.put(line, &["Jan 1 ", "Dec 31 ", "Feb 29 ", "Feb 28 ", "Jan 2 ", "Dec 30 "]);
+        self.put(line, &YEARS_B);
+        self.put(line, &[" 00:00:00", " 23:59:59", " 00:30:00", " 23:30:00", " 0:1:0", " 23:58:60"]);
+    }
+
+    fn limit_c(&mut self, line: &mut Vec<u8>) {
+        self.put(line, &["0000", "0001", "1970", "1900", "2000", "2023", "2024", "2100", "9999", "10000", "-001", "+2023", "999"]);
+        self.put(line, &["-01-01", "-12-31", "-02-28", "-02-29", "-02-30", "-04-31", "-00-10", "-13-10", "-10-00", "-1-1", "-06-30"]);
+        self.put(line, &["T", "T", "T", "t"]);
+        self.put(line, &["00:00:00", "23:59:59", "23:59:60", "24:00:00", "12:60:00", "12:00:61", "12:00:60", "1:0:0"]);
+        self.put(line, &FRACTIONS);
+        self.put(line, &ZONES);
+    }
+
+    /// A line that RFC 5424 derives, or that is past one of its limits by one.
+    fn near_limit(&mut self, line: &mut Vec<u8>) {
+        self.put(line, &["<0>", "<13>", "<191>", "<192>", "<00>", "<9>"]);
+        self.put(line, &["1", "9", "999", "1000", "10", "01", "0"]);
+        self.put(line, &[" - ", " 2024-02-29T23:59:59.999999Z ", " 2023-02-28T00:00:00-23:59 ", " 2023-01-01T00:00:00.1234567Z ", " 0000-01-01T00:00:00+23:59 "]);
+        for most in [255, 48, 128, 32] {
+            let len = match self.random.below(6) {
+                0 => most + self.random.below(2),
+                1 => most - 1,
+                _ => 1 + self.random.below(4),
+            };
+            (0..len).for_each(|_| line.push(b'!' + self.random.below(94) as u8));
+            line.push(b' ');
+        }
+        if self.random.one_in(3) {
+            line.push(b'-');
+        } else {
+            self.limit_elements(line);
+        }
+        self.put(line, &["", " ", " m", "  m ", " \u{feff}m", " \u{feff}", "m"]);
+        if self.random.one_in(3) {
+            line.extend_from_slice(self.random.pick(&TOKENS));
+        }
+    }
+
+    fn limit_name(&mut self, line: &mut Vec<u8>) {
+        let len = self.random.of(&[1, 1, 2, 3, 31, 32, 32, 33, 0]);
+        (0..len).for_each(|_| line.push(self.random.of(b"abcXYZ019!~@[\\<>-")));
+    }
+
+    fn limit_elements(&mut self, line: &mut Vec<u8>) {
+        for _ in 0..1 + self.random.below(3) {
+            line.push(b'[');
+            self.limit_name(line);
+            for _ in 0..self.random.below(3) {
+                line.push(b' ');
+                self.limit_name(line);
+                line.extend_from_slice(b"=\"");
+                self.put(line, &["", "x", "\\\"", "\\\\", "\\]", "\\n", "\\", "]", "\u{e9}", "a\\b\\\\", "[", "="]);
+                if self.random.one_in(8) {
+                    line.extend_from_slice(self.random.pick(&TOKENS));
+                }
+                line.push(b'"');
+            }
+            line.push(b']');
+        }
+    }
+
+    /// A line of 8,190 to 8,194 bytes, long in one of its parts.
+    fn long(&mut self, line: &mut Vec<u8>) {
+        let aim = LONGEST - 2 + self.random.below(5);
+        let (before, piece, after): (&str, &str, &str) = self.random.of(&[
+            ("<13>1 - h a p m - ", "x", ""),
+            ("<13>1 - ", "h", " a p m - x"),
+            ("<13>1 - h a p m ", "[i]", " x"),
+            ("<13>1 - h a p m [i", " a=\"b\"", "] x"),
+            ("<13>1 - h a p m [i a=\"", "\\\"", "\"] x"),
+            ("<13>1 - h a p m ", "[i a=\"b\"]", ""),
+            ("<13>1 - h a p m ", "[a b]", " x"),
+            ("<13>1 - h a p m [i a=\"", "]", "\"] x"),
+            ("<13>1 - h a p m ", "[", "]"),
+            ("<13>Feb 5 10:01:02 h t: ", "[i a=\"b\"]", " m"),
+            ("<13>Feb 5 10:01:02 h t: ", "m\u{e9}", ""),
+            ("<13>Feb 5 10:01:02 ", "h", "[7]: m"),
+            ("<", "0", "13>1 - h a p m - x"),
+            ("", " ", "<13>1 - h a p m - x"),
+            ("<13>Feb 5 10:01:02 h t: m", "\u{3000}", ""),
+            ("<13>1 2023-02-05T10:01:02.", "0", "Z h a p m - x"),
+        ]);
+        line.extend_from_slice(before.as_bytes());
+        while line.len() + piece.len() + after.len() <= aim {
+            line.extend_from_slice(piece.as_bytes());
+        }
+        line.extend_from_slice(after.as_bytes());
+        while line.len() < aim {
+            line.push(b'x');
+        }
+        if self.random.one_in(4) {
+            self.damage(line);
+        }
+    }
+
+    /// One to four wounds: flips, cuts, insertions, duplications, exchanges.
+    fn damage(&mut self, line: &mut Vec<u8>) {
+        for _ in 0..1 + self.random.below(4) {
+            let at = self.random.below(line.len() + 1);
+            let end = at + self.random.below((line.len() - at).min(12) + 1);
+            let to = self.random.below(line.len() + 1);
+            match self.random.below(7) {
+                0 if at < line.len() => line[at] ^= 1 << self.random.below(8),
+                1 if at < line.len() => line[at] = self.random.next() as u8,
+                2 => drop(line.drain(at..end)),
+                3 if self.random.one_in(4) => line.truncate(at),
+                4 => {
+                    let part = line[at..end].to_vec();
+                    line.splice(to..to, part);
+                }
+                5 if at < line.len() => line[at] = self.random.of(b"<>[]\"\\=:- \t01n"),
+                _ => {
+                    let token = self.random.pick(&TOKENS);
+                    line.splice(at..at, token.iter().copied());
+                }
+            }
+        }
+    }
+}

@@ -1,0 +1,119 @@
+//! The differential harness: the archive of the port beside the Rust crate, in one program, on the same inputs.
+//!
+//!     harness [--seed N] [--cases N] [--part I/N]     compares, and ends with one line
+//!     harness --replay N                              writes a list of N cases with the Rust's answers
+
+mod abi;
+mod classes;
+mod compare;
+mod everywhere;
+mod forge;
+mod lent;
+mod lines;
+mod oracle;
+mod random;
+mod records;
+mod replay;
+mod short;
+mod shrink;
+mod strict;
+
+use compare::{Counts, Desk};
+use lines::Lines;
+use shrink::{escaped, shrink, Shown};
+use std::panic::{catch_unwind, AssertUnwindSafe};
+use std::process::ExitCode;
+use std::time::{Duration, Instant};
+
+struct Wanted {
+    seed: u64,
+    cases: u64,
+    part: u64,
+    parts: u64,
+    replay: Option<usize>,
+}
+
+fn arguments() -> Result<Wanted, String> {
+    let mut wanted = Wanted { seed: 1, cases: 100_000, part: 0, parts: 1, replay: None };
+    let mut args = std::env::args().skip(1);
+    while let Some(name) = args.next() {
+        let value = args.next().ok_or(format!("{name} asks for a value"))?;
+        let number = |text: &str| text.parse::<u64>().map_err(|_| format!("{name}: '{text}' is not a number"));
+        match name.as_str() {
+            "--seed" => wanted.seed = number(&value)?,
+            "--cases" => wanted.cases = number(&value)?,
+            "--replay" => wanted.replay = Some(number(&value)? as usize),
+            "--part" => {
+                let (part, parts) = value.split_once('/').ok_or("--part asks for I/N")?;
+                (wanted.part, wanted.parts) = (number(part)?.wrapping_sub(1), number(parts)?);
+            }
+            _ => return Err(format!("unknown argument '{name}'")),
+        }
+    }
+    if wanted.part >= wanted.parts {
+        return Err("--part I/N asks for I from 1 to N".into());
+    }
+    Ok(wanted)
+}
+
+fn summary(wanted: &Wanted, counts: &Counts, unexplained: u64) -> String {
+    let classes: Vec<String> = counts.classes.iter().enumerate().map(|(at, count)| format!("D{} {count}", at + 1)).collect();
+    format!(
+        "seed {} part {}/{}: {} cases ({} calls, {} lines, {} with a loose reading, {} taken strictly), {}, {} unexplained",
+        wanted.seed, wanted.part + 1, wanted.parts, counts.cases, counts.calls, counts.lines, counts.read, counts.strict, classes.join(" "), unexplained
+    )
+}
+
+/// Runs until enough cases are done; the first difference that no class explains ends it.
+fn run(wanted: &Wanted, desk: &mut Desk) -> Option<(Shown, u64)> {
+    let mut lines = Lines::new(wanted.seed, wanted.part, wanted.parts);
+    let mut line = Vec::new();
+    let (start, mut told) = (Instant::now(), Instant::now());
+    while desk.counts.cases < wanted.cases {
+        let (settings, salt) = lines.next(&mut line);
+        let seen = catch_unwind(AssertUnwindSafe(|| desk.line(&line, settings, salt)));
+        match seen {
+            Ok(Ok(())) => {}
+            Ok(Err(fault)) => return Some((Shown { line, settings, fault }, salt)),
+            Err(_) => {
+                eprintln!("harness: stopped on the line \"{}\" with {settings:?}", escaped(&line));
+                std::process::exit(3);
+            }
+        }
+        if told.elapsed() >= Duration::from_secs(5) {
+            told = Instant::now();
+            let rate = desk.counts.cases as f64 / start.elapsed().as_secs_f64();
+            eprintln!("harness: {} ({rate:.0} cases a second, short strings past {} letters)", summary(wanted, &desk.counts, 0), lines.letters());
+        }
+    }
+    None
+}
+
+fn compared(wanted: &Wanted) -> ExitCode {
+    let mut desk = Desk::new();
+    let Some((shown, salt)) = run(wanted, &mut desk) else {
+        println!("harness: {}", summary(wanted, &desk.counts, 0));
+        return ExitCode::SUCCESS;
+    };
+    let counts = desk.counts;
+    eprintln!("harness: a difference on \"{}\" with {:?}; making it smaller", escaped(&shown.line), shown.settings);
+    let shown = shrink(&mut desk, shown, salt);
+    println!("harness: {} differs in {}", shown.fault.service, shown.fault.what);
+    println!("  line     \"{}\"", escaped(&shown.line));
+    println!("  settings {:?}", shown.settings);
+    println!("  ours     {}", shown.fault.ours);
+    println!("  wanted   {}", shown.fault.theirs);
+    println!("harness: {}", summary(wanted, &counts, 1));
+    ExitCode::FAILURE
+}
+
+fn main() -> ExitCode {
+    match arguments() {
+        Err(error) => {
+            eprintln!("harness: {error}");
+            ExitCode::from(2)
+        }
+        Ok(Wanted { replay: Some(count), .. }) => replay::write(count),
+        Ok(wanted) => compared(&wanted),
+    }
+}
