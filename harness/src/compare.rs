@@ -179,7 +179,7 @@ impl Desk {
             rooms.push([e - 1, self.random.of(&[p, 0, p + 1]), self.random.of(&[layout, 0])]);
         }
         if p > 0 {
-            rooms.push([e, p - 1, self.random.of(&[layout, layout - 1])]);
+            rooms.push([e, self.random.of(&[p - 1, p - 1, 0]), self.random.of(&[layout, layout - 1])]);
         }
         if self.random.one_in(6) {
             rooms.push([0, 0, layout]);

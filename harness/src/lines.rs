@@ -13,18 +13,15 @@ pub struct Lines {
 
 const YEARS: [u32; 14] = [0, 1, 3, 4, 100, 400, 1900, 1970, 2000, 2023, 2024, 2100, 9998, 9999];
 const OFFSETS: [i32; 13] = [-1439, -1438, -720, -61, -60, -1, 0, 1, 60, 330, 720, 1438, 1439];
-const MONTHS: [&str; 17] = [
-    "Jan", "Feb", "Mar", "Apr", "May", "Jun", "Jul", "Aug", "Sep", "Oct", "Nov", "Dec", "fEB", "JAN", "dec", "Fe", "\u{17F}ep",
-];
+const MONTHS: [&str; 15] = ["Jan", "Feb", "Mar", "Apr", "May", "Jun", "Jul", "Aug", "Sep", "Oct", "Nov", "Dec", "fEB", "JAN", "dec"];
 const YEARS_B: [&str; 19] = [
     "0", "00", "1", "4", "99", "100", "1900", "1969", "1970", "2000", "2023", "2024", "9999", "09999", "10000", "12345", "262142", "2147483647", "2147483648",
 ];
-const FRACTIONS: [&str; 14] = [
-    "", "", "", ".0", ".5", ".12", ".003", ".123456", ".1234567", ".123456789", ".1234567890", ".000000000000", ".", ".12a",
-];
-const ZONES: [&str; 22] = [
-    "Z", "Z", "z", "+00:00", "-00:00", "+01:00", "-01:30", "+23:59", "-23:59", "+24:00", "-24:00", "+12:60", "\u{2212}01:00", "+0100", "+01", "", "+1:00", "+01:0", "+01 :00",
-    " Z", "+01:00Z", "-23:60",
+const FRACTIONS: [&str; 11] = ["", "", "", ".0", ".5", ".12", ".003", ".123456", ".1234567", ".123456789", ".120000000"];
+const ODD_FRACTIONS: [&str; 5] = [".1234567890", ".000000000000", ".", ".12a", ",5"];
+const ZONES: [&str; 10] = ["Z", "Z", "z", "+00:00", "-00:00", "+01:00", "-01:30", "+05:45", "+23:59", "-23:59"];
+const ODD_ZONES: [&str; 14] = [
+    "+24:00", "-24:00", "+12:60", "-23:60", "\u{2212}01:00", "\u{2212}23:59", "+0100", "+01", "", "+1:00", "+01:0", "+01 :00", " Z", "+01:00Z",
 ];
 const FIELDS: [&str; 28] = [
     "-", "gate7", "h", "10.0.0.7", "reader", "app[42]", "app[042]", "app[x y]", "[1]", "[]", "a[", "a]", "a[b]c", "a[b]]", "[[1]]", ":", "h:", "-:", "::", "a:b", "--", "\u{e9}t\u{e9}",
@@ -53,10 +50,10 @@ impl Lines {
         match self.random.below(100) {
             0..=29 => self.short.next(line),
             30..=41 => self.everywhere.next(line),
-            42..=51 => self.good(line),
-            52..=54 => self.near_limit(line),
-            55 => self.long(line),
-            56..=67 => self.stamped(line),
+            42..=55 => self.good(line),
+            56..=61 => self.near_limit(line),
+            62 => self.long(line),
+            63..=74 => self.stamped(line),
             _ => {
                 self.good(line);
                 self.damage(line);
@@ -102,6 +99,12 @@ impl Lines {
         line.extend_from_slice(self.random.pick(&[b" ", b" ", b" ", b" ", b" ", b" ", b" ", b"  ", b"\t", b" \t "]));
     }
 
+    /// One of the usual texts, or one time in ten an odd one.
+    fn put_or(&mut self, line: &mut Vec<u8>, usual: &[&str], odd: &[&str]) {
+        let from = if self.random.one_in(10) { odd } else { usual };
+        self.put(line, from);
+    }
+
     fn put(&mut self, line: &mut Vec<u8>, from: &[&str]) {
         line.extend_from_slice(self.random.pick(from).as_bytes());
     }
@@ -119,9 +122,9 @@ impl Lines {
     }
 
     fn field(&mut self, line: &mut Vec<u8>) {
-        match self.random.below(3) {
+        match self.random.below(6) {
             0 => self.put(line, &FIELDS),
-            1 => self.put(line, &["gate7", "-", "reader", "42", "TAP", "h"]),
+            1..=3 => self.put(line, &["gate7", "-", "reader", "42", "TAP", "h", "app[42]"]),
             _ => self.word(line),
         }
     }
@@ -137,15 +140,15 @@ impl Lines {
             line.push(b'[');
             self.put(line, &IDS);
             for _ in 0..self.random.below(4) {
-                self.put(line, &[" ", " ", " ", " ", " ", "  ", "\t", ""]);
+                self.put_or(line, &[" "], &["  ", "\t", ""]);
                 self.put(line, &NAMES);
-                self.put(line, &["=\"", "=\"", "=\"", "=\"", "=\"", "= \"", "=\t\"", "\""]);
+                self.put_or(line, &["=\""], &["= \"", "=\t\"", "\"", "=\u{a0}\""]);
                 for _ in 0..1 + self.random.below(2) {
                     self.put(line, &VALUES);
                 }
                 line.push(b'"');
             }
-            self.put(line, &["]", "]", "]", "]", "]", "]", "]", "] ", " ]", "", "]]"]);
+            self.put_or(line, &["]"], &["] ", " ]", "", "]]"]);
         }
     }
 
@@ -158,7 +161,7 @@ impl Lines {
 
     fn line_5424(&mut self, line: &mut Vec<u8>) {
         self.priority(line);
-        self.put(line, &["1", "1", "1", "1", "2", "0", "007", "999", "1000", "4294967295", "4294967296", ""]);
+        self.put_or(line, &["1", "1", "1", "2", "999"], &["0", "007", "1000", "4294967295", "4294967296", ""]);
         self.blank(line);
         if self.random.one_in(3) {
             line.push(b'-');
@@ -199,22 +202,21 @@ impl Lines {
     }
 
     fn clock(&mut self, line: &mut Vec<u8>) {
-        match self.random.below(6) {
-            0 => self.put(line, &["23:59:59", "00:00:00", "0:0:0", "24:00:00", "23:60:00", "23:59:60", "23:59:61", "10:01", "10:01:02.5", "010:001:002", "4294967295:0:0", "10:4294967296:0", "10::2"]),
-            _ => {
-                let r = &mut self.random;
-                line.extend_from_slice(format!("{:02}:{:02}:{:02}", r.below(24), r.below(60), r.below(60)).as_bytes());
-            }
+        if self.random.one_in(6) {
+            let odd = ["0:0:0", "24:00:00", "23:60:00", "23:59:60", "23:59:61", "10:01", "10:01:02.5", "010:001:002", "4294967295:0:0", "10:4294967296:0", "10::2"];
+            return self.put_or(line, &["23:59:59", "00:00:00", "23:59:60", "12:00:60"], &odd);
         }
+        let r = &mut self.random;
+        line.extend_from_slice(format!("{:02}:{:02}:{:02}", r.below(24), r.below(60), r.below(60)).as_bytes());
     }
 
     fn month_and_day(&mut self, line: &mut Vec<u8>) {
-        self.put(line, &MONTHS);
+        self.put_or(line, &MONTHS, &["Fe", "\u{17F}ep", "Febr", "f\u{e9}v", ""]);
         self.blank(line);
-        match self.random.below(4) {
+        match self.random.below(8) {
             0 => self.put(line, &["0", "1", "01", "28", "29", "30", "31", "32", "4294967295", "4294967296", "-1", "", "005"]),
             1 => line.extend_from_slice(format!(" {}", 1 + self.random.below(9)).as_bytes()),
-            _ => self.number(line, 32),
+            _ => line.extend_from_slice((1 + self.random.below(30)).to_string().as_bytes()),
         }
         self.blank(line);
     }
@@ -222,32 +224,32 @@ impl Lines {
     fn form_a(&mut self, line: &mut Vec<u8>) {
         self.month_and_day(line);
         self.clock(line);
-        self.put(line, &["", "", "", "", "", ":", "::", "Z"]);
+        self.put_or(line, &["", "", "", ":"], &["::", "Z"]);
     }
 
     fn form_b(&mut self, line: &mut Vec<u8>) {
         self.month_and_day(line);
-        match self.random.below(3) {
+        match self.random.below(4) {
             0 => self.put(line, &YEARS_B),
             _ => self.number(line, 10_000),
         }
         self.blank(line);
         self.clock(line);
-        self.put(line, &["", "", "", "", "", ":", "::", "Z"]);
+        self.put_or(line, &["", "", "", ":"], &["::", "Z"]);
     }
 
     fn form_c(&mut self, line: &mut Vec<u8>) {
         let r = &mut self.random;
         let year = if r.one_in(3) { r.of(&YEARS) as usize } else { r.below(10_000) };
-        let (month, day) = match r.below(4) {
+        let (month, day) = match r.below(8) {
             0 => (r.below(14), r.below(33)),
             _ => (1 + r.below(12), 1 + r.below(28)),
         };
         line.extend_from_slice(format!("{year:04}-{month:02}-{day:02}").as_bytes());
-        self.put(line, &["T", "T", "T", "T", "T", "T", "T", "t", " ", "_"]);
+        self.put_or(line, &["T", "T", "T", "t"], &[" ", "_", ""]);
         self.clock(line);
-        self.put(line, &FRACTIONS);
-        self.put(line, &ZONES);
+        self.put_or(line, &FRACTIONS, &ODD_FRACTIONS);
+        self.put_or(line, &ZONES, &ODD_ZONES);
     }
 
     /// A good header around a timestamp of any form, often at its limits.
@@ -258,36 +260,39 @@ impl Lines {
             0 => self.limit_c(line),
             1 => self.form_c(line),
             2 => self.form_a(line),
-            3 => self.limit_b(line),
-            _ => self.form_b(line),
+            3 => self.form_b(line),
+            _ => self.limit_b(line),
         }
-        self.put(line, if new { &[" h a 42 m - x", " - - - - -", "\th a p m - x"] } else { &[" h t: m", " h t[7]: m", "", " ", ": m", "Z h"] });
+        let after: &[&str] = if new { &[" h a 42 m - x", " - - - - -"] } else { &[" h t: m", " h t[7]: m", "", ": m"] };
+        self.put_or(line, after, &["\th a p m - x", " ", "Z h", "\u{a0}h"]);
     }
 
     fn limit_b(&mut self, line: &mut Vec<u8>) {
         self.put(line, &["Jan 1 ", "Dec 31 ", "Feb 29 ", "Feb 28 ", "Jan 2 ", "Dec 30 "]);
-        self.put(line, &YEARS_B);
-        self.put(line, &[" 00:00:00", " 23:59:59", " 00:30:00", " 23:30:00", " 0:1:0", " 23:58:60"]);
+        self.put_or(line, &["0", "9999", "2000"], &YEARS_B);
+        self.put_or(line, &[" 00:00:00", " 23:59:59", " 00:30:00", " 23:30:00"], &[" 0:1:0", " 23:58:60"]);
     }
 
     fn limit_c(&mut self, line: &mut Vec<u8>) {
-        self.put(line, &["0000", "0001", "1970", "1900", "2000", "2023", "2024", "2100", "9999", "10000", "-001", "+2023", "999"]);
-        self.put(line, &["-01-01", "-12-31", "-02-28", "-02-29", "-02-30", "-04-31", "-00-10", "-13-10", "-10-00", "-1-1", "-06-30"]);
+        self.put_or(line, &["0000", "0001", "1970", "1900", "2000", "2023", "2024", "2100", "9999"], &["10000", "-001", "+2023", "999"]);
+        self.put_or(line, &["-01-01", "-12-31", "-02-28", "-02-29", "-06-30"], &["-02-30", "-04-31", "-00-10", "-13-10", "-10-00", "-1-1"]);
         self.put(line, &["T", "T", "T", "t"]);
-        self.put(line, &["00:00:00", "23:59:59", "23:59:60", "24:00:00", "12:60:00", "12:00:61", "12:00:60", "1:0:0"]);
-        self.put(line, &FRACTIONS);
-        self.put(line, &ZONES);
+        self.put_or(line, &["00:00:00", "23:59:59", "23:59:60"], &["24:00:00", "12:60:00", "12:00:61", "12:00:60", "1:0:0"]);
+        self.put_or(line, &FRACTIONS, &ODD_FRACTIONS);
+        self.put_or(line, &ZONES, &ODD_ZONES);
     }
 
     /// A line that RFC 5424 derives, or that is past one of its limits by one.
     fn near_limit(&mut self, line: &mut Vec<u8>) {
-        self.put(line, &["<0>", "<13>", "<191>", "<192>", "<00>", "<9>"]);
-        self.put(line, &["1", "9", "999", "1000", "10", "01", "0"]);
-        self.put(line, &[" - ", " 2024-02-29T23:59:59.999999Z ", " 2023-02-28T00:00:00-23:59 ", " 2023-01-01T00:00:00.1234567Z ", " 0000-01-01T00:00:00+23:59 "]);
+        self.put_or(line, &["<0>", "<13>", "<191>", "<9>"], &["<192>", "<00>", "<013>"]);
+        self.put_or(line, &["1", "9", "999", "10"], &["1000", "01", "0"]);
+        let odd = [" 2023-01-01T00:00:00.1234567Z ", " 2023-02-29T00:00:00Z ", " 2023-02-28T00:00:60Z ", " 2023-02-28t00:00:00Z "];
+        self.put_or(line, &[" - ", " 2024-02-29T23:59:59.999999Z ", " 2023-02-28T00:00:00-23:59 ", " 0000-01-01T00:00:00.5+23:59 "], &odd);
         for most in [255, 48, 128, 32] {
-            let len = match self.random.below(6) {
-                0 => most + self.random.below(2),
-                1 => most - 1,
+            let len = match self.random.below(16) {
+                0 => most + 1,
+                1..=2 => most,
+                3 => most - 1,
                 _ => 1 + self.random.below(4),
             };
             (0..len).for_each(|_| line.push(b'!' + self.random.below(94) as u8));
@@ -298,14 +303,14 @@ impl Lines {
         } else {
             self.limit_elements(line);
         }
-        self.put(line, &["", " ", " m", "  m ", " \u{feff}m", " \u{feff}", "m"]);
-        if self.random.one_in(3) {
+        self.put_or(line, &["", " ", " m", "  m ", " \u{feff}m", " \u{feff}"], &["m", "  "]);
+        if self.random.one_in(6) {
             line.extend_from_slice(self.random.pick(&TOKENS));
         }
     }
 
     fn limit_name(&mut self, line: &mut Vec<u8>) {
-        let len = self.random.of(&[1, 1, 2, 3, 31, 32, 32, 33, 0]);
+        let len = if self.random.one_in(16) { self.random.of(&[33, 0]) } else { self.random.of(&[1, 1, 2, 3, 31, 32]) };
         (0..len).for_each(|_| line.push(self.random.of(b"abcXYZ019!~@[\\<>-")));
     }
 
@@ -317,8 +322,8 @@ impl Lines {
                 line.push(b' ');
                 self.limit_name(line);
                 line.extend_from_slice(b"=\"");
-                self.put(line, &["", "x", "\\\"", "\\\\", "\\]", "\\n", "\\", "]", "\u{e9}", "a\\b\\\\", "[", "="]);
-                if self.random.one_in(8) {
+                self.put_or(line, &["", "x", "\\\"", "\\\\", "\\]", "\\n", "\u{e9}", "a\\b\\\\", "[", "="], &["\\", "]"]);
+                if self.random.one_in(16) {
                     line.extend_from_slice(self.random.pick(&TOKENS));
                 }
                 line.push(b'"');

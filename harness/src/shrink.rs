@@ -3,6 +3,9 @@
 use crate::abi::Settings;
 use crate::compare::{Desk, Fault};
 
+/// Pieces up to this length are all tried, until none goes.
+const SMALL: usize = 24;
+
 pub struct Shown {
     pub line: Vec<u8>,
     pub settings: Settings,
@@ -43,14 +46,12 @@ pub fn shrink(desk: &mut Desk, mut shown: Shown, salt: u64) -> Shown {
         }
     }
     let mut piece = (shown.line.len() / 2).max(1);
-    loop {
-        let went = pass(desk, &mut shown, salt, piece);
-        if piece > 1 {
-            piece /= 2;
-        } else if !went {
-            return shown;
-        }
+    while piece > SMALL {
+        pass(desk, &mut shown, salt, piece);
+        piece /= 2;
     }
+    while (1..=SMALL).rev().any(|piece| pass(desk, &mut shown, salt, piece)) {}
+    shown
 }
 
 /// The line with every byte that is not a plain character as an escape.

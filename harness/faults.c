@@ -1,0 +1,82 @@
+/* Wrong answers laid over the archive's own, one by one, to see that the harness finds each. The archive's functions are renamed right_*;
+   these stand in their place, and the variable FAULT says which of them is wrong. harness/try-faults builds and runs them. */
+#include <stdlib.h>
+#include "khamdoriem.h"
+
+#define WORD(record, at) (((uint64_t *)(record))[at])
+
+uint32_t right_read_exact(const uint8_t *, size_t, uint32_t, uint32_t, int32_t, khamdoriem_element *, size_t, khamdoriem_param *, size_t, uint8_t *, size_t);
+uint32_t right_read_fallback(const uint8_t *, size_t, uint32_t, uint32_t, int32_t, khamdoriem_element *, size_t, khamdoriem_param *, size_t, uint8_t *, size_t);
+uint32_t right_read_strict(const uint8_t *, size_t, khamdoriem_element *, size_t, khamdoriem_param *, size_t, uint8_t *, size_t);
+struct khamdoriem_written right_print(const uint8_t *, size_t, const uint8_t *, size_t, const khamdoriem_element *, size_t, const khamdoriem_param *, size_t,
+                                      uint8_t *, size_t);
+struct khamdoriem_written right_lookup(const uint8_t *, size_t, const uint8_t *, size_t, const khamdoriem_element *, size_t, const khamdoriem_param *, size_t,
+                                       const uint8_t *, size_t, const uint8_t *, size_t, uint32_t, uint8_t *, size_t);
+
+static int fault(void) {
+    static int number = -1;
+    if (number < 0) number = getenv("FAULT") ? atoi(getenv("FAULT")) : 0;
+    return number;
+}
+
+uint32_t khamdoriem_read_exact(const uint8_t *line, size_t line_len, uint32_t variant, uint32_t year, int32_t offset, khamdoriem_element *elements,
+                               size_t elements_len, khamdoriem_param *params, size_t params_len, uint8_t *record, size_t record_len) {
+    uint32_t n = right_read_exact(line, line_len, variant, year, offset, elements, elements_len, params, params_len, record, record_len);
+    switch (fault()) {
+    case 1: if (n == 5 && elements_len) elements[0][0] = 0; break;                                      /* a refused call fills a table */
+    case 2: if (n == 0 && record_len > 208) record[208] = 0; break;                                     /* a byte past the record */
+    case 3: if (n == 0 && WORD(record, 25) > 2 && params_len > WORD(record, 25)) params[WORD(record, 25)][4] = 0; break; /* an entry past the count */
+    case 4: if (n == 0 && WORD(record, 8) == 123456789) WORD(record, 8)--; break;                       /* a nanosecond lost */
+    case 5: if (n == 6) n = 5; break;                                                                   /* the wrong table named */
+    case 6: if (n == 0 && WORD(record, 23) == 0) WORD(record, 22) = 0; break;                           /* an empty message at the line's start */
+    case 7: if (n == 0 && WORD(record, 25) == 2 && params[1][4] == 0) params[1][3] = 0; break;          /* an empty value at the line's start */
+    case 8: if (line_len == 8192) n = 1; break;                                                         /* the length limit off by one */
+    case 9: if (line_len > 8192 && variant > 2) n = 2; break;                                           /* refusals in another order */
+    case 10: if (n == 4 && line_len == 0) n = 0; break;                                                 /* the empty line read */
+    }
+    return n;
+}
+
+uint32_t khamdoriem_read_fallback(const uint8_t *line, size_t line_len, uint32_t variant, uint32_t year, int32_t offset, khamdoriem_element *elements,
+                                  size_t elements_len, khamdoriem_param *params, size_t params_len, uint8_t *record, size_t record_len) {
+    uint32_t n = right_read_fallback(line, line_len, variant, year, offset, elements, elements_len, params, params_len, record, record_len);
+    switch (fault()) {
+    case 11: if (n == 3) n = 4; break;                              /* another number */
+    case 12: if (n == 8 && record_len) record[0] = 0; break;        /* a refused call writes the record */
+    }
+    return n;
+}
+
+uint32_t khamdoriem_read_strict(const uint8_t *line, size_t line_len, khamdoriem_element *elements, size_t elements_len, khamdoriem_param *params,
+                                size_t params_len, uint8_t *record, size_t record_len) {
+    uint32_t n = right_read_strict(line, line_len, elements, elements_len, params, params_len, record, record_len);
+    switch (fault()) {
+    case 13: if (n == 0 && WORD(record, 12) == 255) n = 4; break;                           /* the host's limit off by one */
+    case 14: if (n == 0 && WORD(record, 29) && WORD(record, 23) == 0) WORD(record, 29) = 0; break; /* an empty message taken for none */
+    }
+    return n;
+}
+
+struct khamdoriem_written khamdoriem_print(const uint8_t *line, size_t line_len, const uint8_t *record, size_t record_len, const khamdoriem_element *elements,
+                                           size_t elements_len, const khamdoriem_param *params, size_t params_len, uint8_t *output, size_t output_len) {
+    struct khamdoriem_written w = right_print(line, line_len, record, record_len, elements, elements_len, params, params_len, output, output_len);
+    switch (fault()) {
+    case 15: if (w.number == 8 && output_len) output[output_len - 1] = 0; break;            /* a refused call writes */
+    case 16: if (w.number == 0 && output_len > w.len) output[w.len] = '\n'; break;          /* a byte past the result */
+    case 17: if (w.number == 7 && record_len >= 208 && WORD(record, 8) == 1000000000) w.number = 0; break; /* nanoseconds over the limit */
+    }
+    return w;
+}
+
+struct khamdoriem_written khamdoriem_lookup(const uint8_t *line, size_t line_len, const uint8_t *record, size_t record_len, const khamdoriem_element *elements,
+                                            size_t elements_len, const khamdoriem_param *params, size_t params_len, const uint8_t *id, size_t id_len,
+                                            const uint8_t *name, size_t name_len, uint32_t kind, uint8_t *output, size_t output_len) {
+    struct khamdoriem_written w =
+        right_lookup(line, line_len, record, record_len, elements, elements_len, params, params_len, id, id_len, name, name_len, kind, output, output_len);
+    switch (fault()) {
+    case 18: if (w.number == 7 && kind == 1) w.number = 9; break;                                           /* refusals in another order */
+    case 19: if (w.number == 0 && kind == 1 && w.len == 2 && output[0] == '\\' && output[1] == 'n') output[0] = '\n'; break; /* the loose unescaping */
+    case 20: if (w.number == 9 && id_len == 0) w = (struct khamdoriem_written){0, 0}; break;                /* a parameter that is not there */
+    }
+    return w;
+}
