@@ -27,7 +27,8 @@ pub const TOKENS: [&[u8]; 104] = [
     b"\x80", b"\xBF", b"\xC0\x80", b"\xC1\xBF", b"\xC2", b"\xC2\x7F", b"\xC2\xC0", b"\xE0\x9F\xBF", b"\xE1\x80", b"\xED\xA0\x80", b"\xED\xBF\xBF",
     b"\xF0\x8F\xBF\xBF", b"\xF1\x80\x80", b"\xF4\x90\x80\x80", b"\xF5\x80\x80\x80", b"\xFF",
     // What the grammars name, and the sign that chrono takes for a minus.
-    b"<", b">", b"[", b"]", b"\"", b"\\", b"=", b":", b"-", b"+", b".", b"T", b"Z", b"n", b"0", b"9", b"\\\"", b"\\]", b"[7]", b"\xE2\x88\x92", b" [i a=\"b\"]", b"\xE2\x84\xAA",
+    b"<", b">", b"[", b"]", b"\"", b"\\", b"=", b":", b"-", b"+", b".", b"T", b"Z", b"n", b"0", b"9", b"\\\"", b"\\]", b"[7]",
+    b"\xE2\x88\x92", b"\xE2\x84\xAA", b" [i a=\"b\"]",
 ];
 
 pub struct Everywhere {

@@ -286,10 +286,10 @@ pub fn write(wanted: usize) -> ExitCode {
         if list.written >= wanted {
             break;
         }
-        list.by = match tried {
-            ..SINGLES => By::Single,
-            SINGLES..PAIRS => By::Pair,
-            _ => By::All,
+        list.by = match (tried < SINGLES, tried < PAIRS) {
+            (true, _) => By::Single,
+            (false, true) => By::Pair,
+            (false, false) => By::All,
         };
         let (settings, _) = lines.next(&mut line);
         list.line(&line, settings, &mut answer);
