@@ -1,7 +1,7 @@
 -- The calls of the readers: what is left, from what was answered and read.
 use Prim.Native.Nat.{ℕ, _≤_, _<_}
 use mathlib.Core.Path.{_≡_, refl, sym, ap, _∙_}
-use mathlib.Core.Bool.{Bool, true, false}
+use mathlib.Core.Bool.{false}
 use mathlib.Core.List.{List, []}
 use lib.Dec.{eqb}
 use lib.IntN.{ℤ}
@@ -31,7 +31,7 @@ use Rattle.grammar.specs.Reading.StrictReads.{too-long, underivable, elements-o
 use Rattle.loose.specs.Loose.{outcomeOf, orWhole, answered, tableAfter, rowsOf, Reads, ReadsExact, ReadsFallback}
 use Rattle.strict.specs.Scan as scan
 use Rattle.strict.proofs.Readings.{answers}
-use Rattle.exports.specs.Exports.{shortNumber, leftNumber, kept, Leaves, numberOf, bytesOf, strictNumberOf, strictBytesOf, LeavesExact, LeavesFallback, LeavesStrict}
+use Rattle.exports.specs.Exports.{shortNumber, kept, Leaves, numberOf, bytesOf, strictNumberOf, strictBytesOf, LeavesExact, LeavesFallback, LeavesStrict}
 use Rattle.exports.specs.Steps.{LeftBy, Left, StrictLeft}
 
 -- ---- the record of an answer

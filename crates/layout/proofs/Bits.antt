@@ -1,5 +1,5 @@
 -- Signed numbers as two's complement, there and back.
-use Prim.Native.Nat.{ℕ, zero, suc, _+_, _-_, _^_, _≤_, _<_}
+use Prim.Native.Nat.{ℕ, _-_, _≤_, _<_}
 use mathlib.Core.Path.{_≡_, refl, sym, ap, _∙_}
 use mathlib.Core.Bool.{Bool, true, false, _||_}
 use native.Mathlib.Omega.{arith}
@@ -12,7 +12,6 @@ use borrow.Author.Tests.{lt-ltb, le-ltb, ltb-true}
 use Rattle.base.specs.Diff.{up, down, diffOf}
 use Rattle.base.specs.declared.Diff.{Diff}
 use Rattle.base.proofs.Diffs.{sub-ge}
-use Rattle.base.proofs.Tests.{by-test}
 use Rattle.layout.specs.Layout.{bits}
 use Rattle.layout.specs.Incoming.{signed, narrow}
 

@@ -3,7 +3,7 @@ use Prim.Native.Nat.{ℕ}
 use mathlib.Core.Path.{_≡_, refl}
 use mathlib.Core.Bool.{Bool, true, false}
 use mathlib.Core.List.{List, [], _∷_, _++_, map}
-use lib.IntN.{ℤ, pos, negsuc}
+use lib.IntN.{pos, negsuc}
 use lib.ListN.{length, take, set}
 use Rattle.record.specs.Places.{absent, place}
 use Rattle.record.specs.Records.{emptyRecord, emptyStrict}
@@ -12,7 +12,7 @@ use Rattle.record.specs.declared.Protocol.the-variants.{Rfc5424}
 use Rattle.record.specs.declared.Level.the-variants.{Set}
 use Rattle.record.specs.declared.Stamp.the-variants.{Stamped}
 use Rattle.layout.specs.Layout.{little, wordsBytes, bits, recordWords, strictWords, recordBytes, strictBytes}
-use Rattle.layout.specs.Incoming.{number, wordAt, signed, frontHeld, marksHeld, holdsRecord, recordAt, elementCountAt, paramCountAt}
+use Rattle.layout.specs.Incoming.{number, wordAt, signed, frontHeld, marksHeld, holdsRecord, recordAt}
 
 -- the least byte first; -2 is all ones but for the last bit
 little-endian : map (little 8) (0 ∷ 258 ∷ bits (negsuc 1) ∷ [])

@@ -1,7 +1,6 @@
 -- The words of each field, and of the whole record.
 use Prim.Native.Nat.{ℕ, _+_, _≤_}
-use mathlib.Core.Path.{_≡_, refl, sym, ap, ap₂, _∙_}
-use mathlib.Core.Bool.{Bool}
+use mathlib.Core.Path.{_≡_, refl, ap, _∙_}
 use mathlib.Core.List.{List, [], _∷_, _++_}
 use native.Mathlib.Omega.{arith}
 use lib.IntN.{ℤ}
@@ -23,7 +22,7 @@ use Rattle.record.specs.declared.Place.{Place}
 use Rattle.record.specs.declared.Record.{Record}
 use Rattle.record.specs.declared.StrictRecord.{StrictRecord}
 use Rattle.layout.specs.Layout.{bits, mark, protocolWords, levelWords, stampWords, placeWords, frontWords, nameWords, endWords, recordWords, recordBytes, strictWords, strictBytes, Room, Puts}
-use Rattle.layout.proofs.Words.{words-length, words-first, words-next, words-last, words-two, words-three}
+use Rattle.layout.proofs.Words.{words-length, words-first, words-next, words-last, words-three}
 
 -- ---- each field
 
@@ -104,6 +103,8 @@ module _ (o : List ℕ) (r : Record) (e p : ℕ) (h : 208 ≤ length o) where
       unfolding recordWords
       fields-put k t u = words-three (record-room o r e p h) w v u refl
 
+pub ruleset record-laws = (front-room, names-room, end-room, fields-put)
+
 pub record-filled : (o : List ℕ) (r : Record) (e p n : ℕ) (q : List ℕ) → Puts o 0 (recordWords r e p) n q → q ≡ filled (recordBytes r e p) o
 record-filled o r e p n q w = w .wrote .holds ∙ written-front o (recordBytes r e p)
 
@@ -124,3 +125,5 @@ module _ (o : List ℕ) (r : StrictRecord) (e p : ℕ) (h : 240 ≤ length o) wh
       pub strict-filled : (k : ℕ) (t : List ℕ) → Puts s m (b ∷ []) k t → t ≡ filled (strictBytes r e p) o
       unfolding strictWords
       strict-filled k t u = words-three strict-room w v (rw eb at u) refl .wrote .holds ∙ written-front o (strictBytes r e p)
+
+pub ruleset strict-laws = (text-room, mark-room, strict-filled)

@@ -1,9 +1,9 @@
 -- Words written one behind the other, and a word by its eight bytes.
 use Prim.Native.Nat.{ℕ, zero, suc, _+_, _*_, _/_, _%_, _≤_, _<_}
-use mathlib.Core.Path.{_≡_, refl, sym, ap, ap₂, _∙_}
+use mathlib.Core.Path.{_≡_, refl, sym, ap, _∙_}
 use mathlib.Core.List.{List, [], _∷_, _++_, append-assoc}
 use native.Mathlib.Omega.{arith}
-use lib.ListN.{length, set, length-append, length-set}
+use lib.ListN.{length, set, length-append}
 use Rattle.output.proofs.Pieces.{Starts, first-fits, next-fits, last-fits, two-are, three-are}
 use Rattle.output.proofs.Writes.{Owes, owes-all, owes-more, owes-none}
 use Rattle.layout.specs.Layout.{little, wordsBytes, Room, Puts}
