@@ -20,7 +20,7 @@ use Rattle.message.proofs.Laws.{answers-agree, outputs-agree}
 use Rattle.lookup.specs.Lookup.{Looks}
 use Rattle.lookup.proofs.Answers.{looks-one}
 use Rattle.layout.specs.Incoming.{recordAt, elementCountAt, paramCountAt}
-use Rattle.exports.specs.Exports.{leftNumber, kept, Leaves, numberOf, bytesOf, strictNumberOf, strictBytesOf, LeavesExact, LeavesFallback, LeavesStrict, Serves, printFirst, lookupFirst, ServesPrint, ServesLookup}
+use Rattle.exports.specs.Exports.{leftNumber, kept, Leaves, numberOf, bytesOf, strictNumberOf, strictBytesOf, LeavesExact, LeavesFallback, LeavesStrict, Serves, firstRefusal, ServesPrint, ServesLookup}
 use Rattle.exports.specs.Exports.Serves.{held, unheld}
 
 -- the number, the tables and the record's memory
@@ -80,10 +80,10 @@ module _ (line bytes : List ℕ) (elements params : List (List ℕ)) (old : List
       let r = recordAt bytes in
       let e = elementCountAt bytes in
       let p = paramCountAt bytes in
-      serves-one bytes (printFirst (length line)) (λ r e p w new. Prints line r e p elements params old w new)
+      serves-one bytes (firstRefusal (length line) 0) (λ r e p w new. Prints line r e p elements params old w new)
       (λ v w new other h k. (answers-agree line r e p elements params old v w new other h k, outputs-agree line r e p elements params old v w new other h k)) old
 
   pub lookup-one : (id name : List ℕ) (kind : ℕ) → ServesLookup line bytes elements params id name kind old a new → ServesLookup line bytes elements params id name kind old b other
       → (a ≡ b) × (new ≡ other)
   lookup-one id name kind =
-      serves-one bytes (lookupFirst (length line) kind) (λ r e p w new. Looks line r e p elements params id name kind old w new) (λ v w new other h k. looks-one h k) old
+      serves-one bytes (firstRefusal (length line) kind) (λ r e p w new. Looks line r e p elements params id name kind old w new) (λ v w new other h k. looks-one h k) old

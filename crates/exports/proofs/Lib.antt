@@ -1,3 +1,4 @@
 mod Calls
 mod Services
 pub mod Determined
+mod Examples

@@ -16,28 +16,22 @@ use Rattle.record.specs.declared.OutputAnswer.{OutputAnswer}
 use Rattle.layout.specs.Incoming.{holdsRecord, recordAt, elementCountAt, paramCountAt}
 use Rattle.message.specs.Prints.{Prints}
 use Rattle.lookup.specs.Lookup.{Looks}
-use Rattle.exports.specs.Exports.{Serves, printFirst, lookupFirst, ServesPrint, ServesLookup}
+use Rattle.exports.specs.Exports.{Serves, firstRefusal, ServesPrint, ServesLookup}
 use Rattle.exports.specs.Exports.Serves.{held, unheld}
 
 -- the refusal of bytes that hold no record
-module _ (n : ℕ) where
-  pub print-long : 8192 < n → LineTooLong ≡ printFirst n
-  print-long h = rw (lt-ltb 8192 n h)
+module _ (n kind : ℕ) where
+  pub first-long : 8192 < n → LineTooLong ≡ firstRefusal n kind
+  first-long h = rw (lt-ltb 8192 n h)
 
-  pub print-unheld : n ≤ 8192 → Unsuitable ≡ printFirst n
-  print-unheld h = rw (le-ltb 8192 n h)
+  module _ (h : n ≤ 8192) where
+    pub first-kind : 1 < kind → BadSetting ≡ firstRefusal n kind
+    first-kind k = rw (le-ltb 8192 n h, lt-ltb 1 kind k)
 
-  module _ (kind : ℕ) where
-    pub lookup-long : 8192 < n → LineTooLong ≡ lookupFirst n kind
-    lookup-long h = rw (lt-ltb 8192 n h)
+    pub first-unheld : kind ≤ 1 → Unsuitable ≡ firstRefusal n kind
+    first-unheld k = rw (le-ltb 8192 n h, le-ltb 1 kind k)
 
-    pub lookup-kind : n ≤ 8192 → 1 < kind → BadSetting ≡ lookupFirst n kind
-    lookup-kind h k = rw (le-ltb 8192 n h, lt-ltb 1 kind k)
-
-    pub lookup-unheld : n ≤ 8192 → kind ≤ 1 → Unsuitable ≡ lookupFirst n kind
-    lookup-unheld h k = rw (le-ltb 8192 n h, le-ltb 1 kind k)
-
-pub ruleset first-laws = (print-long, print-unheld, lookup-long, lookup-kind, lookup-unheld)
+pub ruleset first-laws = (first-long, first-kind, first-unheld)
 
 module _ (bytes : List ℕ) (b : Bool) (eb : b ≡ holdsRecord bytes) where
   pub held-there : not b ≡ false → holdsRecord bytes ≡ true
@@ -52,22 +46,22 @@ module _ (bytes : List ℕ) (b : Bool) (eb : b ≡ holdsRecord bytes) where
     served q r er e ee p ep w new h ea = held (held-there q) w (rw (← er, ← ee, ← ep) h) ea
 
   module _ (line : List ℕ) (elements params : List (List ℕ)) (old : List ℕ) (a : OutputAnswer) where
-    pub print-refused : not b ≡ true → (f : Refusal) → f ≡ printFirst (length line) → a ≡ outputAnswerOf (Refused f) → ServesPrint line bytes elements params old a old
-    print-refused = refused (printFirst (length line)) (λ r e p w new. Prints line r e p elements params old w new) old a
+    pub print-refused : not b ≡ true → (f : Refusal) → f ≡ firstRefusal (length line) 0 → a ≡ outputAnswerOf (Refused f) → ServesPrint line bytes elements params old a old
+    print-refused = refused (firstRefusal (length line) 0) (λ r e p w new. Prints line r e p elements params old w new) old a
 
     pub print-served : not b ≡ false → (r : Record) → r ≡ recordAt bytes → (e : ℕ) → e ≡ elementCountAt bytes → (p : ℕ) → p ≡ paramCountAt bytes
         → (w : Written) (new : List ℕ) → Prints line r e p elements params old w new → a ≡ outputAnswerOf w → ServesPrint line bytes elements params old a new
-    print-served = served (printFirst (length line)) (λ r e p w new. Prints line r e p elements params old w new) old a
+    print-served = served (firstRefusal (length line) 0) (λ r e p w new. Prints line r e p elements params old w new) old a
 
     module _ (id name : List ℕ) (kind : ℕ) where
-      pub lookup-refused : not b ≡ true → (f : Refusal) → f ≡ lookupFirst (length line) kind → a ≡ outputAnswerOf (Refused f)
+      pub lookup-refused : not b ≡ true → (f : Refusal) → f ≡ firstRefusal (length line) kind → a ≡ outputAnswerOf (Refused f)
           → ServesLookup line bytes elements params id name kind old a old
-      lookup-refused = refused (lookupFirst (length line) kind) (λ r e p w new. Looks line r e p elements params id name kind old w new) old a
+      lookup-refused = refused (firstRefusal (length line) kind) (λ r e p w new. Looks line r e p elements params id name kind old w new) old a
 
       pub lookup-served : not b ≡ false → (r : Record) → r ≡ recordAt bytes → (e : ℕ) → e ≡ elementCountAt bytes → (p : ℕ) → p ≡ paramCountAt bytes
           → (w : Written) (new : List ℕ) → Looks line r e p elements params id name kind old w new → a ≡ outputAnswerOf w
           → ServesLookup line bytes elements params id name kind old a new
-      lookup-served = served (lookupFirst (length line) kind) (λ r e p w new. Looks line r e p elements params id name kind old w new) old a
+      lookup-served = served (firstRefusal (length line) kind) (λ r e p w new. Looks line r e p elements params id name kind old w new) old a
 
 pub ruleset print-laws = (held-there, print-refused, print-served)
 

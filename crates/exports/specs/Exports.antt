@@ -83,15 +83,13 @@ pub data Serves (bytes : List ℕ) (first : Refusal) (Service : Record → ℕ �
       → Serves bytes first Service old a new
   unheld : holdsRecord bytes ≡ false → a ≡ outputAnswerOf (written.Refused first) → new ≡ old → Serves bytes first Service old a new
 
--- the first of the refusals 1, 2 and 7 that applies to a line of `len` bytes and bytes that hold no record; printing has no kind
-abbrev pub printFirst : ℕ → Refusal
-printFirst len = if ltb 8192 len then LineTooLong else Unsuitable
+-- the first of the refusals 1, 2 and 7 that applies to a line of `len` bytes, a kind, and bytes that hold no record
+abbrev pub firstRefusal : ℕ → ℕ → Refusal
+firstRefusal len kind = if ltb 8192 len then LineTooLong else if ltb 1 kind then BadSetting else Unsuitable
 
-abbrev pub lookupFirst : ℕ → ℕ → Refusal
-lookupFirst len kind = if ltb 8192 len then LineTooLong else if ltb 1 kind then BadSetting else Unsuitable
-
+-- printing has no kind, and is never refused for one
 abbrev pub ServesPrint : List ℕ → List ℕ → List (List ℕ) → List (List ℕ) → List ℕ → OutputAnswer → List ℕ → Type 0
-ServesPrint line bytes elements params old = Serves bytes (printFirst (length line)) (λ r e p w new. Prints line r e p elements params old w new) old
+ServesPrint line bytes elements params old = Serves bytes (firstRefusal (length line) 0) (λ r e p w new. Prints line r e p elements params old w new) old
 
 abbrev pub ServesLookup : List ℕ → List ℕ → List (List ℕ) → List (List ℕ) → List ℕ → List ℕ → ℕ → List ℕ → OutputAnswer → List ℕ → Type 0
-ServesLookup line bytes elements params id name kind old = Serves bytes (lookupFirst (length line) kind) (λ r e p w new. Looks line r e p elements params id name kind old w new) old
+ServesLookup line bytes elements params id name kind old = Serves bytes (firstRefusal (length line) kind) (λ r e p w new. Looks line r e p elements params id name kind old w new) old

@@ -7,7 +7,7 @@ use record::Written;
 ghost use mathlib.Core.Path.{_≡_};
 ghost use Prim.Native.Nat.{_≤_};
 ghost use lib.ListN.{length};
-ghost use Rattle.exports.specs.Exports.{shortNumber, LeavesExact, LeavesFallback, LeavesStrict, printFirst, lookupFirst, ServesPrint, ServesLookup};
+ghost use Rattle.exports.specs.Exports.{shortNumber, LeavesExact, LeavesFallback, LeavesStrict, firstRefusal, ServesPrint, ServesLookup};
 ghost use Rattle.exports.specs.Steps.{Left, StrictLeft};
 
 // The number of an answer where the record's memory is too short.
@@ -108,17 +108,8 @@ pub extern "C" fn khamdoriem_read_strict(
 }
 
 // The refusal of bytes that hold no record.
-fn print_first(len: usize) -> Refusal
-    ensures { λ f. ⌜ f ≡ printFirst len ⌝ }
-{
-    if 8192 < len {
-        return Refusal::LineTooLong;
-    }
-    Refusal::Unsuitable
-}
-
-fn lookup_first(len: usize, kind: u32) -> Refusal
-    ensures { λ f. ⌜ f ≡ lookupFirst len kind ⌝ }
+fn first_refusal(len: usize, kind: u32) -> Refusal
+    ensures { λ f. ⌜ f ≡ firstRefusal len kind ⌝ }
 {
     if 8192 < len {
         return Refusal::LineTooLong;
@@ -140,7 +131,7 @@ pub extern "C" fn khamdoriem_print(
     ensures { λ a. ⌜ ServesPrint (now (line .entry)) (now (memory .entry)) (now (elements .entry)) (now (params .entry)) (now (output .entry)) a (now (output .exit)) ⌝ }
 {
     if !layout::holds_record(memory) {
-        let first = print_first(line.len());
+        let first = first_refusal(line.len(), 0);
         return record::output_answer_of(Written::Refused(first));
     }
     let r = layout::record_at(memory);
@@ -164,7 +155,7 @@ pub extern "C" fn khamdoriem_lookup(
     ensures { λ a. ⌜ ServesLookup (now (line .entry)) (now (memory .entry)) (now (elements .entry)) (now (params .entry)) (now (id .entry)) (now (name .entry)) kind (now (output .entry)) a (now (output .exit)) ⌝ }
 {
     if !layout::holds_record(memory) {
-        let first = lookup_first(line.len(), kind);
+        let first = first_refusal(line.len(), kind);
         return record::output_answer_of(Written::Refused(first));
     }
     let r = layout::record_at(memory);

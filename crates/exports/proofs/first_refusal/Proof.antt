@@ -1,7 +1,7 @@
 use borrow.Author.Needs.{needs}
 use Rattle.exports.proofs.Services.{first-laws}
-use Rattle.exports.proofs.lookup_first.Statement.{statement}
-use Rattle.exports.proofs.lookup_first.Tie as tie
+use Rattle.exports.proofs.first_refusal.Statement.{statement}
+use Rattle.exports.proofs.first_refusal.Tie as tie
 
 returns : tie.Need-returns
 returns c = search (first-laws, needs)
@@ -12,5 +12,5 @@ returns-2 c = search (first-laws, needs)
 returns-3 : tie.Need-returns-3
 returns-3 c = search (first-laws, needs)
 
-pub lookup-first-spec : {M : Type 1} → statement M
-lookup-first-spec = tie.close (tie.spec returns returns-2 returns-3)
+pub first-refusal-spec : {M : Type 1} → statement M
+first-refusal-spec = tie.close (tie.spec returns returns-2 returns-3)
