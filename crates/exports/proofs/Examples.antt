@@ -1,4 +1,5 @@
 -- Worked examples, computed from the definitions.
+use Prim.Native.Nat.{ℕ}
 use mathlib.Core.Path.{_≡_, refl}
 use mathlib.Core.List.{[], _∷_, map}
 use Rattle.record.specs.Refusals.{refusalNumber}
@@ -9,7 +10,7 @@ numbers : leftNumber 0 208 207 ∷ leftNumber 1 208 207 ∷ leftNumber 6 208 0 �
 numbers = refl
 
 -- what was lent is changed by 0 alone
-lent : kept 0 1 2 ∷ kept 8 1 2 ∷ kept 4 1 2 ∷ [] ≡ 1 ∷ 2 ∷ 2 ∷ []
+lent : map (λ (n : ℕ). kept {A = ℕ} n 1 2) (0 ∷ 8 ∷ 4 ∷ []) ≡ 1 ∷ 2 ∷ 2 ∷ []
 lent = refl
 
 -- 1 before 2 before 7
