@@ -64,6 +64,7 @@ struct khamdoriem_written khamdoriem_print(const uint8_t *line, size_t line_len,
     case 15: if (w.number == 8 && output_len) output[output_len - 1] = 0; break;            /* a refused call writes */
     case 16: if (w.number == 0 && output_len > w.len) output[w.len] = '\n'; break;          /* a byte past the result */
     case 17: if (w.number == 7 && record_len >= 208 && WORD(record, 8) == 1000000000) w.number = 0; break; /* nanoseconds over the limit */
+    case 21: if (w.number == 7 && params_len) ((size_t *)params)[0]++; break;               /* a table that is only to be read */
     }
     return w;
 }

@@ -6,11 +6,24 @@ use crate::oracle::Answer;
 use crate::random::Random;
 use crate::records::bytes_of;
 
-#[derive(Default)]
+#[derive(Debug, Default, PartialEq)]
 pub struct Forged {
     pub record: Vec<u8>,
     pub elements: Vec<Element>,
     pub params: Vec<Param>,
+}
+
+impl Clone for Forged {
+    fn clone(&self) -> Self {
+        Forged { record: self.record.clone(), elements: self.elements.clone(), params: self.params.clone() }
+    }
+
+    /// Into the memory that is there: this is done for every line.
+    fn clone_from(&mut self, other: &Self) {
+        self.record.clone_from(&other.record);
+        self.elements.clone_from(&other.elements);
+        self.params.clone_from(&other.params);
+    }
 }
 
 impl Forged {

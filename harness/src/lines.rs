@@ -70,7 +70,7 @@ impl Lines {
         self.short.done()
     }
 
-    pub fn settings(&mut self) -> Settings {
+    fn settings(&mut self) -> Settings {
         let r = &mut self.random;
         let mut s = Settings { variant: r.of(&[0, 0, 0, 1, 2]), year: r.of(&YEARS), offset: r.of(&OFFSETS) };
         if r.one_in(8) {

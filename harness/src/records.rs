@@ -63,7 +63,7 @@ fn tables_suit(g: Given, w: &[u64]) -> bool {
         })
 }
 
-/// The refusals that printing and lookup give before they look at what was asked: 1 and 7. `kind` is lookup's.
+/// The refusals that printing and lookup give before they look at what was asked, in their order: 1, 2 (lookup has a kind) and 7.
 pub fn refusal(g: Given, kind: Option<u32>) -> Option<u32> {
     if g.line.len() > LONGEST {
         return Some(1);
