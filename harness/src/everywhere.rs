@@ -31,6 +31,12 @@ pub const TOKENS: [&[u8]; 104] = [
     b"\xE2\x88\x92", b"\xE2\x84\xAA", b" [i a=\"b\"]",
 ];
 
+/// More places than the longest of the lines has; the length of the whole list; and a stride that visits all of it, far apart, so that a short
+/// run sees something of every kind.
+const PLACES: usize = 66;
+const ALL: u64 = (TOKENS.len() * BASES.len() * 3 * PLACES) as u64;
+const STRIDE: u64 = 100_003;
+
 pub struct Everywhere {
     next: u64,
     step: u64,
@@ -43,8 +49,8 @@ impl Everywhere {
 
     /// The next line of the list, which starts again at its end.
     pub fn next(&mut self, line: &mut Vec<u8>) {
-        let mut index = self.next;
-        self.next = self.next.wrapping_add(self.step);
+        let mut index = self.next % ALL * STRIDE % ALL;
+        self.next += self.step;
         let mut digit = |base: usize| {
             let digit = index % base as u64;
             index /= base as u64;
@@ -53,7 +59,7 @@ impl Everywhere {
         let token = TOKENS[digit(TOKENS.len())];
         let base = BASES[digit(BASES.len())];
         let way = digit(3);
-        let at = digit(base.len() + 1);
+        let at = digit(PLACES) % (base.len() + 1);
         let behind = match way {
             0 => at,
             1 => (at + 1).min(base.len()),
