@@ -240,7 +240,7 @@ fn half_at(s: &[u8], at: usize) -> u64
     pair_at(s, at) + pair_at(s, at + 2) * 65536
 }
 
-fn word_at(s: &[u8], i: usize) -> u64
+pub fn word_at(s: &[u8], i: usize) -> u64
     requires { ⌜ 208 ≤ length (now s) ⌝ }
     requires { ⌜ i < 26 ⌝ }
     ensures { λ r. ⌜ r ≡ wordAt (now (s .entry)) i ⌝ }
@@ -322,7 +322,7 @@ fn level_at(s: &[u8], i: usize) -> Level
     Level::Set(word_at(s, i + 1) as u8)
 }
 
-fn offset_of(n: u64) -> i32
+pub fn offset_of(n: u64) -> i32
     requires { ⌜ narrow n ≡ true ⌝ }
     ensures { λ r. ⌜ r ≡ signed n ⌝ }
 {

@@ -1,0 +1,41 @@
+// Runs the cases of standard input and writes each answer in words. A case is a line: `E` or `F` for an exact or a fallback reading with
+// variant, year and offset, `S` for a strict one; then, behind one space, the line that is read.
+use libc::STDIN_FILENO;
+use libc::STDOUT_FILENO;
+
+fn say(text: &[u8]) -> bool {
+    io::write_all(STDOUT_FILENO, text)
+}
+
+fn show(text: &[u8], fallback: bool) {
+    let s = replayer::case::settings(text, 2, fallback);
+    let start = s.next;
+    if text.len() < start {
+        return;
+    }
+    replayer::show::show_reading(&text[start..], s.settings);
+}
+
+fn show_case(text: &[u8]) {
+    say(text);
+    say(b"\n");
+    if text.len() < 2 {
+        return;
+    }
+    match text[0] {
+        b'E' => show(text, false),
+        b'F' => show(text, true),
+        _ => replayer::show::show_strict(&text[2..]),
+    }
+}
+
+fn main() {
+    let mut list = io::large_buffer();
+    let n = io::read_full(STDIN_FILENO, &mut list);
+    let mut at = 0;
+    while at < n {
+        let end = at + replayer::text::line_len(&list[at..n]);
+        show_case(&list[at..end]);
+        at = end + 1;
+    }
+}

@@ -1,0 +1,225 @@
+// The calls of a case, each over tables of its own, with the answer as plain numbers or bytes.
+ghost use mathlib.Core.Path.{_≡_};
+ghost use Prim.Native.Nat.{_≤_};
+ghost use lib.ListN.{length};
+
+// Whether a line with no reading becomes the message; variant, year and offset.
+pub struct Settings {
+    pub fallback: bool,
+    pub variant: u32,
+    pub year: u32,
+    pub offset: i32,
+}
+
+// At most `most`.
+pub fn up_to(n: u64, most: usize) -> usize
+    ensures { λ r. ⌜ r ≤ most ⌝ }
+{
+    if n < most as u64 { n as usize } else { most }
+}
+
+// One number more, if there is room.
+fn push(numbers: &mut [u64], at: usize, n: u64) -> usize
+    ensures { λ _. ⌜ length (now (numbers .exit)) ≡ length (now (numbers .entry)) ⌝ }
+{
+    if numbers.len() <= at {
+        return at;
+    }
+    numbers[at] = n;
+    at + 1
+}
+
+// The words of a record's bytes from word `from` on.
+fn push_words(numbers: &mut [u64], at: usize, memory: &[u8], from: usize) -> usize
+    requires { ⌜ 208 ≤ length (now memory) ⌝ }
+    ensures { λ _. ⌜ length (now (numbers .exit)) ≡ length (now (numbers .entry)) ⌝ }
+{
+    let mut next = at;
+    let mut i = from;
+    while i < 26 {
+        next = push(numbers, next, layout::word_at(memory, i));
+        i += 1;
+    }
+    next
+}
+
+fn push_elements(numbers: &mut [u64], at: usize, elements: &[[usize; 2]], count: usize) -> usize
+    requires { ⌜ count ≤ length (now elements) ⌝ }
+    ensures { λ _. ⌜ length (now (numbers .exit)) ≡ length (now (numbers .entry)) ⌝ }
+{
+    let mut next = at;
+    let mut i = 0;
+    while i < count {
+        let row = elements[i];
+        next = push(numbers, next, row[0] as u64);
+        next = push(numbers, next, row[1] as u64);
+        i += 1;
+    }
+    next
+}
+
+fn push_param(numbers: &mut [u64], at: usize, row: [usize; 5]) -> usize
+    ensures { λ _. ⌜ length (now (numbers .exit)) ≡ length (now (numbers .entry)) ⌝ }
+{
+    let mut next = at;
+    let mut i = 0;
+    while i < 5 {
+        next = push(numbers, next, row[i] as u64);
+        i += 1;
+    }
+    next
+}
+
+fn push_params(numbers: &mut [u64], at: usize, params: &[[usize; 5]], count: usize) -> usize
+    requires { ⌜ count ≤ length (now params) ⌝ }
+    ensures { λ _. ⌜ length (now (numbers .exit)) ≡ length (now (numbers .entry)) ⌝ }
+{
+    let mut next = at;
+    let mut i = 0;
+    while i < count {
+        next = push_param(numbers, next, params[i]);
+        i += 1;
+    }
+    next
+}
+
+// A reading into the first `e` and `p` entries of tables.
+fn read(
+    line: &[u8],
+    s: Settings,
+    e: usize,
+    p: usize,
+    elements: &mut [[usize; 2]],
+    params: &mut [[usize; 5]],
+    memory: &mut [u8],
+) -> u32
+    requires { ⌜ (e ≤ length (now elements)) × (p ≤ length (now params)) ⌝ }
+{
+    if s.fallback {
+        return exports::khamdoriem_read_fallback(
+            line,
+            s.variant,
+            s.year,
+            s.offset,
+            &mut elements[0..e],
+            &mut params[0..p],
+            memory,
+        );
+    }
+    exports::khamdoriem_read_exact(
+        line,
+        s.variant,
+        s.year,
+        s.offset,
+        &mut elements[0..e],
+        &mut params[0..p],
+        memory,
+    )
+}
+
+// A reading into tables of `e` and `p` entries: its number and, where it is 0, the words of the record and the rows.
+pub fn reading(line: &[u8], s: Settings, e: usize, p: usize, numbers: &mut [u64]) -> usize {
+    let mut elements = [[0usize; 2]; 64];
+    let mut params = [[0usize; 5]; 256];
+    let mut memory = [0u8; 208];
+    let n = read(
+        line,
+        s,
+        up_to(e as u64, 64),
+        up_to(p as u64, 256),
+        &mut elements,
+        &mut params,
+        &mut memory,
+    );
+    let a = push(numbers, 0, n as u64);
+    if n != 0 {
+        return a;
+    }
+    let b = push_words(numbers, a, &memory, 0);
+    let c = push_elements(
+        numbers,
+        b,
+        &elements,
+        up_to(layout::word_at(&memory, 24), 64),
+    );
+    push_params(
+        numbers,
+        c,
+        &params,
+        up_to(layout::word_at(&memory, 25), 256),
+    )
+}
+
+// A strict reading likewise.
+pub fn strict_reading(line: &[u8], numbers: &mut [u64]) -> usize {
+    let mut elements = [[0usize; 2]; 64];
+    let mut params = [[0usize; 5]; 256];
+    let mut memory = [0u8; 240];
+    let n = exports::khamdoriem_read_strict(line, &mut elements, &mut params, &mut memory);
+    let a = push(numbers, 0, n as u64);
+    if n != 0 {
+        return a;
+    }
+    // What the strict reader adds are the last four words of the last 208 bytes.
+    let b = push_words(numbers, a, &memory, 0);
+    let s = push_words(numbers, b, &memory[32..240], 22);
+    let c = push_elements(
+        numbers,
+        s,
+        &elements,
+        up_to(layout::word_at(&memory, 24), 64),
+    );
+    push_params(
+        numbers,
+        c,
+        &params,
+        up_to(layout::word_at(&memory, 25), 256),
+    )
+}
+
+// An exact reading, and its record printed.
+pub fn printing(line: &[u8], s: Settings, out: &mut [u8]) -> record::OutputAnswer {
+    let mut elements = [[0usize; 2]; 64];
+    let mut params = [[0usize; 5]; 256];
+    let mut memory = [0u8; 208];
+    let n = exports::khamdoriem_read_exact(
+        line,
+        s.variant,
+        s.year,
+        s.offset,
+        &mut elements,
+        &mut params,
+        &mut memory,
+    );
+    if n != 0 {
+        return record::OutputAnswer { number: n, len: 0 };
+    }
+    exports::khamdoriem_print(line, &memory, &elements, &params, out)
+}
+
+// An exact reading, and a value of it looked up.
+pub fn looking(
+    line: &[u8],
+    s: Settings,
+    id: &[u8],
+    name: &[u8],
+    kind: u32,
+    out: &mut [u8],
+) -> record::OutputAnswer {
+    let mut elements = [[0usize; 2]; 64];
+    let mut params = [[0usize; 5]; 256];
+    let mut memory = [0u8; 208];
+    let n = exports::khamdoriem_read_exact(
+        line,
+        s.variant,
+        s.year,
+        s.offset,
+        &mut elements,
+        &mut params,
+        &mut memory,
+    );
+    if n != 0 {
+        return record::OutputAnswer { number: n, len: 0 };
+    }
+    exports::khamdoriem_lookup(line, &memory, &elements, &params, id, name, kind, out)
+}
