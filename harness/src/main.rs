@@ -2,6 +2,7 @@
 //!
 //!     harness [--seed N] [--cases N] [--part I/N]     compares, and ends with one line
 //!     harness --replay N                              writes a list of N cases with the Rust's answers
+//!     harness --stored FOLDER                         compares the stored output of the program `cases`
 
 mod abi;
 mod classes;
@@ -16,6 +17,7 @@ mod records;
 mod replay;
 mod short;
 mod shrink;
+mod stored;
 mod strict;
 
 use compare::{Counts, Desk};
@@ -31,10 +33,11 @@ struct Wanted {
     part: u64,
     parts: u64,
     replay: Option<usize>,
+    stored: Option<String>,
 }
 
 fn arguments() -> Result<Wanted, String> {
-    let mut wanted = Wanted { seed: 1, cases: 100_000, part: 0, parts: 1, replay: None };
+    let mut wanted = Wanted { seed: 1, cases: 100_000, part: 0, parts: 1, replay: None, stored: None };
     let mut args = std::env::args().skip(1);
     while let Some(name) = args.next() {
         let value = args.next().ok_or(format!("{name} asks for a value"))?;
@@ -43,6 +46,7 @@ fn arguments() -> Result<Wanted, String> {
             "--seed" => wanted.seed = number(&value)?,
             "--cases" => wanted.cases = number(&value)?,
             "--replay" => wanted.replay = Some(number(&value)? as usize),
+            "--stored" => wanted.stored = Some(value),
             "--part" => {
                 let (part, parts) = value.split_once('/').ok_or("--part asks for I/N")?;
                 (wanted.part, wanted.parts) = (number(part)?.wrapping_sub(1), number(parts)?);
@@ -114,6 +118,7 @@ fn main() -> ExitCode {
             ExitCode::from(2)
         }
         Ok(Wanted { replay: Some(count), .. }) => replay::write(count),
+        Ok(Wanted { stored: Some(folder), .. }) => stored::compare(&folder),
         Ok(wanted) => compared(&wanted),
     }
 }
