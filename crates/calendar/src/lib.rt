@@ -5,7 +5,7 @@ ghost use Prim.Native.Nat.{_≤_, _<_};
 ghost use lib.IntN.{pos, _*ℤ_};
 ghost use Rattle.base.specs.Diff.{diffOf};
 ghost use Rattle.calendar.specs.Calendar.{leap, row, monthDays, validDate, validTime, valid, yearDays, daysBeforeYear, daysOfMonths, dayNumber};
-ghost use Rattle.calendar.specs.Instant.{localSeconds, secondsOf, yearOf, monthOf, clockOf, allSeconds, shown};
+ghost use Rattle.calendar.specs.Instant.{localSeconds, secondsOf, yearOf, monthOf, clockOf, allSeconds, shown, isShown};
 
 // The days of the twelve months, of a common year and of a leap year.
 const MONTHS: [[u32; 12]; 2] = [
@@ -27,6 +27,15 @@ pub struct DateTime {
 pub enum Shown {
     Outside,
     At(DateTime),
+}
+
+pub fn is_shown(x: Shown) -> bool
+    ensures { λ r. ⌜ r ≡ isShown x ⌝ }
+{
+    match x {
+        Shown::Outside => false,
+        Shown::At(_) => true,
+    }
 }
 
 fn is_leap(y: u32) -> bool

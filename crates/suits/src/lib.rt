@@ -10,7 +10,6 @@ ghost use lib.IntN.{natAbs};
 ghost use lib.ListN.{length, take};
 ghost use Rattle.record.specs.declared.Stamp.the-variants as stamp;
 ghost use Rattle.suits.specs.Suits.{levelSuits, stampSuits, recordSuits, elementsSuit, paramSuits, paramsSuit, suits};
-ghost use Rattle.calendar.specs.Instant.{isShown};
 
 // Does the place end within `n` bytes? (The sum may not fit.)
 fn place_suits(n: usize, start: usize, len: usize) -> bool
@@ -38,15 +37,6 @@ fn offset_suits(offset: i32) -> bool
     (o.up <= 1439) & (o.down <= 1439)
 }
 
-fn is_shown(shown: calendar::Shown) -> bool
-    ensures { λ b. ⌜ b ≡ isShown shown ⌝ }
-{
-    match shown {
-        calendar::Shown::Outside => false,
-        calendar::Shown::At(_) => true,
-    }
-}
-
 fn time_suits(t: Timestamp) -> bool
     ensures { λ b. ⌜ b ≡ stampSuits (stamp.Stamped t) ⌝ }
 {
@@ -56,7 +46,7 @@ fn time_suits(t: Timestamp) -> bool
     if !offset_suits(t.offset) {
         return false;
     }
-    is_shown(calendar::shown_at(t.seconds, t.offset))
+    calendar::is_shown(calendar::shown_at(t.seconds, t.offset))
 }
 
 fn stamp_suits(stamp: Stamp) -> bool

@@ -1,6 +1,5 @@
 // timestamp.rs: the forms of a timestamp, each read from a position of the line.
 use calendar::DateTime;
-use calendar::Shown;
 use parsers::Num;
 use parsers::Pos;
 use record::Stamp;
@@ -14,7 +13,6 @@ ghost use Rattle.timestamp.specs.Month.{lower, monthOf, monthFrom};
 ghost use Rattle.timestamp.specs.Clock.{clockFrom};
 ghost use Rattle.timestamp.specs.Rfc3339.{fixedFrom, eitherFrom, dateFrom, timeFrom, nanosFrom, minutesFrom, eastOf, westOf, zoneFrom, stampIf, endFrom, fullFrom, rfc3339From};
 ghost use Rattle.timestamp.specs.Timestamp.{dayFrom, colonFrom, withoutYear, utcIf, withYear, rfc3164From};
-ghost use Rattle.calendar.specs.Instant.{isShown};
 
 // hour, minute, second, and the position behind them.
 pub enum Clock {
@@ -434,15 +432,6 @@ pub fn without_year(s: &[u8], at: usize, year: u32, offset: i32) -> Stamping
     stamp_if(t, 0, offset, colon_from(s, b))
 }
 
-fn is_shown(x: Shown) -> bool
-    ensures { λ r. ⌜ r ≡ isShown x ⌝ }
-{
-    match x {
-        Shown::Outside => false,
-        Shown::At(_) => true,
-    }
-}
-
 // The instant of a date and a clock in UTC, shown at the offset, where they are valid and the year shown is one of 0 to 9999.
 fn utc_if(t: DateTime, offset: i32, next: usize) -> Stamping
     ensures { λ r. ⌜ r ≡ utcIf t offset next ⌝ }
@@ -451,7 +440,7 @@ fn utc_if(t: DateTime, offset: i32, next: usize) -> Stamping
         return Stamping::NoStamp;
     }
     let seconds = calendar::seconds_of(t, 0);
-    if !is_shown(calendar::shown_at(seconds, offset)) {
+    if !calendar::is_shown(calendar::shown_at(seconds, offset)) {
         return Stamping::NoStamp;
     }
     Stamping::IsStamp(
