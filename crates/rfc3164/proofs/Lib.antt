@@ -1,7 +1,6 @@
 pub mod Splits
 pub mod Hosts
 pub mod Spaced
-pub mod Data
 pub mod Lines
 pub mod Within
 pub mod Examples

@@ -27,7 +27,7 @@ use Rattle.timestamp.specs.Timestamp.{colonFrom, rfc3164From}
 use Rattle.timestamp.specs.declared.Stamping.{Stamping}
 use Rattle.timestamp.specs.declared.Stamping.the-variants.{NoStamp, IsStamp}
 use Rattle.timestamp.proofs.Answers.{rfc3164-within}
-use Rattle.structured_data.specs.Data.{Data, dataFrom}
+use Rattle.structured_data.specs.Data.{Data, dataFrom, rowsOr}
 use Rattle.structured_data.specs.Data.Data.{noData, isData}
 use Rattle.structured_data.specs.Outcome.{countsOf, draftOf}
 use Rattle.structured_data.specs.declared.Rules.the-variants.{Rfc3164Rules}
@@ -36,13 +36,13 @@ use Rattle.structured_data.specs.declared.Counts.the-variants.{NoData, IsData}
 use Rattle.structured_data.specs.declared.Draft.{Draft}
 use Rattle.structured_data.specs.declared.Draft.the-variants.{NoDraft, IsDraft}
 use Rattle.rfc3164.specs.Names.{hostAndTag}
-use Rattle.rfc3164.specs.Rfc3164.{spacedHost, spacedTag, behindField, tagEnd, rowsOr, bodyFrom, rfc3164}
+use Rattle.rfc3164.specs.Rfc3164.{spacedHost, spacedTag, behindField, tagEnd, bodyFrom, rfc3164}
 use Rattle.rfc3164.specs.Steps.{taggedFrom, headerFrom, restOf, restFrom, recordOf}
 use Rattle.rfc3164.specs.declared.Names.{Names}
 use Rattle.rfc3164.specs.declared.Header.{Header}
 use Rattle.rfc3164.specs.declared.Rest.{Rest}
 use Rattle.rfc3164.proofs.Spaced.{behind-tag, behind-host}
-use Rattle.rfc3164.proofs.Data.{data-within}
+use Rattle.structured_data.proofs.Within.{data-within}
 
 -- behind the tag
 module _ (s : List ℕ) (at a b : ℕ) (ea : a ≡ blanksFrom s at) (eb : b ≡ colonFrom s a) where

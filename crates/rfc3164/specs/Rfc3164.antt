@@ -15,8 +15,7 @@ use Rattle.parsers.specs.declared.Field.the-variants.{NoField, IsField}
 use Rattle.timestamp.specs.Timestamp.{colonFrom, rfc3164From}
 use Rattle.timestamp.specs.declared.Stamping.{Stamping}
 use Rattle.timestamp.specs.declared.Stamping.the-variants.{NoStamp, IsStamp}
-use Rattle.structured_data.specs.Data.{Rows, Data, endAt, dataFrom}
-use Rattle.structured_data.specs.Data.Data.{noData, isData}
+use Rattle.structured_data.specs.Data.{dataFrom, rowsOr}
 use Rattle.structured_data.specs.Outcome.{Outcome}
 use Rattle.structured_data.specs.Outcome.Outcome.{noReading, isReading}
 use Rattle.structured_data.specs.declared.Rules.the-variants.{Rfc3164Rules}
@@ -33,11 +32,6 @@ spacedTag s at = onPos (byteFrom s at 32) NoField (λ a. tagFrom s a)
 abbrev pub behindField : ℕ → Field → ℕ
 behindField at NoField = at
 behindField at (IsField p n) = n
-
--- optional structured data: the rows, none where there is none
-abbrev pub rowsOr : ℕ → Data → Rows
-rowsOr at noData = endAt at
-rowsOr at (isData rows) = rows
 
 -- host, tag, and the position of the structured data
 unfoldable pub tagEnd : List ℕ → ℕ → ℕ

@@ -14,10 +14,10 @@ use Rattle.pri.specs.declared.Pri.{Pri}
 use Rattle.parsers.specs.Steps.{blanksFrom}
 use Rattle.parsers.specs.declared.Field.{Field}
 use Rattle.parsers.specs.declared.Field.the-variants.{NoField, IsField}
-use Rattle.structured_data.specs.Data.{Rows, dataFrom}
+use Rattle.structured_data.specs.Data.{Rows, dataFrom, rowsOr}
 use Rattle.structured_data.specs.declared.Rules.the-variants.{Rfc3164Rules}
 use Rattle.rfc3164.specs.Names.{hostAndTag}
-use Rattle.rfc3164.specs.Rfc3164.{spacedHost, spacedTag, behindField, tagEnd, rowsOr}
+use Rattle.rfc3164.specs.Rfc3164.{spacedHost, spacedTag, behindField, tagEnd}
 use Rattle.rfc3164.specs.declared.Names.{Names}
 use Rattle.rfc3164.specs.declared.Header.{Header}
 use Rattle.rfc3164.specs.declared.Rest.{Rest}

@@ -1,4 +1,3 @@
-pub mod Ends
 pub mod Headers
 pub mod Lines
 pub mod Examples

@@ -29,7 +29,7 @@ use Rattle.rfc5424.specs.declared.Start.{Start}
 use Rattle.rfc5424.specs.declared.Start.the-variants.{NoStart, IsStart}
 use Rattle.rfc5424.specs.declared.Four.{Four}
 use Rattle.rfc5424.specs.declared.Four.the-variants.{NoFour, IsFour}
-use Rattle.rfc5424.proofs.Ends.{data-within}
+use Rattle.structured_data.proofs.Within.{rows-within}
 use Rattle.rfc5424.proofs.Headers.{start-within, four-within}
 
 -- the rows that were counted
@@ -58,7 +58,7 @@ module _ (pri : Pri) (version : ℕ) (stamp : Stamp) (s : List ℕ) (at : ℕ) (
       pub body-data : next ≤ length s
       body-data =
           counted (dataFrom Rfc5424Rules s b) n m next (sym q ∙ ec)
-          (λ rows ed en em ex. rw ex (data-within Rfc5424Rules s b rows ed (blanks-within s a b eb (four-within s at f e host app procid msgid a z))))
+          (λ rows ed en em ex. rw ex (rows-within Rfc5424Rules s b rows ed (blanks-within s a b eb (four-within s at f e host app procid msgid a z))))
 
       pub body-is : (message : ℕ) → message ≡ blanksFrom s next
           → IsDraft (record {

@@ -12,3 +12,4 @@ pub mod Turning
 pub mod Counting
 pub mod Filling
 pub mod Examples
+pub mod Within

@@ -29,11 +29,11 @@ elements-within rules e zero at (b ∷ t) =
     item-within e at (at + length (b ∷ t)) (itemFrom rules e at (b ∷ t)) _ (omega arith)
     (λ f next. omega (arith, elements-within rules f (next - at - 1) (at + 1) t))
 
-abbrev DataIn : ℕ → Data → Type 0
+abbrev pub DataIn : ℕ → Data → Type 0
 DataIn n noData = Unit {0}
 DataIn n (isData rows) = rows .next ≤ n
 
-data-in : (rules : Rules) (s : List ℕ) (at : ℕ) → at ≤ length s → DataIn (length s) (dataFrom rules s at)
+pub data-in : (rules : Rules) (s : List ℕ) (at : ℕ) → at ≤ length s → DataIn (length s) (dataFrom rules s at)
 unfolding dataFrom
 data-in rules s at h =
     by-if (DataIn (length s)) (isAt s at 45) _ _ (λ d. omega (arith, at-below s at 44 d))
@@ -47,3 +47,6 @@ data-within rules s at h g eg e p n z = go (dataFrom rules s at) (data-in rules 
     go : (d : Data) → DataIn (length s) d → countsOf d ≡ IsData e p n → n ≤ length s
     go noData i q = let m : _≡_ {A = ℕ} 0 1 = cc in absurd (omega arith)
     go (isData rows) i q = let m : rows .next ≡ n = cc in omega arith
+
+pub rows-within : (rules : Rules) (s : List ℕ) (at : ℕ) (rows : Rows) → dataFrom rules s at ≡ isData rows → at ≤ length s → rows .next ≤ length s
+rows-within rules s at rows e h = rw e at (data-in rules s at h)
