@@ -5,7 +5,7 @@
 //!
 //!     E variant year offset elements_len params_len LINE number [26 words, 2 numbers an element, 5 numbers a parameter]
 //!     F the same, for the fallback reader
-//!     P LINE variant year offset room number OUT               exact reading, then printing into `room` bytes
+//!     P LINE variant year offset left room number OUT          exact reading, then printing over the line's first `left` bytes into `room` bytes
 //!     L LINE variant year offset ID NAME kind room number OUT  exact reading, then lookup
 
 use crate::abi::{Settings, RECORD, WORDS};
@@ -214,7 +214,13 @@ impl List {
             let number = if room < printed.len() { 8 } else { 0 };
             let key = self.key(b'P', number, line, Some((text, message, answer)));
             let out = if number == 0 { hex(&printed) } else { "-".into() };
-            self.offer(key, line, || format!("P {} {} {room} {number} {out}", hex(line), shown(s)));
+            self.offer(key, line, || format!("P {} {} {} {room} {number} {out}", hex(line), shown(s), line.len()));
+        }
+        // A line that ends before its message does: the record does not suit it.
+        if answer.words[23] > 0 {
+            let key = self.key(b'P', 7, line, Some((text, message, answer)));
+            let left = answer.words[22] + answer.words[23] - 1;
+            self.offer(key, line, || format!("P {} {} {left} {} 7 -", hex(line), shown(s), printed.len()));
         }
         for element in &message.structured_data {
             for (name, _) in &element.params {

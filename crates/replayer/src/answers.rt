@@ -177,8 +177,8 @@ pub fn strict_reading(line: &[u8], numbers: &mut [u64]) -> usize {
     )
 }
 
-// An exact reading, and its record printed.
-pub fn printing(line: &[u8], s: Settings, out: &mut [u8]) -> record::OutputAnswer {
+// An exact reading, and its record printed over the line's first `left` bytes.
+pub fn printing(line: &[u8], s: Settings, left: usize, out: &mut [u8]) -> record::OutputAnswer {
     let mut elements = [[0usize; 2]; 64];
     let mut params = [[0usize; 5]; 256];
     let mut memory = [0u8; 208];
@@ -194,7 +194,8 @@ pub fn printing(line: &[u8], s: Settings, out: &mut [u8]) -> record::OutputAnswe
     if n != 0 {
         return record::OutputAnswer { number: n, len: 0 };
     }
-    exports::khamdoriem_print(line, &memory, &elements, &params, out)
+    let end = up_to(left as u64, line.len());
+    exports::khamdoriem_print(&line[0..end], &memory, &elements, &params, out)
 }
 
 // An exact reading, and a value of it looked up.

@@ -107,14 +107,20 @@ fn is_output(
         & same(&wanted[0..w], &out[0..n])
 }
 
-// `P`: the line, variant, year, offset, the output's length; then the number and the bytes.
+// `P`: the line, variant, year, offset, how much of the line is left for printing, the output's length; then the number and the bytes.
 pub fn printing_case(text: &[u8], line: &mut [u8], out: &mut [u8], wanted: &mut [u8]) -> bool {
     let l = bytes(text, 2, line);
     let s = settings(text, l.next, false);
-    let room = number(text, s.next);
+    let left = number(text, s.next);
+    let room = number(text, left.next);
     let len = up_to(l.value, line.len());
     let n = up_to(room.value, out.len());
-    let a = printing(&line[0..len], s.settings, &mut out[0..n]);
+    let a = printing(
+        &line[0..len],
+        s.settings,
+        up_to(left.value, len),
+        &mut out[0..n],
+    );
     l.ok & room.ok & is_output(text, room.next, a, out, wanted)
 }
 

@@ -121,7 +121,7 @@ fn show_params(line: &[u8], numbers: &[u64], first: usize) {
 
 fn show_printed(line: &[u8], s: Settings) {
     let mut out = [0u8; 16384];
-    let a = printing(line, s, &mut out);
+    let a = printing(line, s, line.len(), &mut out);
     if a.number == 0 {
         let n = up_to(a.len as u64, 16384);
         say(b"  prints ");
