@@ -13,7 +13,7 @@ fn show(text: &[u8], fallback: bool) {
     if text.len() < start {
         return;
     }
-    replayer::show::show_reading(&text[start..], s.settings);
+    shows::show_reading(&text[start..], s.settings);
 }
 
 fn show_case(text: &[u8]) {
@@ -25,7 +25,7 @@ fn show_case(text: &[u8]) {
     match text[0] {
         b'E' => show(text, false),
         b'F' => show(text, true),
-        _ => replayer::show::show_strict(&text[2..]),
+        _ => shows::show_strict(&text[2..]),
     }
 }
 

@@ -1,5 +1,4 @@
-// What the programs `replay` and `cases` share: the text of a case, the calls, and the answers against a list or in words.
+// What the programs `replay` and `cases` share: the text of a case, the calls, and the answers against a list.
 pub mod answers;
 pub mod case;
-pub mod show;
 pub mod text;

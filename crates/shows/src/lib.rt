@@ -1,10 +1,10 @@
 // A case in words: the call, and each thing that its answer has, a line each.
-use crate::answers::Settings;
-use crate::answers::printing;
-use crate::answers::reading;
-use crate::answers::strict_reading;
-use crate::answers::up_to;
 use libc::STDOUT_FILENO;
+use replayer::answers::Settings;
+use replayer::answers::printing;
+use replayer::answers::reading;
+use replayer::answers::strict_reading;
+use replayer::answers::up_to;
 
 fn say(text: &[u8]) -> bool {
     io::write_all(STDOUT_FILENO, text)
