@@ -19,7 +19,10 @@ use Rattle.grammar.specs.Reading.{paramCount, elementRows, rowsOfParams, paramR
 use Rattle.grammar.proofs.Readers.{Front, text-length, found-within, many-reads}
 use Rattle.grammar.proofs.Data.{param-reads, data-reads}
 use Rattle.elements.specs.declared.Entry.{Entry}
-use Rattle.elements.specs.Entries.{opening, holding, passing, entryAt, Lies}
+use Rattle.record.specs.Params.{rowOf, blank}
+use Rattle.elements.specs.declared.Step.{Step}
+use Rattle.elements.specs.Entries.{opening, holding, passing, entryAt}
+use Rattle.elements.specs.Steps.{paramOf, stepOf, idsOf, Stepping}
 use Rattle.elements.specs.Counts.{countsOf}
 use Rattle.elements.specs.declared.Counts.{Counts}
 use Rattle.elements.specs.declared.Counts.the-variants.{IsData}
@@ -216,26 +219,34 @@ ended line r i end k (between (e ∷ es)) w h = absurd (omega (arith, w .size))
 ended line r i end k (inside [] es) w h = absurd (omega (arith, w .size))
 ended line r i end k (inside (p ∷ ps) es) w h = absurd (omega (arith, w .size))
 
--- what each arm of the loop knows
-module _ (line : List ℕ) (at end : ℕ) (e₀ p₀ e p : List (List ℕ)) (i n m : ℕ) (r : Entry) where
-  pub record Opened : Type 0 where
-    pub inside-line : i < length line
-    pub room : n < length e
-    pub same : length e ≡ length e₀
-    pub further : i < r .next
-    pub walk : Walk line at end e₀ p₀ (set e n ((i + 1) ∷ r .name ∷ [])) p (r .next) (n + 1) m
+-- a step that opens an element, holds a parameter, or does neither
+module _ (at k : ℕ) (e : List (List ℕ)) where
+  step-id : (n : ℕ) → stepOf at k (opening at n) ≡ record { row = blank; holds = false; opened = k + 1; next = at + n + 1 }
+  unfolding stepOf
+  step-id n = refl
 
-  pub record Held : Type 0 where
-    pub opened : 1 ≤ n
-    pub name-inside : i + r .name + 3 ≤ length line
-    pub room : m < length p
-    pub same : length p ≡ length p₀
-    pub further : i < r .next
-    pub walk : Walk line at end e₀ p₀ e (set p m ((n - 1) ∷ (i + 1) ∷ r .name ∷ (i + r .name + 3) ∷ r .value ∷ [])) (r .next) n (m + 1)
+  step-param : (n m : ℕ) → stepOf at k (holding at n m) ≡ record { row = paramOf at k (holding at n m); holds = true; opened = k; next = at + n + m + 4 }
+  unfolding stepOf
+  step-param n m = refl
 
-  pub record Passed : Type 0 where
-    pub further : i < r .next
-    pub walk : Walk line at end e₀ p₀ e p (r .next) n m
+  step-other : stepOf at k (passing at) ≡ record { row = blank; holds = false; opened = k; next = at + 1 }
+  unfolding stepOf
+  step-other = refl
+
+  ids-opening : (n : ℕ) → idsOf at k (opening at n) e ≡ set e k ((at + 1) ∷ n ∷ [])
+  unfolding idsOf
+  ids-opening n = refl
+
+  ids-other : (x : Entry) → x .opens ≡ false → idsOf at k x e ≡ e
+  unfolding idsOf
+  ids-other x h = rw h
+
+-- what a step makes of the walk, where its answer is `s` and the element table is `e′` behind it
+pub record Stepped (line : List ℕ) (at end : ℕ) (e₀ p₀ p : List (List ℕ)) (i m : ℕ) (s : Step) (e′ : List (List ℕ)) : Type 0 where
+  pub further : i < s .next
+  pub room : s .holds ≡ true → m < length p
+  pub stored : s .holds ≡ true → Walk line at end e₀ p₀ e′ (set p m (rowOf (s .row))) (s .next) (s .opened) (m + 1)
+  pub kept : s .holds ≡ false → Walk line at end e₀ p₀ e′ p (s .next) (s .opened) m
 
 module _ (line : List ℕ) (at end : ℕ) (e₀ p₀ e p : List (List ℕ)) (i n m : ℕ) (w : Walk line at end e₀ p₀ e p i n m) where
   pub walk-elements-length : length e ≡ length e₀
@@ -254,58 +265,51 @@ module _ (line : List ℕ) (at end : ℕ) (e₀ p₀ e p : List (List ℕ)) (i n
     next-here : Next line (w .behind) i end n (w .left)
     next-here = step line (w .behind) i end n (w .left) (w .ahead) h
 
-    pub walk-lies : Lies line i
-    walk-lies = go next-here
+    pub walk-stepping : Stepping line i n e
+    walk-stepping = go next-here
       where
-        go : Next line (w .behind) i end n (w .left) → Lies line i
-        go (opens x l f _ _ _) = f .lies
-        go (holds x y l f _ _ _ _) = f .lies
-        go (passes l f _ _ _) = f .lies
+        -- of another entry than the one that was found
+        no-id : {A : Type 0} {x : Entry} → Found line i x → x .opens ≡ false → entryAt line i .opens ≡ true → A
+        no-id f q t = clash (sym t ∙ ap (λ (y : Entry). y .opens) (f .is) ∙ q)
 
-    module _ (r : Entry) (er : r ≡ entryAt line i) where
-      -- another entry than the one that was found
-      else-opens : {A : Type 0} {x : Entry} {t : Bool} → r .opens ≡ t → Found line i x → (x .opens ≡ t → A) → A
-      else-opens t f k = k (ap (λ (x : Entry). x .opens) (sym (er ∙ f .is)) ∙ t)
+        no-param : {A : Type 0} {x : Entry} → Found line i x → x .holds ≡ false → entryAt line i .holds ≡ true → A
+        no-param f q t = clash (sym t ∙ ap (λ (y : Entry). y .holds) (f .is) ∙ q)
 
-      else-holds : {A : Type 0} {x : Entry} {t : Bool} → r .holds ≡ t → Found line i x → (x .holds ≡ t → A) → A
-      else-holds t f k = k (ap (λ (x : Entry). x .holds) (sym (er ∙ f .is)) ∙ t)
+        go : Next line (w .behind) i end n (w .left) → Stepping line i n e
+        go (opens x l f a b c) = record { lies = f .lies; id-room = λ t. rows-room _ _ _ _ _ (w .elements-in) _ _ a; some-open = no-param f refl; name-inside = no-param f refl }
+        go (holds x y l f a b c d) = record {
+          lies = f .lies;
+          id-room = no-id f refl;
+          some-open = λ t. c;
+          name-inside = λ t. let q = f .ends in rw (f .is) (omega arith);
+        }
+        go (passes l f a b c) = record { lies = f .lies; id-room = no-id f refl; some-open = no-param f refl; name-inside = no-param f refl }
 
-      pub walk-opens : r .opens ≡ true → Opened line at end e₀ p₀ e p i n m r
-      walk-opens t = go next-here
+    module _ (s : Step) (e′ : List (List ℕ)) (es : s ≡ stepOf i n (entryAt line i)) (ee : e′ ≡ idsOf i n (entryAt line i) e) where
+      found-step : {x : Entry} → entryAt line i ≡ x → {s₁ : Step} {e₁ : List (List ℕ)} → stepOf i n x ≡ s₁ → idsOf i n x e ≡ e₁ → Stepped line at end e₀ p₀ p i m s₁ e₁ → Stepped line at end e₀ p₀ p i m s e′
+      found-step f {s₁} {e₁} a b k =
+          subst (λ (y : List (List ℕ)). Stepped line at end e₀ p₀ p i m s y) (sym (ee ∙ ap (λ (y : Entry). idsOf i n y e) f ∙ b))
+          (subst (λ (y : Step). Stepped line at end e₀ p₀ p i m y e₁) (sym (es ∙ ap (stepOf i n) f ∙ a)) k)
+
+      pub walk-step : Stepped line at end e₀ p₀ p i m s e′
+      walk-step = go next-here
         where
-          go : Next line (w .behind) i end n (w .left) → Opened line at end e₀ p₀ e p i n m r
-          go (opens x l f a b c) = subst (Opened line at end e₀ p₀ e p i n m) (sym (er ∙ f .is)) (record {
-            inside-line = f .lies .inside;
-            room = rows-room _ _ _ _ _ (w .elements-in) _ _ a;
-            same = walk-elements-length;
+          go : Next line (w .behind) i end n (w .left) → Stepped line at end e₀ p₀ p i m s e′
+          go (opens x l f a b c) = found-step (f .is) (step-id i n e x) (ids-opening i n e x) (record {
             further = omega arith;
-            walk = record { behind = w .behind; left = l; ahead = c; elements-in = rows-more _ _ _ _ _ (w .elements-in) _ _ a; params-in = rows-same b (w .params-in) };
+            room = λ t. clash (sym t);
+            stored = λ t. clash (sym t);
+            kept = λ t. record { behind = w .behind; left = l; ahead = c; elements-in = rows-more _ _ _ _ _ (w .elements-in) _ _ a; params-in = rows-same b (w .params-in) };
           })
-          go (holds x y l f a b c d) = else-opens t f (λ q. clash (sym q))
-          go (passes l f a b c) = else-opens t f (λ q. clash (sym q))
-
-      pub walk-holds : r .holds ≡ true → Held line at end e₀ p₀ e p i n m r
-      walk-holds t = go next-here
-        where
-          go : Next line (w .behind) i end n (w .left) → Held line at end e₀ p₀ e p i n m r
-          go (opens x l f a b c) = else-holds t f (λ q. clash (sym q))
-          go (holds x y l f a b c d) = subst (Held line at end e₀ p₀ e p i n m) (sym (er ∙ f .is)) (record {
-            opened = c;
-            name-inside = omega (arith, f .ends);
-            room = rows-room _ _ _ _ _ (w .params-in) _ _ b;
-            same = walk-params-length;
+          go (holds x y l f a b c d) = found-step (f .is) (step-param i n e x y) (ids-other i n e _ refl) (record {
             further = omega arith;
-            walk = record { behind = w .behind; left = l; ahead = d; elements-in = rows-same a (w .elements-in); params-in = rows-more _ _ _ _ _ (w .params-in) _ _ b };
+            room = λ t. rows-room _ _ _ _ _ (w .params-in) _ _ b;
+            stored = λ t. record { behind = w .behind; left = l; ahead = d; elements-in = rows-same a (w .elements-in); params-in = rows-more _ _ _ _ _ (w .params-in) _ _ b };
+            kept = λ t. clash t;
           })
-          go (passes l f a b c) = else-holds t f (λ q. clash (sym q))
-
-      pub walk-passes : r .opens ≡ false → r .holds ≡ false → Passed line at end e₀ p₀ e p i n m r
-      walk-passes t u = go next-here
-        where
-          go : Next line (w .behind) i end n (w .left) → Passed line at end e₀ p₀ e p i n m r
-          go (opens x l f a b c) = else-opens t f (λ q. clash q)
-          go (holds x y l f a b c d) = else-holds u f (λ q. clash q)
-          go (passes l f a b c) = subst (Passed line at end e₀ p₀ e p i n m) (sym (er ∙ f .is)) (record {
+          go (passes l f a b c) = found-step (f .is) (step-other i n e) (ids-other i n e _ refl) (record {
             further = omega arith;
-            walk = record { behind = w .behind; left = l; ahead = c; elements-in = rows-same a (w .elements-in); params-in = rows-same b (w .params-in) };
+            room = λ t. clash (sym t);
+            stored = λ t. clash (sym t);
+            kept = λ t. record { behind = w .behind; left = l; ahead = c; elements-in = rows-same a (w .elements-in); params-in = rows-same b (w .params-in) };
           })

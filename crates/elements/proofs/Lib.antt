@@ -4,6 +4,8 @@ pub mod Pieces
 pub mod Counting
 pub mod Messages
 pub mod Entries
+pub mod Steps
 pub mod Texts
 pub mod Tables
 pub mod Filling
+pub mod Contracts

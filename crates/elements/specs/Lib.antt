@@ -1,4 +1,5 @@
 pub mod Counts
 pub mod Sizes
 pub mod Entries
+pub mod Steps
 pub mod Filling

@@ -1,16 +1,19 @@
 // The structured data and the message of a strict line: a first pass that reads and counts, and a second that fills the lent tables.
+use record::Param;
 ghost use mathlib.Core.Path.{_≡_};
 ghost use mathlib.Core.Bool.{false};
 ghost use Prim.Native.Nat.{_+_, _≤_, _<_};
 ghost use lib.ListN.{length};
 ghost use Rattle.base.specs.Runs.{run};
 ghost use Rattle.base.specs.Fills.{filled};
+ghost use Rattle.record.specs.Params.{rows};
 ghost use Rattle.grammar.specs.Abnf.{sdNameByte};
 ghost use Rattle.grammar.specs.Parse as parse;
 ghost use Rattle.grammar.specs.Reading.{elementRows, paramRows};
 ghost use Rattle.elements.specs.Counts.{countsOf, tailOf};
 ghost use Rattle.elements.specs.Sizes.{sizeOf, blockOf, paramsIn};
 ghost use Rattle.elements.specs.Entries.{nameAt, valueAt, holding, entryAt, Lies};
+ghost use Rattle.elements.specs.Steps.{Stepping, stepOf, idsOf};
 ghost use Rattle.elements.specs.Filling.{elementsAt, Fillable};
 
 // The structured data at the front of a part: how many bytes, elements and parameters.
@@ -352,32 +355,85 @@ fn next(line: &[u8], at: usize) -> Entry
     }
 }
 
+// A step of the second pass: the entry of a parameter, if it holds one, how many elements are open now, and the place behind it.
+struct Step {
+    row: Param,
+    holds: bool,
+    opened: usize,
+    next: usize,
+}
+
+// The step at `at`, where `opened` elements are open. An id goes into the table at once.
+fn take_step(line: &[u8], at: usize, opened: usize, elements: &mut [[usize; 2]]) -> Step
+    requires { ⌜ Stepping (now line) at opened (now elements) ⌝ }
+    ensures { λ r. ⌜ r ≡ stepOf at opened (entryAt (now (line .entry)) at) ⌝ }
+    ensures { λ _. ⌜ now (elements .exit) ≡ idsOf at opened (entryAt (now (line .entry)) at) (now (elements .entry)) ⌝ }
+{
+    let s = next(line, at);
+    let n = s.name;
+    if s.opens {
+        elements[opened] = [at + 1, n];
+        return Step {
+            row: record::blank(),
+            holds: false,
+            opened: opened + 1,
+            next: s.next,
+        };
+    }
+    if s.holds {
+        let row = Param {
+            element: opened - 1,
+            name_start: at + 1,
+            name_len: n,
+            value_start: at + n + 3,
+            value_len: s.value,
+        };
+        return Step {
+            row,
+            holds: true,
+            opened,
+            next: s.next,
+        };
+    }
+    Step {
+        row: record::blank(),
+        holds: false,
+        opened,
+        next: s.next,
+    }
+}
+
+fn row_of(s: Step) -> Param
+    ensures { λ r. ⌜ r ≡ s .row ⌝ }
+{
+    let row = s.row;
+    row
+}
+
 // The rows of the structured data that stands at `at` and takes `len` bytes, into both tables.
 pub fn fill_data(
     line: &[u8],
     at: usize,
     len: usize,
     elements: &mut [[usize; 2]],
-    params: &mut [[usize; 5]],
+    params: &mut [Param],
 )
-    requires { ⌜ Fillable (now line) at len (now elements) (now params) ⌝ }
+    requires { ⌜ Fillable (now line) at len (now elements) (rows (now params)) ⌝ }
     ensures { λ _. ⌜ now (elements .exit) ≡ filled (elementRows at (elementsAt (now (line .entry)) at)) (now (elements .entry)) ⌝ }
-    ensures { λ _. ⌜ now (params .exit) ≡ filled (paramRows 0 at (elementsAt (now (line .entry)) at)) (now (params .entry)) ⌝ }
+    ensures { λ _. ⌜ rows (now (params .exit)) ≡ filled (paramRows 0 at (elementsAt (now (line .entry)) at)) (rows (now (params .entry))) ⌝ }
 {
     let end = at + len;
     let mut i = at;
     let mut e = 0;
     let mut p = 0;
     while i < end {
-        let s = next(line, i);
-        let n = s.name;
-        if s.opens {
-            elements[e] = [i + 1, n];
-            e += 1;
-        } else if s.holds {
-            params[p] = [e - 1, i + 1, n, i + n + 3, s.value];
+        let s = take_step(line, i, e, elements);
+        if s.holds {
+            let row = row_of(s);
+            entries::store(params, p, row);
             p += 1;
         }
         i = s.next;
+        e = s.opened;
     }
 }

@@ -74,6 +74,12 @@ short-refused n z = rw (ne-eqb n 0 z)
 
 pub ruleset short-laws = (short-done, short-refused)
 
+pub short-number : (r : Reading) (a : Answer) → a ≡ answerOf r → (n : ℕ) → n ≡ shortNumber (a .number) → n ≡ shortNumber (numberOf r)
+short-number r a ea n en = en ∙ ap (λ (x : Answer). shortNumber (x .number)) ea
+
+pub short-strict-number : (r : StrictReading) (a : StrictAnswer) → a ≡ strictAnswerOf r → (n : ℕ) → n ≡ shortNumber (a .number) → n ≡ shortNumber (strictNumberOf r)
+short-strict-number r a ea n en = en ∙ ap (λ (x : StrictAnswer). shortNumber (x .number)) ea
+
 never-zero : (n : ℕ) → eqb (shortNumber n) 0 ≡ false
 never-zero n = by-test (λ b. eqb n 0 ≡ b → eqb (if b then 8 else n) 0 ≡ false) (eqb n 0) (λ e q. refl) (λ e q. q) refl
 
@@ -151,10 +157,6 @@ module _ (line : List ℕ) (variant year : ℕ) (o : ℤ) (f : SFits w32 o) (e�
     pub fallback-all : ReadsFallback line variant year (toZ w32 (ofZ w32 o)) e₀ p₀ r e p → LeavesFallback line variant year o e₀ p₀ out n e p new
     fallback-all h = loose-all line variant year o (orWhole line (outcomeOf line variant year o)) e₀ p₀ out l r e p (rw (toZ-ofZ w32 o f) at h) n new w
 
-pub ruleset exact-laws = (exact-short, exact-all)
-
-pub ruleset fallback-laws = (fallback-short, fallback-all)
-
 -- ---- the strict reader
 
 strict-unread : {line : List ℕ} {e₀ p₀ : List (List ℕ)} {r : StrictReading} {e p : List (List ℕ)} → StrictReads line e₀ p₀ r e p
@@ -176,5 +178,3 @@ module _ (line : List ℕ) (e₀ p₀ : List (List ℕ)) (out : List ℕ) where
   pub strict-all : 240 ≤ length out → (r : StrictReading) (e p : List (List ℕ)) → StrictReads line e₀ p₀ r e p → (n : ℕ) (new : List ℕ) → StrictLeft r out n new
       → LeavesStrict line e₀ p₀ out n e p new
   strict-all l r e p h n new w = leaves-all strictNumberOf strictBytesOf 240 (StrictReads line e₀ p₀) e₀ p₀ out r e p h l (strict-unread h) n new w
-
-pub ruleset strict-laws = (strict-short, strict-all)

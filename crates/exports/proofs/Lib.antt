@@ -2,3 +2,4 @@ mod Calls
 mod Services
 pub mod Determined
 mod Examples
+pub mod Contracts

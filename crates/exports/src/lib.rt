@@ -1,5 +1,6 @@
 // The C boundary: include/khamdoriem.h declares these functions, docs/INTERFACE.md says what they answer.
 use record::OutputAnswer;
+use record::Param;
 use record::Reading;
 use record::Refusal;
 use record::StrictReading;
@@ -7,17 +8,33 @@ use record::Written;
 ghost use mathlib.Core.Path.{_≡_};
 ghost use Prim.Native.Nat.{_≤_};
 ghost use lib.ListN.{length};
-ghost use Rattle.exports.specs.Exports.{shortNumber, LeavesExact, LeavesFallback, LeavesStrict, firstRefusal, ServesPrint, ServesLookup};
+ghost use Rattle.record.specs.Params.{rows};
+ghost use Rattle.exports.specs.Exports.{shortNumber, numberOf, strictNumberOf, LeavesExact, LeavesFallback, LeavesStrict, firstRefusal, ServesPrint, ServesLookup};
 ghost use Rattle.exports.specs.Steps.{Left, StrictLeft};
 
-// The number of an answer where the record's memory is too short.
-fn short(number: u32) -> u32
+// 8 in place of 0.
+fn or_short(number: u32) -> u32
     ensures { λ n. ⌜ n ≡ shortNumber number ⌝ }
 {
     if number == 0 {
         return 8;
     }
     number
+}
+
+// The number of an answer where the record's memory is too short.
+fn short(r: Reading) -> u32
+    ensures { λ n. ⌜ n ≡ shortNumber (numberOf r) ⌝ }
+{
+    let a = record::answer_of(r);
+    or_short(a.number)
+}
+
+fn short_strict(r: StrictReading) -> u32
+    ensures { λ n. ⌜ n ≡ shortNumber (strictNumberOf r) ⌝ }
+{
+    let a = record::strict_answer_of(r);
+    or_short(a.number)
 }
 
 // The number of an answer, and its record.
@@ -54,15 +71,16 @@ pub extern "C" fn khamdoriem_read_exact(
     year: u32,
     offset: i32,
     elements: &mut [[usize; 2]],
-    params: &mut [[usize; 5]],
+    params: &mut [Param],
     memory: &mut [u8],
 ) -> u32
-    ensures { λ n. ⌜ LeavesExact (now (line .entry)) variant year offset (now (elements .entry)) (now (params .entry)) (now (memory .entry)) n (now (elements .exit)) (now (params .exit)) (now (memory .exit)) ⌝ }
+    ensures { λ n. ⌜ LeavesExact (now (line .entry)) variant year offset (now (elements .entry)) (rows (now (params .entry))) (now (memory .entry)) n (now (elements .exit)) (rows (now (params .exit))) (now (memory .exit)) ⌝ }
 {
-    if memory.len() < 208 {
-        let r = loose::answer(line, variant, year, offset, elements.len(), params.len());
-        let a = record::answer_of(r);
-        return short(a.number);
+    let room = memory.len();
+    if room < 208 {
+        let e = elements.len();
+        let p = params.len();
+        return short(loose::answer(line, variant, year, offset, e, p));
     }
     let r = loose::read_exact(line, variant, year, offset, elements, params);
     leave(r, memory)
@@ -75,15 +93,16 @@ pub extern "C" fn khamdoriem_read_fallback(
     year: u32,
     offset: i32,
     elements: &mut [[usize; 2]],
-    params: &mut [[usize; 5]],
+    params: &mut [Param],
     memory: &mut [u8],
 ) -> u32
-    ensures { λ n. ⌜ LeavesFallback (now (line .entry)) variant year offset (now (elements .entry)) (now (params .entry)) (now (memory .entry)) n (now (elements .exit)) (now (params .exit)) (now (memory .exit)) ⌝ }
+    ensures { λ n. ⌜ LeavesFallback (now (line .entry)) variant year offset (now (elements .entry)) (rows (now (params .entry))) (now (memory .entry)) n (now (elements .exit)) (rows (now (params .exit))) (now (memory .exit)) ⌝ }
 {
-    if memory.len() < 208 {
-        let r = loose::answer_fallback(line, variant, year, offset, elements.len(), params.len());
-        let a = record::answer_of(r);
-        return short(a.number);
+    let room = memory.len();
+    if room < 208 {
+        let e = elements.len();
+        let p = params.len();
+        return short(loose::answer_fallback(line, variant, year, offset, e, p));
     }
     let r = loose::read_fallback(line, variant, year, offset, elements, params);
     leave(r, memory)
@@ -93,15 +112,16 @@ pub extern "C" fn khamdoriem_read_fallback(
 pub extern "C" fn khamdoriem_read_strict(
     line: &[u8],
     elements: &mut [[usize; 2]],
-    params: &mut [[usize; 5]],
+    params: &mut [Param],
     memory: &mut [u8],
 ) -> u32
-    ensures { λ n. ⌜ LeavesStrict (now (line .entry)) (now (elements .entry)) (now (params .entry)) (now (memory .entry)) n (now (elements .exit)) (now (params .exit)) (now (memory .exit)) ⌝ }
+    ensures { λ n. ⌜ LeavesStrict (now (line .entry)) (now (elements .entry)) (rows (now (params .entry))) (now (memory .entry)) n (now (elements .exit)) (rows (now (params .exit))) (now (memory .exit)) ⌝ }
 {
-    if memory.len() < 240 {
-        let r = strict::answer(line, elements.len(), params.len());
-        let a = record::strict_answer_of(r);
-        return short(a.number);
+    let room = memory.len();
+    if room < 240 {
+        let e = elements.len();
+        let p = params.len();
+        return short_strict(strict::answer(line, e, p));
     }
     let r = strict::read(line, elements, params);
     leave_strict(r, memory)

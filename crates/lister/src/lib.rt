@@ -4,14 +4,19 @@ use libc::STDIN_FILENO;
 use libc::STDOUT_FILENO;
 use record::StrictReading;
 ghost use mathlib.Core.Path.{_≡_};
-ghost use Prim.Native.Nat.{_+_, _≤_};
+ghost use Prim.Native.Nat.{_+_, _≤_, _<_};
 ghost use lib.ListN.{length};
 
-// How much of the line buffer is used, whether the line ran over it, and whether all was written so far.
+// Where the listing stands: how much of the line buffer is used, whether the line ran over it, and whether it is to be read; which bytes of the chunk are
+// still to be taken; and how many turns are left, 0 where all is done. A proved loop has to end, and nothing says that the input does: the turns
+// count down from a number that no run uses up.
 struct State {
     used: usize,
     over: bool,
-    ok: bool,
+    ready: bool,
+    next: usize,
+    got: usize,
+    left: u64,
 }
 
 // A number, and the byte behind it.
@@ -45,144 +50,188 @@ fn shown(count: usize) -> u32 {
     (count % 0x1_0000_0000) as u32
 }
 
-// What the strict reader answers to a line.
-fn report(line: &[u8], elements: &mut [[usize; 2]], params: &mut [[usize; 5]]) -> bool {
-    let r = strict::read(line, elements, params);
-    match r {
-        StrictReading::Read(_, e, p) => write_counts(shown(e), shown(p)),
-        StrictReading::Refused(refusal) => write_refusal(record::refusal_number(refusal)),
+fn start() -> State
+    ensures { λ r. ⌜ r .used ≡ 0 ⌝ }
+    ensures { λ r. ⌜ r .got ≡ 0 ⌝ }
+{
+    State {
+        used: 0,
+        over: false,
+        ready: false,
+        next: 0,
+        got: 0,
+        left: u64::MAX,
     }
 }
 
-// A line's end.
-fn ended(line: &[u8], elements: &mut [[usize; 2]], params: &mut [[usize; 5]], s: State) -> State
-    requires { ⌜ s .used ≤ length (now line) ⌝ }
-    ensures { λ r. ⌜ r .used ≡ 0 ⌝ }
+// A line's end. A line that ran over the buffer is refused at once; the others are to be read.
+fn ended(s: State) -> State
+    ensures { λ r. ⌜ r .used ≤ s .used ⌝ }
+    ensures { λ r. ⌜ r .got ≡ s .got ⌝ }
+    ensures { λ r. ⌜ r .left ≤ s .left ⌝ }
 {
     let over = s.over;
-    let used = s.used;
+    let mut left = s.left;
     if over {
-        let ok = write_refusal(record::refusal_number(record::Refusal::LineTooLong));
+        if !write_refusal(record::refusal_number(record::Refusal::LineTooLong)) {
+            left = 0;
+        }
         return State {
             used: 0,
             over: false,
-            ok,
+            ready: false,
+            next: s.next,
+            got: s.got,
+            left,
         };
     }
-    let ok = report(&line[0..used], elements, params);
     State {
-        used: 0,
+        used: s.used,
         over: false,
-        ok,
+        ready: true,
+        next: s.next,
+        got: s.got,
+        left,
     }
 }
 
-// One byte of the input.
-fn push(
-    line: &mut [u8],
-    elements: &mut [[usize; 2]],
-    params: &mut [[usize; 5]],
-    s: State,
-    b: u8,
-) -> State
+// The bytes of the chunk up to a line's end, into the line buffer.
+fn take(line: &mut [u8], chunk: &[u8], s: State) -> State
     requires { ⌜ s .used ≤ length (now line) ⌝ }
+    requires { ⌜ s .got ≤ length (now chunk) ⌝ }
     ensures { λ r. ⌜ r .used ≤ length (now (line .entry)) ⌝ }
-    ensures { λ r. ⌜ length (now (line .exit)) ≡ length (now (line .entry)) ⌝ }
+    ensures { λ r. ⌜ r .got ≡ s .got ⌝ }
+    ensures { λ r. ⌜ r .left ≤ s .left ⌝ }
 {
-    if b == b'\n' {
-        return ended(line, elements, params, s);
-    }
-    let used = s.used;
-    if used < line.len() {
-        line[used] = b;
-        return State {
-            used: used + 1,
-            over: s.over,
-            ok: s.ok,
-        };
+    let mut used = s.used;
+    let mut over = s.over;
+    let mut i = s.next;
+    let got = s.got;
+    let left = s.left;
+    while i < got {
+        let b = chunk[i];
+        i += 1;
+        if b == b'\n' {
+            return ended(State {
+                used,
+                over,
+                ready: false,
+                next: i,
+                got,
+                left,
+            });
+        }
+        if used < line.len() {
+            line[used] = b;
+            used += 1;
+        } else {
+            over = true;
+        }
     }
     State {
         used,
-        over: true,
-        ok: s.ok,
+        over,
+        ready: false,
+        next: i,
+        got,
+        left,
     }
 }
 
-// A chunk of the input.
-fn push_all(
-    line: &mut [u8],
-    elements: &mut [[usize; 2]],
-    params: &mut [[usize; 5]],
-    chunk: &[u8],
-    s: State,
-) -> State
-    requires { ⌜ s .used ≤ length (now line) ⌝ }
-    ensures { λ r. ⌜ r .used ≤ length (now (line .entry)) ⌝ }
-    ensures { λ r. ⌜ length (now (line .exit)) ≡ length (now (line .entry)) ⌝ }
+// Another chunk. Where the input ends or fails, a last line without its end counts if it is not empty.
+fn refill(chunk: &mut [u8], s: State) -> State
+    requires { ⌜ s .got ≤ length (now chunk) ⌝ }
+    ensures { λ r. ⌜ r .used ≤ s .used ⌝ }
+    ensures { λ r. ⌜ r .got ≤ length (now (chunk .entry)) ⌝ }
+    ensures { λ r. ⌜ r .left ≤ s .left ⌝ }
 {
-    let mut t = s;
-    let mut i = 0;
-    while i < chunk.len() {
-        t = push(line, elements, params, t, chunk[i]);
-        i += 1;
-    }
-    t
-}
-
-struct Turn {
-    state: State,
-    more: bool,
-}
-
-// One read. It is the last where the input ends or fails, or what was to be written could not be.
-fn one_read(
-    line: &mut [u8],
-    elements: &mut [[usize; 2]],
-    params: &mut [[usize; 5]],
-    chunk: &mut [u8],
-    s: State,
-) -> Turn
-    requires { ⌜ s .used ≤ length (now line) ⌝ }
-    ensures { λ r. ⌜ r .state .used ≤ length (now (line .entry)) ⌝ }
-    ensures { λ r. ⌜ length (now (line .exit)) ≡ length (now (line .entry)) ⌝ }
-    ensures { λ r. ⌜ length (now (chunk .exit)) ≡ length (now (chunk .entry)) ⌝ }
-{
-    let got = libc::read(STDIN_FILENO, chunk);
-    if got <= 0 {
-        return Turn {
-            state: s,
-            more: false,
-        };
-    }
-    let n = io::count(got, chunk);
-    let t = push_all(line, elements, params, &chunk[..n], s);
-    let ok = t.ok;
-    Turn { state: t, more: ok }
-}
-
-// A proved loop has to end, and nothing says that the input does: the turns count down from a number that no run uses up.
-pub fn run(
-    line: &mut [u8],
-    elements: &mut [[usize; 2]],
-    params: &mut [[usize; 5]],
-    chunk: &mut [u8],
-) {
-    let mut s = State {
-        used: 0,
-        over: false,
-        ok: true,
-    };
-    let mut more = true;
-    let mut turns = u64::MAX;
-    while turns > 0 && more {
-        let t = one_read(line, elements, params, chunk, s);
-        s = t.state;
-        more = t.more;
-        turns -= 1;
-    }
     let used = s.used;
     let over = s.over;
-    if used > 0 || over {
-        ended(line, elements, params, s);
+    let got = libc::read(STDIN_FILENO, chunk);
+    if 0 < got {
+        return State {
+            used,
+            over,
+            ready: false,
+            next: 0,
+            got: io::count(got, chunk),
+            left: s.left,
+        };
+    }
+    let last = State {
+        used,
+        over,
+        ready: false,
+        next: s.next,
+        got: s.got,
+        left: 0,
+    };
+    if (0 < used) | over {
+        return ended(last);
+    }
+    last
+}
+
+// One turn: to the end of a line or of the chunk, or on to another chunk.
+fn advance(line: &mut [u8], chunk: &mut [u8], s: State) -> State
+    requires { ⌜ s .used ≤ length (now line) ⌝ }
+    requires { ⌜ s .got ≤ length (now chunk) ⌝ }
+    requires { ⌜ 0 < s .left ⌝ }
+    ensures { λ r. ⌜ r .used ≤ length (now (line .entry)) ⌝ }
+    ensures { λ r. ⌜ r .got ≤ length (now (chunk .entry)) ⌝ }
+    ensures { λ r. ⌜ r .left < s .left ⌝ }
+{
+    let next = s.next;
+    let got = s.got;
+    let t = State {
+        used: s.used,
+        over: s.over,
+        ready: false,
+        next,
+        got,
+        left: s.left - 1,
+    };
+    if next < got {
+        return take(line, chunk, t);
+    }
+    refill(chunk, t)
+}
+
+// What the strict reader answers to a line is written. Where it cannot be, all is done.
+fn answered(s: State, r: StrictReading) -> State
+    ensures { λ t. ⌜ t .used ≡ 0 ⌝ }
+    ensures { λ t. ⌜ t .got ≡ s .got ⌝ }
+    ensures { λ t. ⌜ t .left ≤ s .left ⌝ }
+{
+    let ok = match r {
+        StrictReading::Read(_, e, p) => write_counts(shown(e), shown(p)),
+        StrictReading::Refused(refusal) => write_refusal(record::refusal_number(refusal)),
+    };
+    let mut left = s.left;
+    if !ok {
+        left = 0;
+    }
+    State {
+        used: 0,
+        over: false,
+        ready: false,
+        next: s.next,
+        got: s.got,
+        left,
+    }
+}
+
+// Lists all lines of the input, with the parameter table of the program.
+pub fn run(line: &mut [u8], elements: &mut [[usize; 2]], chunk: &mut [u8]) {
+    let blank = record::blank();
+    let mut params = [blank; 256];
+    let mut s = start();
+    while 0 < s.left {
+        s = advance(line, chunk, s);
+        if s.ready {
+            let used = s.used;
+            let r = strict::read(&line[0..used], elements, &mut params);
+            s = answered(s, r);
+        }
     }
 }

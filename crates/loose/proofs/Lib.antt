@@ -4,3 +4,4 @@ pub mod Judging
 pub mod Readings
 pub mod Determined
 pub mod Examples
+pub mod Contracts

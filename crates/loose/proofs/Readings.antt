@@ -12,6 +12,7 @@ use mir.Syntax.{w32}
 use mir.Val.{SFits, toZ, ofZ}
 use mir.ValLaws.{toZ-ofZ}
 use Rattle.base.specs.Choose.{if_then_else_}
+use Rattle.base.proofs.Tests.{clash}
 use Rattle.utf8.specs.Lead.{isUtf8}
 use Rattle.record.specs.Refusals.{refusalNumber}
 use Rattle.record.specs.declared.Record.{Record}
@@ -23,8 +24,10 @@ use Rattle.structured_data.specs.Data.{Rows, endAt}
 use Rattle.structured_data.specs.Outcome.{Outcome, Room, Fills}
 use Rattle.structured_data.specs.Outcome.Outcome.{noReading, isReading}
 use Rattle.structured_data.specs.declared.Rules.{Rules}
+use Rattle.structured_data.specs.declared.Rules.the-variants.{Rfc3164Rules}
 use Rattle.loose.specs.Loose.{outcomeOf, whole, orWhole, settingsOk, judged, answered, tableAfter, rowsOf, ReadsExact, ReadsFallback}
-use Rattle.loose.specs.Judging.{Fits, Judges, orMessage}
+use Rattle.loose.specs.Judging.{Fits, Judges, planOf, orMessage}
+use Rattle.loose.specs.declared.Plan.{Plan}
 use Rattle.loose.specs.declared.Judged.{Judged}
 use Rattle.loose.specs.declared.Judged.the-variants.{Refuse, Fitting}
 use Rattle.loose.proofs.Judging.{passed}
@@ -52,25 +55,25 @@ pub ruleset answer-laws = (answer-refused, answer-read)
 -- and of the tables
 module _ (line : List ℕ) (variant year : ℕ) (o : ℤ) (f : SFits w32 o) (e₀ p₀ : List (List ℕ)) (j : Judged)
     (c : Judges line variant year (toZ w32 (ofZ w32 o)) (length e₀) (length p₀) j) where
-  pub exact-refused : (x : Refusal) → j ≡ Refuse x → ReadsExact line variant year o e₀ p₀ (Refused x) e₀ p₀
+  exact-refused : (x : Refusal) → j ≡ Refuse x → ReadsExact line variant year o e₀ p₀ (Refused x) e₀ p₀
   exact-refused x z = record { answer = answer-refused line variant year o f (length e₀) (length p₀) j c x z; elements = refl; params = refl }
 
   module _ (rules : Rules) (r : Record) (end at n m : ℕ) (z : j ≡ Fitting rules r end at n m) where
     fitting : Fits line variant year o (length e₀) (length p₀) rules r end at n m
     fitting = fits line variant year o f (length e₀) (length p₀) j c rules r end at n m z
 
-    pub part-ends : end ≤ length line
+    part-ends : end ≤ length line
     part-ends = fitting .inside
 
-    pub part-whole : end - 0 ≡ end
+    part-whole : end - 0 ≡ end
     part-whole = omega arith
 
-    pub tables-room : Room rules (take (end - 0) line) at n m e₀ p₀
+    tables-room : Room rules (take (end - 0) line) at n m e₀ p₀
     tables-room =
         let d = fitting .drafts in
         rw part-whole (record { elements-are = d .elements-are; params-are = d .params-are; elements-fit = fitting .elements-fit; params-fit = fitting .params-fit })
 
-    pub exact-read : (e₁ p₁ : List (List ℕ)) → Fills rules (take (end - 0) line) at e₀ p₀ e₁ p₁ → ReadsExact line variant year o e₀ p₀ (Read r n m) e₁ p₁
+    exact-read : (e₁ p₁ : List (List ℕ)) → Fills rules (take (end - 0) line) at e₀ p₀ e₁ p₁ → ReadsExact line variant year o e₀ p₀ (Read r n m) e₁ p₁
     exact-read e₁ p₁ g =
         let d = fitting .drafts in
         let k : Fills rules (take end line) at e₀ p₀ e₁ p₁ = rw part-whole at g in
@@ -80,7 +83,38 @@ module _ (line : List ℕ) (variant year : ℕ) (o : ℤ) (f : SFits w32 o) (e�
           params = k .params ∙ rw (d .is);
         }
 
-pub ruleset exact-laws = (exact-refused, part-ends, tables-room, exact-read)
+-- what was judged, as a plan
+module _ (j : Judged) where
+  pub plan-refused : (x : Refusal) → j ≡ Refuse x → record { reading = Refused x; reads = false; rules = Rfc3164Rules; end = 0; from = 0; ids = 0; params = 0 } ≡ planOf j
+  plan-refused x z = rw z
+
+  pub plan-read : (rules : Rules) (r : Record) (end at n m : ℕ) → j ≡ Fitting rules r end at n m
+      → record { reading = Read r n m; reads = true; rules = rules; end = end; from = at; ids = n; params = m } ≡ planOf j
+  plan-read rules r end at n m z = rw z
+
+pub ruleset plan-laws = (plan-refused, plan-read)
+
+-- The plan is right for the tables: as they are where the line is refused, and filled where it is read.
+pub record Planned (line : List ℕ) (variant year : ℕ) (o : ℤ) (e₀ p₀ : List (List ℕ)) (q : Plan) : Type 0 where
+  pub as-they-are : q .reads ≡ false → ReadsExact line variant year o e₀ p₀ (q .reading) e₀ p₀
+  pub inside : q .reads ≡ true → q .end ≤ length line
+  pub room : q .reads ≡ true → Room (q .rules) (take (q .end - 0) line) (q .from) (q .ids) (q .params) e₀ p₀
+  pub filled-in : q .reads ≡ true → (e₁ p₁ : List (List ℕ)) → Fills (q .rules) (take (q .end - 0) line) (q .from) e₀ p₀ e₁ p₁ → ReadsExact line variant year o e₀ p₀ (q .reading) e₁ p₁
+
+module _ (line : List ℕ) (variant year : ℕ) (o : ℤ) (f : SFits w32 o) (e₀ p₀ : List (List ℕ)) where
+  planned : (j : Judged) → Judges line variant year (toZ w32 (ofZ w32 o)) (length e₀) (length p₀) j → Planned line variant year o e₀ p₀ (planOf j)
+  planned (Refuse x) c =
+      record { as-they-are = λ t. exact-refused line variant year o f e₀ p₀ (Refuse x) c x refl; inside = λ t. clash (sym t); room = λ t. clash (sym t); filled-in = λ t. clash (sym t) }
+  planned (Fitting rules r end at n m) c =
+      record {
+        as-they-are = λ t. clash t;
+        inside = λ t. part-ends line variant year o f e₀ p₀ (Fitting rules r end at n m) c rules r end at n m refl;
+        room = λ t. tables-room line variant year o f e₀ p₀ (Fitting rules r end at n m) c rules r end at n m refl;
+        filled-in = λ t. exact-read line variant year o f e₀ p₀ (Fitting rules r end at n m) c rules r end at n m refl;
+      }
+
+  pub plan-for : (j : Judged) → Judges line variant year (toZ w32 (ofZ w32 o)) (length e₀) (length p₀) j → (q : Plan) → q ≡ planOf j → Planned line variant year o e₀ p₀ q
+  plan-for j c q e = rw e (planned j c)
 
 -- The message whole in place of refusal 4
 module _ (len : ℕ) (r : Reading) (f : Refusal) (z : r ≡ Refused f) (k : ℕ) (e : k ≡ refusalNumber f) where

@@ -1,5 +1,6 @@
 // lib.rs: the loose readers.
 use record::Level;
+use record::Param;
 use record::Protocol;
 use record::Reading;
 use record::Record;
@@ -13,10 +14,11 @@ ghost use Prim.Native.Nat.{_≤_};
 ghost use lib.Dec.{leb};
 ghost use lib.IntN.{natAbs};
 ghost use lib.ListN.{length};
+ghost use Rattle.record.specs.Params.{rows};
 ghost use Rattle.rfc3164.specs.Rfc3164.{rfc3164};
 ghost use Rattle.rfc5424.specs.Rfc5424.{rfc5424};
 ghost use Rattle.loose.specs.Loose.{byVariant, outcomeOf, whole, orWhole, settingsOk, answered, ReadsExact, ReadsFallback};
-ghost use Rattle.loose.specs.Judging.{Finds, Passes, Judges, orMessage};
+ghost use Rattle.loose.specs.Judging.{Finds, Passes, Judges, planOf, orMessage};
 
 // What a reader of lines found: the rules that its structured data is read by, the record, where the structured data stands, and the
 // counts of elements and parameters.
@@ -173,6 +175,64 @@ pub fn answer(line: &[u8], variant: u32, year: u32, offset: i32, e: usize, p: us
     }
 }
 
+// The answer, and, where the line is read, what its rows are stored by: the rules, where the trimmed line ends, where the structured data stands, and the
+// counts.
+struct Plan {
+    reading: Reading,
+    reads: bool,
+    rules: Rules,
+    end: usize,
+    from: usize,
+    ids: usize,
+    params: usize,
+}
+
+fn planned(judged: Judged) -> Plan
+    ensures { λ r. ⌜ r ≡ planOf judged ⌝ }
+{
+    match judged {
+        Judged::Refuse(refusal) => Plan {
+            reading: Reading::Refused(refusal),
+            reads: false,
+            rules: Rules::Rfc3164Rules,
+            end: 0,
+            from: 0,
+            ids: 0,
+            params: 0,
+        },
+        Judged::Fitting {
+            rules,
+            read,
+            end,
+            at,
+            elements: n,
+            params: m,
+        } => Plan {
+            reading: Reading::Read(read, n, m),
+            reads: true,
+            rules,
+            end,
+            from: at,
+            ids: n,
+            params: m,
+        },
+    }
+}
+
+fn rules_of(plan: Plan) -> Rules
+    ensures { λ r. ⌜ r ≡ plan .rules ⌝ }
+{
+    let rules = plan.rules;
+    rules
+}
+
+fn reading_of(plan: Plan) -> Reading
+    ensures { λ r. ⌜ r ≡ plan .reading ⌝ }
+{
+    let reading = plan.reading;
+    reading
+}
+
 // Loose exact reading: a line with no reading is refused.
 pub fn read_exact(
     line: &[u8],
@@ -180,24 +240,22 @@ pub fn read_exact(
     year: u32,
     offset: i32,
     elements: &mut [[usize; 2]],
-    params: &mut [[usize; 5]],
+    params: &mut [Param],
 ) -> Reading
-    ensures { λ r. ⌜ ReadsExact (now (line .entry)) variant year offset (now (elements .entry)) (now (params .entry)) r (now (elements .exit)) (now (params .exit)) ⌝ }
+    ensures { λ r. ⌜ ReadsExact (now (line .entry)) variant year offset (now (elements .entry)) (rows (now (params .entry))) r (now (elements .exit)) (rows (now (params .exit))) ⌝ }
 {
-    match judge(line, variant, year, offset, elements.len(), params.len()) {
-        Judged::Refuse(refusal) => Reading::Refused(refusal),
-        Judged::Fitting {
-            rules,
-            read,
-            end,
-            at,
-            elements: e,
-            params: p,
-        } => {
-            structured_data::fill_data(rules, &line[0..end], at, e, p, elements, params);
-            Reading::Read(read, e, p)
-        }
+    let e = elements.len();
+    let p = params.len();
+    let plan = planned(judge(line, variant, year, offset, e, p));
+    if plan.reads {
+        let rules = rules_of(plan);
+        let end = plan.end;
+        let at = plan.from;
+        let n = plan.ids;
+        let m = plan.params;
+        structured_data::fill_data(rules, &line[0..end], at, n, m, elements, params);
     }
+    reading_of(plan)
 }
 
 // The line whole and untrimmed as the message.
@@ -252,12 +310,11 @@ pub fn read_fallback(
     year: u32,
     offset: i32,
     elements: &mut [[usize; 2]],
-    params: &mut [[usize; 5]],
+    params: &mut [Param],
 ) -> Reading
-    ensures { λ r. ⌜ ReadsFallback (now (line .entry)) variant year offset (now (elements .entry)) (now (params .entry)) r (now (elements .exit)) (now (params .exit)) ⌝ }
+    ensures { λ r. ⌜ ReadsFallback (now (line .entry)) variant year offset (now (elements .entry)) (rows (now (params .entry))) r (now (elements .exit)) (rows (now (params .exit))) ⌝ }
 {
-    or_message(
-        line.len(),
-        read_exact(line, variant, year, offset, elements, params),
-    )
+    let len = line.len();
+    let reading = read_exact(line, variant, year, offset, elements, params);
+    or_message(len, reading)
 }

@@ -1,4 +1,5 @@
 pub mod Places
+pub mod Params
 pub mod Refusals
 pub mod Records
 pub mod Answers

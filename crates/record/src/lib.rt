@@ -1,6 +1,7 @@
 // What is read from a line: places, the record, the strict record; and the answers, with 01's refusals.
 ghost use mathlib.Core.Path.{_≡_};
 ghost use Rattle.record.specs.Places.{absent, place};
+ghost use Rattle.record.specs.Params.{blank};
 ghost use Rattle.record.specs.Refusals.{refusalNumber};
 ghost use Rattle.record.specs.Records.{emptyRecord, emptyStrict};
 ghost use Rattle.record.specs.Answers.{answerOf, strictAnswerOf, outputAnswerOf};
@@ -58,6 +59,16 @@ pub struct StrictRecord {
     pub common: Record,
     pub timestamp_text: Place,
     pub has_message: bool,
+}
+
+// An entry of the parameter table: its element's number, and where its name and its value lie.
+#[repr(C)]
+pub struct Param {
+    pub element: usize,
+    pub name_start: usize,
+    pub name_len: usize,
+    pub value_start: usize,
+    pub value_len: usize,
 }
 
 // Why a call is refused, in the order in which 01 checks.
@@ -130,6 +141,18 @@ pub fn place_at(start: usize, len: usize) -> Place
         present: true,
         start,
         len,
+    }
+}
+
+pub fn blank() -> Param
+    ensures { λ r. ⌜ r ≡ blank ⌝ }
+{
+    Param {
+        element: 0,
+        name_start: 0,
+        name_len: 0,
+        value_start: 0,
+        value_len: 0,
     }
 }
 

@@ -1,4 +1,7 @@
 // The calls of a case, each over tables of its own, with the answer as plain numbers or bytes.
+use crate::tables::exact;
+use crate::tables::fallback;
+use crate::tables::strict;
 ghost use mathlib.Core.Path.{_≡_};
 ghost use Prim.Native.Nat.{_≤_};
 ghost use lib.ListN.{length};
@@ -90,30 +93,32 @@ fn read(
     e: usize,
     p: usize,
     elements: &mut [[usize; 2]],
-    params: &mut [[usize; 5]],
+    rows: &mut [[usize; 5]],
     memory: &mut [u8],
 ) -> u32
-    requires { ⌜ (e ≤ length (now elements)) × (p ≤ length (now params)) ⌝ }
+    requires { ⌜ (e ≤ length (now elements)) × (p ≤ 256) ⌝ }
 {
     if s.fallback {
-        return exports::khamdoriem_read_fallback(
+        return fallback(
             line,
             s.variant,
             s.year,
             s.offset,
             &mut elements[0..e],
-            &mut params[0..p],
+            p,
             memory,
+            rows,
         );
     }
-    exports::khamdoriem_read_exact(
+    exact(
         line,
         s.variant,
         s.year,
         s.offset,
         &mut elements[0..e],
-        &mut params[0..p],
+        p,
         memory,
+        rows,
     )
 }
 
@@ -155,7 +160,7 @@ pub fn strict_reading(line: &[u8], numbers: &mut [u64]) -> usize {
     let mut elements = [[0usize; 2]; 64];
     let mut params = [[0usize; 5]; 256];
     let mut memory = [0u8; 240];
-    let n = exports::khamdoriem_read_strict(line, &mut elements, &mut params, &mut memory);
+    let n = strict(line, &mut elements, &mut memory, &mut params);
     let a = push(numbers, 0, n as u64);
     if n != 0 {
         return a;
@@ -182,14 +187,15 @@ pub fn printing(line: &[u8], s: Settings, left: usize, out: &mut [u8]) -> record
     let mut elements = [[0usize; 2]; 64];
     let mut params = [[0usize; 5]; 256];
     let mut memory = [0u8; 208];
-    let n = exports::khamdoriem_read_exact(
+    let n = exact(
         line,
         s.variant,
         s.year,
         s.offset,
         &mut elements,
-        &mut params,
+        256,
         &mut memory,
+        &mut params,
     );
     if n != 0 {
         return record::OutputAnswer { number: n, len: 0 };
@@ -210,14 +216,15 @@ pub fn looking(
     let mut elements = [[0usize; 2]; 64];
     let mut params = [[0usize; 5]; 256];
     let mut memory = [0u8; 208];
-    let n = exports::khamdoriem_read_exact(
+    let n = exact(
         line,
         s.variant,
         s.year,
         s.offset,
         &mut elements,
-        &mut params,
+        256,
         &mut memory,
+        &mut params,
     );
     if n != 0 {
         return record::OutputAnswer { number: n, len: 0 };

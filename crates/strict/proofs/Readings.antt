@@ -26,7 +26,8 @@ use Rattle.record.specs.declared.StrictReading.the-variants.{Read, Refused}
 use Rattle.record.specs.declared.StrictRecord.{StrictRecord}
 use Rattle.record.specs.declared.Refusal.{Refusal}
 use Rattle.record.specs.declared.Refusal.the-variants.{LineTooLong, NoReading, TooManyElements, TooManyParams}
-use Rattle.strict.specs.Scan.{scanOf, fitting, judged, readingOf, answered}
+use Rattle.strict.specs.Scan.{scanOf, fitting, judged, readingOf, answered, planOf}
+use Rattle.strict.specs.declared.Plan.{Plan}
 use Rattle.strict.specs.declared.Judged.{Judged}
 use Rattle.strict.specs.declared.Judged.the-variants.{Refuse, Fitting}
 use Rattle.strict.specs.declared.Scan.{Scan}
@@ -235,7 +236,34 @@ module _ (line : List ℕ) (e₀ p₀ : List (List ℕ)) where
           → StrictReads line e₀ p₀ (Read r n k) e₁ p₁
       read-done = fits-read r at len n k (fits r at len n k (sym q ∙ z))
 
-pub ruleset read-laws = (read-refused, fill-there, read-done)
+-- what was judged, as a plan
+module _ (j : Judged) where
+  pub plan-refused : (x : Refusal) → j ≡ Refuse x → record { reading = Refused x; reads = false; from = 0; len = 0 } ≡ planOf j
+  plan-refused x z = rw z
+
+  pub plan-read : (r : StrictRecord) (at len n k : ℕ) → j ≡ Fitting r at len n k → record { reading = Read r n k; reads = true; from = at; len = len } ≡ planOf j
+  plan-read r at len n k z = rw z
+
+pub ruleset plan-laws = (plan-refused, plan-read)
+
+-- The plan is right for the tables: as they are where the line is refused, and filled where it is read.
+pub record Planned (line : List ℕ) (e₀ p₀ : List (List ℕ)) (q : Plan) : Type 0 where
+  pub as-they-are : q .reads ≡ false → StrictReads line e₀ p₀ (q .reading) e₀ p₀
+  pub room : q .reads ≡ true → Fillable line (q .from) (q .len) e₀ p₀
+  pub filled-in : q .reads ≡ true → (e₁ p₁ : List (List ℕ)) → e₁ ≡ filled (elementRows (q .from) (elementsAt line (q .from))) e₀ → p₁ ≡ filled (paramRows 0 (q .from) (elementsAt line (q .from))) p₀
+      → StrictReads line e₀ p₀ (q .reading) e₁ p₁
+
+planned : (line : List ℕ) (e₀ p₀ : List (List ℕ)) (j : Judged) → j ≡ judged line (length e₀) (length p₀) → Planned line e₀ p₀ (planOf j)
+planned line e₀ p₀ (Refuse x) c = record { as-they-are = λ t. read-refused line e₀ p₀ (Refuse x) c x refl; room = λ t. clash (sym t); filled-in = λ t. clash (sym t) }
+planned line e₀ p₀ (Fitting r at len n k) c =
+    record {
+      as-they-are = λ t. clash t;
+      room = λ t. fill-there line e₀ p₀ (Fitting r at len n k) c r at len n k refl;
+      filled-in = λ t. read-done line e₀ p₀ (Fitting r at len n k) c r at len n k refl;
+    }
+
+pub plan-for : (line : List ℕ) (e₀ p₀ : List (List ℕ)) (j : Judged) → j ≡ judged line (length e₀) (length p₀) → (q : Plan) → q ≡ planOf j → Planned line e₀ p₀ q
+plan-for line e₀ p₀ j c q e = rw e (planned line e₀ p₀ j c)
 
 -- What is answered with no table at hand is what a reading into tables of those sizes answers.
 pub record Answers (line : List ℕ) (e₀ p₀ : List (List ℕ)) (r : StrictReading) : Type 0 where

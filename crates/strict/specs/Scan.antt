@@ -1,7 +1,7 @@
 -- What the first pass keeps of a line that the parser of `grammar` divides: the record, where the structured data stands, and the counts;
 -- and what is answered before a table is touched.
 use Prim.Native.Nat.{ℕ, _/_, _%_}
-use mathlib.Core.Bool.{Bool}
+use mathlib.Core.Bool.{Bool, true, false}
 use mathlib.Core.List.{List, []}
 use lib.Dec.{ltb}
 use lib.ListN.{length}
@@ -20,6 +20,7 @@ use Rattle.record.specs.declared.StrictReading.the-variants.{Read, Refused}
 use Rattle.record.specs.declared.Refusal.the-variants.{LineTooLong, NoReading, TooManyElements, TooManyParams}
 use Rattle.strict.specs.declared.Judged.{Judged}
 use Rattle.strict.specs.declared.Judged.the-variants.{Refuse, Fitting}
+use Rattle.strict.specs.declared.Plan.{Plan}
 use Rattle.strict.specs.declared.Scan.{Scan}
 use Rattle.strict.specs.declared.Scan.the-variants.{NoScan, IsScan}
 
@@ -64,3 +65,8 @@ readingOf (Fitting r at len n k) = Read r n k
 -- what reading answers to tables of `e` and `p` entries
 unfoldable pub answered : List ℕ → ℕ → ℕ → StrictReading
 answered line e p = readingOf (judged line e p)
+
+-- the answer, and where the structured data stands that is to be stored
+abbrev pub planOf : Judged → Plan
+planOf (Refuse f) = record { reading = Refused f; reads = false; from = 0; len = 0 }
+planOf (Fitting r at len n k) = record { reading = Read r n k; reads = true; from = at; len = len }

@@ -4,6 +4,7 @@ use elements::Tail;
 use header::HeaderAt;
 use header::Heading;
 use record::Level;
+use record::Param;
 use record::Protocol;
 use record::Record;
 use record::Refusal;
@@ -14,7 +15,8 @@ ghost use mathlib.Core.Path.{_≡_};
 ghost use Prim.Native.Nat.{_≤_};
 ghost use Rattle.grammar.specs.Parse as parse;
 ghost use Rattle.grammar.specs.Reading.{StrictReads};
-ghost use Rattle.strict.specs.Scan.{recordWith, scanOf, judged, answered};
+ghost use Rattle.record.specs.Params.{rows};
+ghost use Rattle.strict.specs.Scan.{recordWith, scanOf, judged, planOf, answered};
 
 // What a line holds before its rows are stored: the record, where the structured data stands and how many bytes it takes, and both counts.
 enum Scan {
@@ -124,15 +126,51 @@ pub fn answer(line: &[u8], e: usize, p: usize) -> StrictReading
     }
 }
 
-// Reads a line strictly. On a refusal the tables keep their entries, and entries past the counts are kept always.
-pub fn read(line: &[u8], elements: &mut [[usize; 2]], params: &mut [[usize; 5]]) -> StrictReading
-    ensures { λ r. ⌜ StrictReads (now (line .entry)) (now (elements .entry)) (now (params .entry)) r (now (elements .exit)) (now (params .exit)) ⌝ }
+// The answer, and, where the line is read, where its structured data stands and how many bytes it takes.
+struct Plan {
+    reading: StrictReading,
+    reads: bool,
+    from: usize,
+    len: usize,
+}
+
+fn planned(judged: Judged) -> Plan
+    ensures { λ r. ⌜ r ≡ planOf judged ⌝ }
 {
-    match judge(line, elements.len(), params.len()) {
-        Judged::Refuse(refusal) => StrictReading::Refused(refusal),
-        Judged::Fitting(r, at, len, e, p) => {
-            elements::fill_data(line, at, len, elements, params);
-            StrictReading::Read(r, e, p)
-        }
+    match judged {
+        Judged::Refuse(refusal) => Plan {
+            reading: StrictReading::Refused(refusal),
+            reads: false,
+            from: 0,
+            len: 0,
+        },
+        Judged::Fitting(r, at, len, e, p) => Plan {
+            reading: StrictReading::Read(r, e, p),
+            reads: true,
+            from: at,
+            len,
+        },
     }
+}
+
+fn reading_of(plan: Plan) -> StrictReading
+    ensures { λ r. ⌜ r ≡ plan .reading ⌝ }
+{
+    let reading = plan.reading;
+    reading
+}
+
+// Reads a line strictly. On a refusal the tables keep their entries, and entries past the counts are kept always.
+pub fn read(line: &[u8], elements: &mut [[usize; 2]], params: &mut [Param]) -> StrictReading
+    ensures { λ r. ⌜ StrictReads (now (line .entry)) (now (elements .entry)) (rows (now (params .entry))) r (now (elements .exit)) (rows (now (params .exit))) ⌝ }
+{
+    let e = elements.len();
+    let p = params.len();
+    let plan = planned(judge(line, e, p));
+    if plan.reads {
+        let at = plan.from;
+        let len = plan.len;
+        elements::fill_data(line, at, len, elements, params);
+    }
+    reading_of(plan)
 }

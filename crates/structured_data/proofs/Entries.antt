@@ -18,6 +18,8 @@ use Rattle.structured_data.specs.Element.{Params, noneAt, paramsFrom}
 use Rattle.structured_data.specs.Steps.{walkOf, walkFrom, entryOf, Stops, Ends, Holds, Stores}
 use Rattle.structured_data.specs.declared.Param.{Param}
 use Rattle.structured_data.specs.declared.Param.the-variants.{NoParam, IsParam}
+use Rattle.record.specs.declared.Param.{Param as Row}
+use Rattle.record.specs.Params.{rowOf, blank}
 use Rattle.structured_data.specs.declared.Entry.{Entry}
 use Rattle.structured_data.specs.declared.Walk.{Walk}
 use Rattle.structured_data.proofs.Params.{param-lies}
@@ -29,11 +31,11 @@ module _ (s : List ℕ) (e start : ℕ) (u : List ℕ) (eu : u ≡ drop start s)
   there : (p : Param) → g ≡ p → entryOf e start p ≡ entryOf e start (paramAt (drop start s))
   there p q = ap (entryOf e start) (sym (ap paramAt (sym eu) ∙ sym eg ∙ q))
 
-  pub entry-none : g ≡ NoParam → record { row = 0 ∷ 0 ∷ 0 ∷ 0 ∷ 0 ∷ []; next = start } ≡ entryOf e start (paramAt (drop start s))
-  entry-none q = there NoParam q
+  pub entry-none : g ≡ NoParam → (b : Row) → b ≡ blank → record { row = b; next = start } ≡ entryOf e start (paramAt (drop start s))
+  entry-none q b eb = ap (λ (r : Row). record { row = r; next = start }) eb ∙ there NoParam q
 
   module _ (n v m len : ℕ) (q : g ≡ IsParam n v m len) where
-    pub entry-found : record { row = e ∷ start ∷ n ∷ (start + v) ∷ m ∷ []; next = start + len } ≡ entryOf e start (paramAt (drop start s))
+    pub entry-found : record { row = record { element = e; «name_start» = start; «name_len» = n; «value_start» = start + v; «value_len» = m }; next = start + len } ≡ entryOf e start (paramAt (drop start s))
     entry-found = there (IsParam n v m len) q
 
     module _ (h : start ≤ length s) (l : length s < 2 ^ 64) where
@@ -54,8 +56,8 @@ pub ruleset entry-laws = (entry-none, entry-found, value-fits, behind-fits)
 record Passed (s : List ℕ) (e start before : ℕ) (x : Entry) : Type 0 where
   further : start < x .next
   within-s : x .next ≤ length s
-  on : isAt s (x .next) 32 ≡ true → ahead e start before (drop start s) ≡ firstOf (x .row) (ahead e (x .next + 1) (x .next) (drop (x .next + 1) s))
-  last : isAt s (x .next) 32 ≡ false → ahead e start before (drop start s) ≡ firstOf (x .row) (noneAt (x .next))
+  on : isAt s (x .next) 32 ≡ true → ahead e start before (drop start s) ≡ firstOf (rowOf (x .row)) (ahead e (x .next + 1) (x .next) (drop (x .next + 1) s))
+  last : isAt s (x .next) 32 ≡ false → ahead e start before (drop start s) ≡ firstOf (rowOf (x .row)) (noneAt (x .next))
 
 module _ (s : List ℕ) (e start before : ℕ) (x : Entry) (ex : x ≡ entryOf e start (paramAt (drop start s))) (h : start ≤ length s) where
   none : x .next ≡ start → ahead e start before (drop start s) ≡ noneAt before
@@ -118,7 +120,7 @@ module _ (s : List ℕ) (e at n next start : ℕ) (c : Walked s e at n next star
     step = passed s e start next x ex (c .start-within) z
 
     walked-last : isAt s (x .next) 32 ≡ false → walkFrom s at ≡ record { count = n + 1; next = x .next }
-    walked-last h = c .whole ∙ ap (plus n) (step .last h) ∙ plus-first n (x .row) (noneAt (x .next)) ∙ plus-none (n + 1) (x .next)
+    walked-last h = c .whole ∙ ap (plus n) (step .last h) ∙ plus-first n (rowOf (x .row)) (noneAt (x .next)) ∙ plus-none (n + 1) (x .next)
 
     walked-on : isAt s (x .next) 32 ≡ true → Walked s e at (n + 1) (x .next) (x .next + 1)
     walked-on h =
@@ -126,7 +128,7 @@ module _ (s : List ℕ) (e at n next start : ℕ) (c : Walked s e at n next star
           start-within = omega (arith, at-below s (x .next) 31 h);
           next-before = omega arith;
           few = omega (arith, c .few, step .further);
-          whole = c .whole ∙ ap (plus n) (step .on h) ∙ plus-first n (x .row) (ahead e (x .next + 1) (x .next) (drop (x .next + 1) s));
+          whole = c .whole ∙ ap (plus n) (step .on h) ∙ plus-first n (rowOf (x .row)) (ahead e (x .next + 1) (x .next) (drop (x .next + 1) s));
         }
 
     -- the whole walk goes at least so far
@@ -263,7 +265,7 @@ module _ (s : List ℕ) (e at stop : ℕ) (old : List (List ℕ)) (first end : �
         pub index-within : first + n < length table
         index-within = omega (arith, below, c .same, t .end-within)
 
-        step-is : (rest : Params) → ahead e start next (drop start s) ≡ firstOf (x .row) rest → drop n (paramsFrom e at (drop at s) .rows) ≡ x .row ∷ rest .rows
+        step-is : (rest : Params) → ahead e start next (drop start s) ≡ firstOf (rowOf (x .row)) rest → drop n (paramsFrom e at (drop at s) .rows) ≡ rowOf (x .row) ∷ rest .rows
         step-is rest a = c .left ∙ ap (λ (ps : Params). ps .rows) a
 
         enough : n ≤ length (paramsFrom e at (drop at s) .rows)
@@ -273,7 +275,7 @@ module _ (s : List ℕ) (e at stop : ℕ) (old : List (List ℕ)) (first end : �
         step-here = step s e at n next start (c .walk) x ex z
 
         module _ (d : Bool) (ed : d ≡ isAt s (x .next) 32) where
-          pub stored-last : not d ≡ true → Stores s e at old first end (record { count = n + 1; next = x .next }) (set table (first + n) (x .row))
+          pub stored-last : not d ≡ true → Stores s e at old first end (record { count = n + 1; next = x .next }) (set table (first + n) (rowOf (x .row)))
           stored-last h =
               let b : isAt s (x .next) 32 ≡ false = sym ed ∙ not-true d h in
               let w = walked-last s e at n next start (c .walk) x ex z b in
@@ -281,20 +283,18 @@ module _ (s : List ℕ) (e at stop : ℕ) (old : List (List ℕ)) (first end : �
                 ends = Ends.whole (sym w);
                 kept = n + 1;
                 few = omega (arith, below);
-                stored = store-one old table first n _ _ (x .row) enough (c .stored) (step-is (noneAt (x .next)) (step-here .last b));
+                stored = store-one old table first n _ _ (rowOf (x .row)) enough (c .stored) (step-is (noneAt (x .next)) (step-here .last b));
                 all = λ b. omega (arith, rows-counted, ap (λ (w : Walk). w .count) w);
               }
 
-          pub storing-on : not d ≡ false → Storing s e at old first end (set table (first + n) (x .row)) (n + 1) (x .next) (x .next + 1)
+          pub storing-on : not d ≡ false → Storing s e at old first end (set table (first + n) (rowOf (x .row))) (n + 1) (x .next) (x .next + 1)
           storing-on h =
               let b : isAt s (x .next) 32 ≡ true = sym ed ∙ not-false d h in
               let i = step-is (ahead e (x .next + 1) (x .next) (drop (x .next + 1) s)) (step-here .on b) in
               record {
                 walk = walked-on s e at n next start (c .walk) x ex z b;
                 high = omega (arith, below);
-                same = length-set table (first + n) (x .row) ∙ c .same;
-                stored = store-one old table first n _ _ (x .row) enough (c .stored) i;
-                left = rest-left old table first n _ _ (x .row) enough (c .stored) i;
+                same = length-set table (first + n) (rowOf (x .row)) ∙ c .same;
+                stored = store-one old table first n _ _ (rowOf (x .row)) enough (c .stored) i;
+                left = rest-left old table first n _ _ (rowOf (x .row)) enough (c .stored) i;
               }
-
-pub ruleset store-laws = (storing-none, stored-all, index-fits, stored-given-up, index-within, count-fits, stored-last, next-fits, walk-less, storing-on)

@@ -262,5 +262,3 @@ module _ (rules : Rules) (s : List ℕ) (at e p : ℕ) (e₀ p₀ : List (List �
 
             pub params-fit : Fits w64 (j + r .params)
             params-fit = record { fits = omega (arith, c .line-fits, filling-on .params-few, moved) }
-
-pub ruleset fill-laws = (filling-none, filled-all, index-within, start-fits, dead-none, holds, closes, fill-less, filling-on, elements-fit, params-fit)

@@ -13,3 +13,4 @@ pub mod Counting
 pub mod Filling
 pub mod Examples
 pub mod Within
+pub mod Contracts

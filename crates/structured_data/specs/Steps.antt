@@ -7,6 +7,7 @@ use lib.Dec.{leb, eqb}
 use lib.ListN.{length, take, drop}
 use lib.Seq.{sets}
 use Rattle.base.specs.Choose.{if_then_else_, isAt}
+use Rattle.record.specs.Params.{blank}
 use Rattle.parsers.specs.Steps.{blanksFrom}
 use Rattle.parsers.specs.declared.Pos.{Pos}
 use Rattle.parsers.specs.declared.Pos.the-variants.{NoPos, IsPos}
@@ -36,10 +37,10 @@ walkOf ps = record { count = length (ps .rows); next = ps .next }
 abbrev pub walkFrom : List ℕ → ℕ → Walk
 walkFrom s at = walkOf (paramsFrom 0 at (drop at s))
 
--- the row of a parameter of element `e` at `start`, and the position behind it
+-- the entry of a parameter of element `e` at `start`, and the position behind it
 abbrev pub entryOf : ℕ → ℕ → Param → Entry
-entryOf e start NoParam = record { row = 0 ∷ 0 ∷ 0 ∷ 0 ∷ 0 ∷ []; next = start }
-entryOf e start (IsParam n v m len) = record { row = e ∷ start ∷ n ∷ (start + v) ∷ m ∷ []; next = start + len }
+entryOf e start NoParam = record { row = blank; next = start }
+entryOf e start (IsParam n v m len) = record { row = record { element = e; «name_start» = start; «name_len» = n; «value_start» = start + v; «value_len» = m }; next = start + len }
 
 -- the element whose parameters start at `at` fails
 abbrev pub Fails : List ℕ → ℕ → Type 0

@@ -3,11 +3,13 @@ use parsers::Pos;
 use record::Record;
 ghost use mathlib.Core.Path.{_≡_};
 ghost use mathlib.Core.Bool.{false};
-ghost use Prim.Native.Nat.{_≤_};
+ghost use mathlib.Core.List.{[], _∷_};
+ghost use Prim.Native.Nat.{_+_, _^_, _≤_, _<_};
 ghost use lib.Dec.{leb, eqb};
-ghost use lib.ListN.{length, drop};
+ghost use lib.ListN.{length, drop, set};
 ghost use Rattle.base.specs.Choose.{if_then_else_};
 ghost use Rattle.base.specs.Runs.{run};
+ghost use Rattle.record.specs.Params.{rows};
 ghost use Rattle.structured_data.specs.Param.{isNamed, quotedLen, paramAt};
 ghost use Rattle.structured_data.specs.Element.{idLen};
 ghost use Rattle.structured_data.specs.Element.Element.{noElement};
@@ -39,9 +41,9 @@ struct Walk {
     next: usize,
 }
 
-// A parameter's row, and the position behind it: where it would have started, if there is none.
+// A parameter's entry, and the position behind it: where it would have started, if there is none.
 struct Entry {
-    row: [usize; 5],
+    row: record::Param,
     next: usize,
 }
 
@@ -168,7 +170,7 @@ fn id_len(s: &[u8]) -> usize
     i
 }
 
-// The row of a parameter of element `e` at `start`.
+// The entry of a parameter of element `e` at `start`.
 fn entry_from(s: &[u8], e: usize, start: usize) -> Entry
     requires { ⌜ start ≤ length (now s) ⌝ }
     ensures { λ r. ⌜ r ≡ entryOf e start (paramAt (drop start (now (s .entry)))) ⌝ }
@@ -181,14 +183,34 @@ fn entry_from(s: &[u8], e: usize, start: usize) -> Entry
     } = param_at(base::past(s, start))
     else {
         return Entry {
-            row: [0, 0, 0, 0, 0],
+            row: record::blank(),
             next: start,
         };
     };
+    let row = record::Param {
+        element: e,
+        name_start: start,
+        name_len: name,
+        value_start: start + value,
+        value_len,
+    };
     Entry {
-        row: [e, start, name, start + value, value_len],
+        row,
         next: start + len,
     }
+}
+
+fn row_of(entry: Entry) -> record::Param
+    ensures { λ r. ⌜ r ≡ entry .row ⌝ }
+{
+    let row = entry.row;
+    row
+}
+
+fn walk_to(count: usize, next: usize) -> Walk
+    ensures { λ r. ⌜ r ≡ record { count = count; next = next } ⌝ }
+{
+    Walk { count, next }
 }
 
 // The parameters at `at`: none, or one and those behind it, each after one space. Past `stop` the walk is given up, since it fails.
@@ -223,12 +245,12 @@ fn fill_params(
     e: usize,
     at: usize,
     stop: usize,
-    params: &mut [[usize; 5]],
+    params: &mut [record::Param],
     first: usize,
     end: usize,
 ) -> Walk
-    requires { ⌜ Holds (now s) at stop (now params) first end ⌝ }
-    ensures { λ r. ⌜ Stores (now (s .entry)) e at (now (params .entry)) first end r (now (params .exit)) ⌝ }
+    requires { ⌜ Holds (now s) at stop (rows (now params)) first end ⌝ }
+    ensures { λ r. ⌜ Stores (now (s .entry)) e at (rows (now (params .entry))) first end r (rows (now (params .exit))) ⌝ }
 {
     let mut count = 0;
     let mut next = at;
@@ -237,20 +259,22 @@ fn fill_params(
         let entry = entry_from(s, e, start);
         let behind = entry.next;
         if behind == start {
-            return Walk { count, next };
+            return walk_to(count, next);
         }
         let i = first + count;
         if (i == end) | (stop < behind) {
-            return Walk { count: 0, next: at };
+            return walk_to(0, at);
         }
-        let row = entry.row;
-        params[i] = row;
+        let row = row_of(entry);
+        entries::store(params, i, row);
         count += 1;
         next = behind;
-        if !base::is_at(s, next, b' ') {
-            return Walk { count, next };
+        let more = base::is_at(s, next, b' ');
+        if more {
+            start = next + 1;
+        } else {
+            return walk_to(count, next);
         }
-        start = next + 1;
     }
 }
 
@@ -430,6 +454,15 @@ pub fn count_data(rules: Rules, s: &[u8], at: usize) -> Counts
     }
 }
 
+// The id of an element that starts at `start`.
+fn put_id(elements: &mut [[usize; 2]], i: usize, start: usize, id: usize)
+    requires { ⌜ i < length (now elements) ⌝ }
+    requires { ⌜ start + 1 < 2 ^ 64 ⌝ }
+    ensures { λ _. ⌜ now (elements .exit) ≡ set (now (elements .entry)) i ((start + 1) ∷ id ∷ []) ⌝ }
+{
+    elements[i] = [start + 1, id];
+}
+
 // The rows of the structured data at `at`, which has `e` elements and `p` parameters, into both tables. The rows of an element that turns out
 // to fail are stored over.
 pub fn fill_data(
@@ -439,10 +472,10 @@ pub fn fill_data(
     e: usize,
     p: usize,
     elements: &mut [[usize; 2]],
-    params: &mut [[usize; 5]],
+    params: &mut [record::Param],
 )
-    requires { ⌜ Room rules (now s) at e p (now elements) (now params) ⌝ }
-    ensures { λ _. ⌜ Fills rules (now (s .entry)) at (now (elements .entry)) (now (params .entry)) (now (elements .exit)) (now (params .exit)) ⌝ }
+    requires { ⌜ Room rules (now s) at e p (now elements) (rows (now params)) ⌝ }
+    ensures { λ _. ⌜ Fills rules (now (s .entry)) at (now (elements .entry)) (rows (now (params .entry))) (now (elements .exit)) (rows (now (params .exit))) ⌝ }
 {
     let mut i = 0;
     let mut j = 0;
@@ -450,10 +483,12 @@ pub fn fill_data(
     let mut dead = 0;
     while i < e {
         let open = open_from(s, start);
+        let id = open.id;
+        let from = open.start;
         let stop = stop_from(s, start, dead);
-        elements[i] = [start + 1, open.id];
-        let walk = fill_params(s, i, open.start, stop, params, j, p);
-        let turn = turn_from(rules, s, start, open.id, walk, dead);
+        put_id(elements, i, start, id);
+        let walk = fill_params(s, i, from, stop, params, j, p);
+        let turn = turn_from(rules, s, start, id, walk, dead);
         i += turn.elements;
         j += turn.params;
         start = turn.next;

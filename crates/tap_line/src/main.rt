@@ -30,16 +30,30 @@ fn write_printed(w: Written, out: &[u8]) -> bool {
     io::write_all(STDOUT_FILENO, b"\n")
 }
 
+// Reads a line with a parameter table of its own.
+fn read_line(
+    line: &[u8],
+    variant: u32,
+    year: u32,
+    offset: i32,
+    elements: &mut [[usize; 2]],
+) -> Reading {
+    let blank = record::blank();
+    let mut params = [blank; 4];
+    loose::read_exact(line, variant, year, offset, elements, &mut params)
+}
+
 fn main() {
     let line = *b"<13>Feb  5 10:01:02 gate7 reader[42]: tap ok";
     let mut elements = [[0usize; 2]; 4];
-    let mut params = [[0usize; 5]; 4];
     let mut out = [0u8; 128];
-    let reading = loose::read_exact(&line, 0, 2023, 60, &mut elements, &mut params);
-    let Reading::Read(r, e, p) = reading else {
+    let reading = read_line(&line, 0, 2023, 60, &mut elements);
+    let Reading::Read(r, e, _) = reading else {
         return;
     };
     write_seconds(r);
-    let w = message::print(&line, r, e, p, &elements, &params, &mut out);
+    // The line has no parameters.
+    let params = [[0usize; 5]; 1];
+    let w = message::print(&line, r, e, 0, &elements, &params, &mut out);
     write_printed(w, &out);
 }

@@ -1,130 +1,75 @@
--- `elements::fill_data` meets its contract. The invariant: the rows that are stored and the rows of what is left are all the rows. Assumes nothing.
-use Prim.Native.Nat.{ℕ, _+_, _-_}
-use mathlib.Core.List.{List}
-use native.Mathlib.Omega.{arith}
-use denote.Ref.{now}
-use Rattle.elements.specs.declared.Entry.{Entry}
-use Rattle.elements.proofs.Filling.{Walk, Opened, Held, Passed, data-fits, walk-start, walk-lies, walk-opens, walk-holds, walk-passes, walk-elements-length, walk-params-length, walk-elements, walk-params}
-use Rattle.elements.proofs.fill_data.Statement.{statement}
-use Rattle.elements.proofs.fill_data.Tie as tie
+-- `elements::fill_data` meets its contract: a derivation by hand, a line for each statement of its MIR. The invariant: the rows that are stored and the rows of what is left are all the rows.
+use Rattle.rules.specs.Derive.{ℕ, _≤_, _<_, _+_, _-_, arith, _≡_, refl, sym, subst, ap, _∙_, List, [], _∷_, length, set, length-set, tyUnit, tyBool, tyInt, sliceTy, w64, lt, add, unsigned, Lfts, Shares, tablesOf, ltb-true, ltb-false, fix-len, World, world, Cx, Row, lease, off, sc-here, any-gone, sBool, sUnit, i64, bytes, pair, here, lost, shr, muts, slots₃, R·, eT, cx, Derived, Laid, proves, cites, Asked, Learnt, _▹_, _▸_, _◂_, at, join, put, puts, calls, lends, packs, back, begin, finish, lose, branch, room, blocks, loops, nexts, exits, returns, last, gone, over, struct, sc, num, fld, lit, unit, part, owed, same, held, lent, lend, none, by-num, by-val, by-mut, by-shr}
+use mathlib.Core.Bool.{true}
+use Rattle.record.specs.declared.Param.{Param}
+use Rattle.record.specs.Params.{rowOf, rows}
+use Rattle.record.proofs.Params.{rows-length, rows-set}
+use Rattle.entries.proofs.Contracts as E
+use Rattle.entries.proofs.store.Symbol as Es
+use Rattle.entries.proofs.store.Met as Em
+use Rattle.elements.proofs.Contracts as C
+use Rattle.elements.proofs.Filling.{Walk, Stepped, data-fits, walk-start, walk-stepping, walk-step, walk-elements-length, walk-params-length, walk-elements, walk-params}
+use Rattle.elements.specs.declared.Step.{Step}
+use Rattle.elements.proofs.fill_data.Key
+use Rattle.elements.proofs.fill_data.Statement as stated
+use Rattle.elements.proofs.fill_data.Code as code
+use Rattle.elements.proofs.take_step.Kinds as Tk
+use Rattle.elements.proofs.take_step.Reads as Tr
+use Rattle.elements.proofs.take_step.Symbol as Ts
+use Rattle.elements.proofs.take_step.Met as Tm
+use Rattle.elements.proofs.row_of.Kinds as Rk
+use Rattle.elements.proofs.row_of.Reads as Rr
+use Rattle.elements.proofs.row_of.Symbol as Rs
+use Rattle.elements.proofs.row_of.Met as Rm
 
-abbrev Inv-loop : tie.InvT-loop
-Inv-loop line at len elements₀ params₀ end i₀ e₀ p₀ elements params i e p = Walk line at end elements₀ params₀ elements params i e p
+-- the walk behind a parameter that is stored
+module _ (line : List ℕ) (from end : ℕ) (e₀ p₀ : List (List ℕ)) (p q : List Param) (i m : ℕ) (s : Step) (e′ : List (List ℕ)) (x : Param) where
+  in-table : Stepped line from end e₀ p₀ (rows p) i m s e′ → s .holds ≡ true → x ≡ s .row → q ≡ set p m x → Walk line from end e₀ p₀ e′ (rows q) (s .next) (s .opened) (m + 1)
+  in-table d h ex eq = subst (λ (y : List (List ℕ)). Walk line from end e₀ p₀ e′ y (s .next) (s .opened) (m + 1)) (ap (λ (y : Param). set (rows p) m (rowOf y)) (sym ex) ∙ sym (rows-set p m x) ∙ ap rows (sym eq)) (d .stored h)
 
-abbrev μ-loop : tie.MeasureT-loop
-μ-loop line at len elements₀ params₀ end i₀ e₀ p₀ elements params i e p = end - i
+same-size : {line : List ℕ} {from end i n m : ℕ} {e₀ e : List (List ℕ)} (p₀ p : List Param) → Walk line from end e₀ (rows p₀) e (rows p) i n m → length p ≡ length p₀
+same-size p₀ p w = sym (rows-length p) ∙ walk-params-length _ _ _ _ _ _ _ _ _ _ w ∙ rows-length p₀
 
--- what an arm knows
-abbrev Arm : (List ℕ → ℕ → ℕ → List (List ℕ) → List (List ℕ) → List (List ℕ) → List (List ℕ) → ℕ → ℕ → ℕ → Entry → Type 0) → tie.After-next Inv-loop μ-loop → Type 0
-Arm T c =
-    let a = c .before .before .before .before .args in
-    let l = c .before .before .loop in
-    T (now (a .line)) (a .at) (a .at + a .len) (now (a .elements)) (now (a .params)) (l .elements) (l .params) (l .i) (l .e) (l .p) (c .next .result)
+module _ (w : World) where
+  -- the context, by the row of s
+  abbrev held-at : Lfts 3 → Shares 3 → Row → Cx
+  held-at κs qs s = cx (any-gone tyUnit ∷ shr bytes 0 ∷ sc-here i64 ∷ sc-here i64 ∷ muts pair 1 ∷ muts (R· E.param) 2 ∷ sc-here i64 ∷ sc-here i64 ∷ sc-here i64 ∷ sc-here i64 ∷ s ∷ lost E.param ∷ any-gone tyBool ∷ any-gone (eT pair) ∷ any-gone (sliceTy (eT pair)) ∷ any-gone tyUnit ∷ any-gone (eT (R· E.param)) ∷ any-gone (sliceTy (eT (R· E.param))) ∷ []) (slots₃ κs qs (off ∷ []))
 
-opened : (c : tie.Then1 Inv-loop μ-loop) → Arm Opened (c .before)
-opened c = walk-opens _ _ _ _ _ _ _ _ _ _ (c .before .before .before .loop .inv) (c .before .before .loop-test .taken) _ (c .before .next .ensures) (c .if1 .taken)
+  abbrev derived : Derived C.fill-data w code.env Key.name 1 code.function
+  derived κs qs bs =
+      puts 6 i64 gone (add unsigned) (num 2 (sc i64) refl) (num 3 (sc i64) refl) refl (λ u. refl) (λ u. tt) ▹
+      put 7 i64 gone (num 2 (sc i64) refl) refl (λ u. refl) (λ u. tt) ▹
+      put 8 i64 gone (lit w64 0 tt) refl (λ u. refl) (λ u. tt) ▹
+      put 9 i64 gone (lit w64 0 tt) refl (λ u. refl) (λ u. tt) ▹ at (held-at κs qs (lost C.step)) ▸ (join (held-at κs qs (lost C.step)) (
+      blocks (loops {Vs = List (List ℕ) × (List Param × (ℕ × (ℕ × ℕ)))} (λ vs u. (u .0, (u .1 .0, (u .1 .1 .0, (u .1 .1 .1 .0, (record { ptr = u .1 .1 .1 .1 .0 .ptr; name = u .1 .1 .1 .1 .0 .name; now = vs .0 }, (record { ptr = u .1 .1 .1 .1 .1 .0 .ptr; name = u .1 .1 .1 .1 .1 .0 .name; now = vs .1 .0 }, (u .1 .1 .1 .1 .1 .1 .0, (vs .1 .1 .0, (vs .1 .1 .1 .0, (vs .1 .1 .1 .1, u .1 .1 .1 .1 .1 .1 .1 .1 .1 .1)))))))))))
+      (λ u vs. Walk (u .1 .0 .now) (u .1 .1 .0) (u .1 .1 .1 .1 .1 .1 .0) (u .1 .1 .1 .1 .0 .now) (rows (u .1 .1 .1 .1 .1 .0 .now)) (vs .0) (rows (vs .1 .0)) (vs .1 .1 .0) (vs .1 .1 .1 .0) (vs .1 .1 .1 .1)) (λ u vs. u .1 .1 .1 .1 .1 .1 .0 - vs .1 .1 .0) (
+      puts 12 sBool gone (lt unsigned) (num 7 (sc i64) refl) (num 6 (sc i64) refl) refl (λ u. refl) (λ u. tt) ▹
+      join (held-at κs qs (lost C.step)) (branch 12 (λ x. x) (sc sBool) refl (room 12 (over sBool) ▸ nexts tt) (room 12 (over sBool) ▸ exits 1 tt)) (begin 3 _ ▸
+      lends pair 4 13 1 3 same gone refl tt refl refl ▹
+      packs pair 13 14 3 same gone (fld 4 1 (owed pair 1 3 (lease (κs .1 .0) (qs .1 .0))) refl) refl refl ▹
+      calls 2 Tk.ps Tk.r Tr.Asked Tr.Learnt Ts.name (Tr.known w code.env Ts.name Ts.routine code.calls-elements·take-step (Tm.met (w .𝓤) (w .H) (w .𝓜) (w .𝓖) (w .𝓡))) (0 ∷ 3 ∷ []) (by-shr bytes 0 tt 1 0 lend refl (by-num w64 7 (sc i64) refl (by-num w64 8 (sc i64) refl (by-mut pair 1 tt 14 lent refl none)))) 10 gone (tt, (tt, tt)) refl ▹
+      finish 3 refl ▸ back pair 14 4 1 3 (lease (κs .1 .0) (qs .1 .0)) same same refl refl ▸ lose 3 refl ▸ at (held-at κs qs (here C.step)) ▸
+      put 12 sBool gone (fld 10 1 (part C.step 1 refl) refl) refl (λ u. refl) (λ u. tt) ▹
+      join (held-at κs qs (here C.step)) (branch 12 (λ x. x) (sc sBool) refl (
+      room 12 (over sBool) ▸ at (held-at κs qs (here C.step)) ▸
+      calls 0 Rk.ps Rk.r Rr.Asked Rr.Learnt Rs.name (Rr.known w code.env Rs.name Rs.routine code.calls-elements·row-of (Rm.met (w .𝓤) (w .H) (w .𝓜) (w .𝓖) (w .𝓡))) [] (by-val C.step 10 held refl none) 11 gone tt refl ▹ begin 3 _ ▸
+      lends (R· E.param) 5 16 2 3 same gone refl tt refl refl ▹
+      packs (R· E.param) 16 17 3 same gone (fld 5 1 (owed (R· E.param) 2 3 (lease (κs .1 .1 .0) (qs .1 .1 .0))) refl) refl refl ▹
+      calls 1 (E.store .ps) (E.store .r) (Asked E.store) (Learnt E.store) Es.name (cites E.store w code.env Es.name Es.routine code.calls-entries·store (Em.met (w .𝓤) (w .H) (w .𝓜) (w .𝓖) (w .𝓡))) (3 ∷ []) (by-mut (R· E.param) 0 tt 17 lent refl (by-num w64 9 (sc i64) refl (by-val E.param 11 held refl none))) 15 gone (tt, tt) refl ▹
+      finish 3 refl ▸ back (R· E.param) 17 5 2 3 (lease (κs .1 .1 .0) (qs .1 .1 .0)) same same refl refl ▸ lose 3 refl ▸ room 15 (over sUnit) ▸ room 11 (struct E.param refl) ▸ at (held-at κs qs (here C.step)) ▸
+      last tt (puts 9 i64 (over i64) (add unsigned) (num 9 (sc i64) refl) (lit w64 1 tt) refl (λ u. refl) (λ u. tt))) (
+      room 12 (over sBool) ▸ nexts tt)) (
+      put 7 i64 (over i64) (fld 10 3 (part C.step 3 refl) refl) refl (λ u. refl) (λ u. tt) ▹
+      last tt (put 8 i64 (over i64) (fld 10 2 (part C.step 2 refl) refl) refl (λ u. refl) (λ u. tt) ◂ room 10 (struct C.step refl))))))) (
+      put 0 sUnit gone unit refl (λ u. refl) (λ u. tt) ▹ room 2 (over i64) ▸ room 3 (over i64) ▸ room 6 (over i64) ▸ room 7 (over i64) ▸ room 8 (over i64) ▸ room 9 (over i64) ▸ returns tt))
 
-held : (c : tie.Then2 Inv-loop μ-loop) → Arm Held (c .before .before)
-held c = walk-holds _ _ _ _ _ _ _ _ _ _ (c .before .before .before .before .loop .inv) (c .before .before .before .loop-test .taken) _ (c .before .before .next .ensures) (c .if2 .taken)
+  laid : Laid C.fill-data w code.env Key.name 1 code.function derived
+  laid κs qs a good pre bs =
+      let start : List (List ℕ) × (List Param × (ℕ × (ℕ × ℕ))) = (a .1 .1 .1 .0 .now, (a .1 .1 .1 .1 .0 .now, (a .1 .0, (0, 0)))) in
+      let p₀ = rows (a .1 .1 .1 .1 .0 .now) in
+      let end = a .1 .0 + a .1 .1 .0 in
+      (data-fits (a .0 .now) (a .1 .0) (a .1 .1 .0) (a .1 .1 .1 .0 .now) p₀ pre (good .0 .0) (record { fits = good .1 .0 .1 }), ((start, refl, walk-start (a .0 .now) (a .1 .0) (a .1 .1 .0) (a .1 .1 .1 .0 .now) p₀ pre), λ vs inv. (tt, ((λ t. let l : vs .1 .1 .0 < end = ltb-true (vs .1 .1 .0) end t in λ γ. (refl, ((λ ls. walk-stepping (a .0 .now) (a .1 .0) end (a .1 .1 .1 .0 .now) p₀ (vs .0) (rows (vs .1 .0)) (vs .1 .1 .0) (vs .1 .1 .1 .0) (vs .1 .1 .1 .1) inv l), λ g. let d = walk-step (a .0 .now) (a .1 .0) end (a .1 .1 .1 .0 .now) p₀ (vs .0) (rows (vs .1 .0)) (vs .1 .1 .0) (vs .1 .1 .1 .0) (vs .1 .1 .1 .1) inv l (g .1) (g .2 .1 .1 .1 .0) (g .5 .0) (g .5 .1) in let room : g .1 .holds ≡ true → vs .1 .1 .1 .1 < length (vs .1 .0) = λ h. omega (arith, rows-length (vs .1 .0), d .room h) in (refl, λ k. ((λ h. ((λ ls. tt), λ g′. λ γ′. (refl, ((λ ls. room h), λ g″. (refl, λ k′. (record { fits = let r = room h in omega (arith, same-size (a .1 .1 .1 .1 .0 .now) (vs .1 .0) inv, good .1 .1 .1 .1 .0 .0) }, (end - g .1 .next, omega (arith, d .further), ((g .2 .1 .1 .1 .0, (g″ .2 .0, (g .1 .next, (g .1 .opened, vs .1 .1 .1 .1 + 1)))), refl, in-table (a .0 .now) (a .1 .0) end (a .1 .1 .1 .0 .now) p₀ (vs .1 .0) (g″ .2 .0) (vs .1 .1 .0) (vs .1 .1 .1 .1) (g .1) (g .2 .1 .1 .1 .0) (g′ .1) d h (g′ .5) (g″ .5), refl)))))))), (λ h. (end - g .1 .next, omega (arith, d .further), ((g .2 .1 .1 .1 .0, (vs .1 .0, (g .1 .next, (g .1 .opened, vs .1 .1 .1 .1)))), refl, d .kept h, refl)))))))), (λ f. let l : end ≤ vs .1 .1 .0 = ltb-false (vs .1 .1 .0) end f in ((refl, (tt, (tt, (fix-len (a .1 .1 .1 .0 .ptr) (a .1 .1 .1 .0 .name) (vs .0) (a .1 .1 .1 .0 .now) (walk-elements-length (a .0 .now) (a .1 .0) end (a .1 .1 .1 .0 .now) p₀ (vs .0) (rows (vs .1 .0)) (vs .1 .1 .0) (vs .1 .1 .1 .0) (vs .1 .1 .1 .1) inv), (fix-len (a .1 .1 .1 .1 .0 .ptr) (a .1 .1 .1 .1 .0 .name) (vs .1 .0) (a .1 .1 .1 .1 .0 .now) (same-size (a .1 .1 .1 .1 .0 .now) (vs .1 .0) inv), tt))))), (walk-elements (a .0 .now) (a .1 .0) end (a .1 .1 .1 .0 .now) p₀ (vs .0) (rows (vs .1 .0)) (vs .1 .1 .0) (vs .1 .1 .1 .0) (vs .1 .1 .1 .1) inv l, walk-params (a .0 .now) (a .1 .0) end (a .1 .1 .1 .0 .now) p₀ (vs .0) (rows (vs .1 .0)) (vs .1 .1 .0) (vs .1 .1 .1 .0) (vs .1 .1 .1 .1) inv l)))))))
 
-passed : (c : tie.Else2 Inv-loop μ-loop) → Arm Passed (c .before .before)
-passed c = walk-passes _ _ _ _ _ _ _ _ _ _ (c .before .before .before .before .loop .inv) (c .before .before .before .loop-test .taken) _ (c .before .before .next .ensures) (c .before .if1 .left) (c .if2 .left)
-
-add-end : tie.Need-add-end Inv-loop μ-loop
-add-end c = search data-fits
-
-loop-holds : tie.Need-loop-holds Inv-loop μ-loop
-loop-holds c = search walk-start
-
-next-requires : tie.Need-next-requires Inv-loop μ-loop
-next-requires c κs = search walk-lies
-
-add-t13 : tie.Need-add-t13 Inv-loop μ-loop
-add-t13 c = let t = opened c in omega arith
-
-mul-t15 : tie.Need-mul-t15 Inv-loop μ-loop
-mul-t15 c = let t = opened c in omega arith
-
-slice-set-from-elements : tie.Need-slice-set-from-elements Inv-loop μ-loop
-slice-set-from-elements c = opened c .room
-
-add-e : tie.Need-add-e Inv-loop μ-loop
-add-e c = let t = opened c in omega arith
-
-sub-t18 : tie.Need-sub-t18 Inv-loop μ-loop
-sub-t18 c = let t = held c in omega arith
-
-add-t19 : tie.Need-add-t19 Inv-loop μ-loop
-add-t19 c = let t = held c in omega arith
-
-add-t20 : tie.Need-add-t20 Inv-loop μ-loop
-add-t20 c = let t = held c in omega arith
-
-add-t21 : tie.Need-add-t21 Inv-loop μ-loop
-add-t21 c = let t = held c in omega arith
-
-mul-t23 : tie.Need-mul-t23 Inv-loop μ-loop
-mul-t23 c = let t = held c in omega arith
-
-slice-set-from-params : tie.Need-slice-set-from-params Inv-loop μ-loop
-slice-set-from-params c = held c .room
-
-add-p : tie.Need-add-p Inv-loop μ-loop
-add-p c = let t = held c in omega arith
-
-loop-less : tie.Need-loop-less Inv-loop μ-loop
-loop-less c = let t = opened c in omega arith
-
-loop-again : tie.Need-loop-again Inv-loop μ-loop
-loop-again c = opened c .walk
-
-loop-less-2 : tie.Need-loop-less-2 Inv-loop μ-loop
-loop-less-2 c = let t = held c in omega arith
-
-loop-again-2 : tie.Need-loop-again-2 Inv-loop μ-loop
-loop-again-2 c = held c .walk
-
-loop-less-3 : tie.Need-loop-less-3 Inv-loop μ-loop
-loop-less-3 c = let t = passed c in omega arith
-
-loop-again-3 : tie.Need-loop-again-3 Inv-loop μ-loop
-loop-again-3 c = passed c .walk
-
-same-length : tie.Need-same-length Inv-loop μ-loop
-same-length c = search walk-elements-length
-
-same-length-2 : tie.Need-same-length-2 Inv-loop μ-loop
-same-length-2 c = search walk-params-length
-
-returns : tie.Need-returns Inv-loop μ-loop
-returns c = search (walk-elements, walk-params)
-
-pub fill-data-spec : {M : Type 1} → statement M
-fill-data-spec =
-    tie.close
-    (tie.spec
-    Inv-loop
-    μ-loop
-    add-end
-    loop-holds
-    next-requires
-    add-t13
-    mul-t15
-    slice-set-from-elements
-    add-e
-    sub-t18
-    add-t19
-    add-t20
-    add-t21
-    mul-t23
-    slice-set-from-params
-    add-p
-    loop-less
-    loop-again
-    loop-less-2
-    loop-again-2
-    loop-less-3
-    loop-again-3
-    same-length
-    same-length-2
-    returns)
+pub fill-data-spec : {M : Type 1} → stated.statement M
+unfolding code.routine tablesOf
+fill-data-spec 𝓤 H 𝓜 𝓖 𝓡 = proves C.fill-data (world 𝓤 H 𝓜 𝓖 𝓡) code.env Key.name 1 code.function refl (code.unfolded 𝓤 H 𝓜 𝓡) (derived (world 𝓤 H 𝓜 𝓖 𝓡)) (laid (world 𝓤 H 𝓜 𝓖 𝓡))

@@ -1,49 +1,69 @@
-use borrow.Author.Needs.{needs}
-use Rattle.exports.proofs.Calls.{strict-laws}
-use Rattle.exports.proofs.khamdoriem_read_strict.Statement.{statement}
-use Rattle.exports.proofs.khamdoriem_read_strict.Tie as tie
+-- `exports::khamdoriem_read_strict` meets its contract: a derivation by hand. With too little memory the answer alone is asked for; else both tables are lent on to the reader, and the memory for its record.
+use Rattle.rules.specs.Derive.{Asked, Cx, Derived, Laid, Learnt, Lfts, Life, List, Row, R·, Shares, World, [], _<_, _∷_, _≤_, _▸_, _▹_, alive, any-gone, at, back, begin, branch, by-choice, by-mut, by-num, by-shr, bytes, calls, choice, chosen-held, cites, cx, eT, finish, fix-len, fld, gone, i64, join, lease, leased, len, lend, lends, length, lent, lit, lose, lt, ltb-false, ltb-true, made, muts, nexts, none, num, off, over, owed, owing, packs, pair, proves, put, puts, refl, returns, room, sBool, same, sc, shr, sliceTy, spent, tablesOf, tyBool, tyInt, unmade, unsigned, w32, w64, world}
+use Rattle.record.specs.Params.{rows}
+use Rattle.record.specs.Answers.{strictAnswerOf}
+use Rattle.record.proofs.Params.{rows-length}
+use Rattle.entries.proofs.Contracts as E
+use Rattle.strict.proofs.Contracts as O
+use Rattle.strict.proofs.answer.Kinds as Ak
+use Rattle.strict.proofs.answer.Reads as Ar
+use Rattle.strict.proofs.answer.Symbol as As
+use Rattle.strict.proofs.answer.Met as Am
+use Rattle.strict.proofs.read.Symbol as Rs
+use Rattle.strict.proofs.read.Met as Rm
+use Rattle.exports.proofs.Contracts as C
+use Rattle.exports.proofs.khamdoriem_read_strict.Key
+use Rattle.exports.proofs.khamdoriem_read_strict.Statement as stated
+use Rattle.exports.proofs.khamdoriem_read_strict.Code as code
+use Rattle.exports.proofs.Calls.{strict-short, strict-all}
+use Rattle.exports.proofs.short_strict.Kinds as Sk
+use Rattle.exports.proofs.short_strict.Reads as Sr
+use Rattle.exports.proofs.short_strict.Symbol as Ss
+use Rattle.exports.proofs.short_strict.Met as Sm
+use Rattle.exports.proofs.leave_strict.Kinds as Lk
+use Rattle.exports.proofs.leave_strict.Reads as Lr
+use Rattle.exports.proofs.leave_strict.Symbol as Ls
+use Rattle.exports.proofs.leave_strict.Met as Lm
 
-answer-requires : tie.Need-answer-requires
-answer-requires c κs = search needs
+module _ (w : World) where
+  -- the context, by the rows of the tables and the memory, the reading and the answer, and what is lent of each
+  abbrev call-at : Row → Row → Row → Row → Row → Row → Row → List Life → Cx
+  call-at e p m r a e′ p′ ls = cx (any-gone (tyInt w32) ∷ shr bytes 0 ∷ e ∷ p ∷ m ∷ any-gone (tyInt w64) ∷ any-gone (tyInt w64) ∷ any-gone (tyInt w64) ∷ r ∷ any-gone tyBool ∷ a ∷ any-gone (eT pair) ∷ e′ ∷ any-gone (eT (R· E.param)) ∷ p′ ∷ any-gone (eT bytes) ∷ any-gone (sliceTy (eT bytes)) ∷ []) ls
 
-strict-answer-of-requires : tie.Need-strict-answer-of-requires
-strict-answer-of-requires c κs = search needs
+  -- nothing is lent
+  abbrev head-at : Lfts 4 → Shares 4 → Row → Row → Cx
+  head-at κs qs r a = call-at (muts pair 1) (muts (R· E.param) 2) (muts bytes 3) r a (any-gone (sliceTy (eT pair))) (any-gone (sliceTy (eT (R· E.param)))) ((lease (κs .0) (qs .0)) ∷ (lease (κs .1 .0) (qs .1 .0)) ∷ (lease (κs .1 .1 .0) (qs .1 .1 .0)) ∷ (lease (κs .1 .1 .1 .0) (qs .1 .1 .1 .0)) ∷ off ∷ off ∷ [])
 
-short-requires : tie.Need-short-requires
-short-requires c κs = search needs
+  -- both tables are
+  abbrev lent-at : Lfts 4 → Shares 4 → Row → Row → Row → Cx
+  lent-at κs qs r e p = call-at (owing pair 1 4 (lease (κs .1 .0) (qs .1 .0))) (owing (R· E.param) 2 5 (lease (κs .1 .1 .0) (qs .1 .1 .0))) (muts bytes 3) r (unmade O.reading) e p ((lease (κs .0) (qs .0)) ∷ off ∷ off ∷ (lease (κs .1 .1 .1 .0) (qs .1 .1 .1 .0)) ∷ alive ∷ alive ∷ [])
 
-returns : tie.Need-returns
-returns c = search (strict-laws, needs)
+  abbrev derived : Derived C.read-strict w code.env Key.name 2 code.function
+  derived κs qs bs =
+      put 5 i64 gone (fld 4 1 (len bytes 3) refl) refl (λ u. refl) (λ u. tt) ▹
+      puts 9 sBool gone (lt unsigned) (num 5 (sc i64) refl) (lit w64 240 tt) refl (λ u. refl) (λ u. tt) ▹ room 5 (over i64) ▸
+      join (head-at κs qs (unmade O.reading) (unmade O.reading)) (branch 9 (λ x. x) (sc sBool) refl (
+      room 9 (over sBool) ▸ at (head-at κs qs (unmade O.reading) (unmade O.reading)) ▸
+      put 6 i64 gone (fld 2 1 (len pair 1) refl) refl (λ u. refl) (λ u. tt) ▹
+      put 7 i64 gone (fld 3 1 (len (R· E.param) 2) refl) refl (λ u. refl) (λ u. tt) ▹
+      calls 1 Ak.ps Ak.r Ar.Asked Ar.Learnt As.name (Ar.known w code.env As.name As.routine code.calls-strict·answer (Am.met (w .𝓤) (w .H) (w .𝓜) (w .𝓖) (w .𝓡))) (0 ∷ []) (by-shr bytes 0 tt 1 0 lend refl (by-num w64 6 (sc i64) refl (by-num w64 7 (sc i64) refl none))) 10 gone (tt, tt) refl ▹ room 6 (over i64) ▸ room 7 (over i64) ▸ at (head-at κs qs (unmade O.reading) (made O.reading)) ▸
+      calls 0 Sk.ps Sk.r Sr.Asked Sr.Learnt Ss.name (Sr.known w code.env Ss.name Ss.routine code.calls-exports·short-strict (Sm.met (w .𝓤) (w .H) (w .𝓜) (w .𝓖) (w .𝓡))) [] (by-choice O.reading 10 chosen-held refl none) 0 gone tt refl ▹ room 10 (choice O.reading refl) ▸ returns tt) (
+      room 9 (over sBool) ▸ nexts tt)) (begin 4 _ ▸ begin 5 _ ▸
+      lends pair 2 11 1 4 same gone refl tt refl refl ▹
+      packs pair 11 12 4 same gone (fld 2 1 (owed pair 1 4 (lease (κs .1 .0) (qs .1 .0))) refl) refl refl ▹
+      lends (R· E.param) 3 13 2 5 same gone refl tt refl refl ▹
+      packs (R· E.param) 13 14 5 same gone (fld 3 1 (owed (R· E.param) 2 5 (lease (κs .1 .1 .0) (qs .1 .1 .0))) refl) refl refl ▹ at (lent-at κs qs (unmade O.reading) (leased pair 4) (leased (R· E.param) 5)) ▸
+      calls 3 (O.read .ps) (O.read .r) (Asked O.read) (Learnt O.read) Rs.name (cites O.read w code.env Rs.name Rs.routine code.calls-strict·read (Rm.met (w .𝓤) (w .H) (w .𝓜) (w .𝓖) (w .𝓡))) (0 ∷ 4 ∷ 5 ∷ []) (by-shr bytes 0 tt 1 0 lend refl (by-mut pair 1 tt 12 lent refl (by-mut (R· E.param) 2 tt 14 lent refl none))) 8 gone (tt, (tt, (tt, tt))) refl ▹ at (lent-at κs qs (made O.reading) (spent pair) (spent (R· E.param))) ▸
+      finish 5 refl ▸ back (R· E.param) 14 3 2 5 (lease (κs .1 .1 .0) (qs .1 .1 .0)) same same refl refl ▸ lose 5 refl ▸ finish 4 refl ▸ back pair 12 2 1 4 (lease (κs .1 .0) (qs .1 .0)) same same refl refl ▸ lose 4 refl ▸ at (head-at κs qs (made O.reading) (unmade O.reading)) ▸ begin 4 _ ▸
+      lends bytes 4 15 3 4 same gone refl tt refl refl ▹
+      packs bytes 15 16 4 same gone (fld 4 1 (owed bytes 3 4 (lease (κs .1 .1 .1 .0) (qs .1 .1 .1 .0))) refl) refl refl ▹
+      calls 1 Lk.ps Lk.r Lr.Asked Lr.Learnt Ls.name (Lr.known w code.env Ls.name Ls.routine code.calls-exports·leave-strict (Lm.met (w .𝓤) (w .H) (w .𝓜) (w .𝓖) (w .𝓡))) (4 ∷ []) (by-choice O.reading 8 chosen-held refl (by-mut bytes 0 tt 16 lent refl none)) 0 gone (tt, tt) refl ▹
+      finish 4 refl ▸ back bytes 16 4 3 4 (lease (κs .1 .1 .1 .0) (qs .1 .1 .1 .0)) same same refl refl ▸ lose 4 refl ▸ room 8 (choice O.reading refl) ▸ returns tt)
 
-read-requires : tie.Need-read-requires
-read-requires c κs = search needs
+  laid : Laid C.read-strict w code.env Key.name 2 code.function derived
+  laid κs qs a good pre bs =
+      (tt, ((λ t. let l : length ((a .1 .1 .1 .0) .now) < 240 = ltb-true (length ((a .1 .1 .1 .0) .now)) 240 t in ((λ ls. tt), λ g. ((λ ls. tt), λ n. ((refl, (refl, (refl, (refl, tt)))), strict-short (a .0 .now) ((a .1 .0) .now) (rows ((a .1 .1 .0) .now)) ((a .1 .1 .1 .0) .now) l (g .1) (rw (rows-length ((a .1 .1 .0) .now)) (g .5)) (strictAnswerOf (g .1)) refl (n .1) (n .5))))), (λ f. let l : 240 ≤ length ((a .1 .1 .1 .0) .now) = ltb-false (length ((a .1 .1 .1 .0) .now)) 240 f in λ γ. (refl, λ γ′. (refl, ((λ ls. tt), λ g. (refl, λ k. (refl, λ k′. λ γ″. (refl, ((λ ls. l), λ n. (refl, λ q. ((refl, (fix-len ((a .1 .0) .ptr) ((a .1 .0) .name) (g .2 .1 .0) ((a .1 .0) .now) k′, (fix-len ((a .1 .1 .0) .ptr) ((a .1 .1 .0) .name) (g .2 .1 .1 .0) ((a .1 .1 .0) .now) k, (fix-len ((a .1 .1 .1 .0) .ptr) ((a .1 .1 .1 .0) .name) (n .2 .1 .0) ((a .1 .1 .1 .0) .now) q, tt)))), strict-all (a .0 .now) ((a .1 .0) .now) (rows ((a .1 .1 .0) .now)) ((a .1 .1 .1 .0) .now) l (g .1) (g .2 .1 .0) (rows (g .2 .1 .1 .0)) (g .5) (n .1) (n .2 .1 .0) (n .5)))))))))))))
 
-leave-strict-requires : tie.Need-leave-strict-requires
-leave-strict-requires c κs = search needs
-
-same-length : tie.Need-same-length
-same-length c = search needs
-
-same-length-2 : tie.Need-same-length-2
-same-length-2 c = search needs
-
-same-length-3 : tie.Need-same-length-3
-same-length-3 c = search needs
-
-returns-2 : tie.Need-returns-2
-returns-2 c = search (strict-laws, needs)
-
-pub khamdoriem-read-strict-spec : {M : Type 1} → statement M
-khamdoriem-read-strict-spec =
-    tie.close
-    (tie.spec
-    answer-requires
-    strict-answer-of-requires
-    short-requires
-    returns
-    read-requires
-    leave-strict-requires
-    same-length
-    same-length-2
-    same-length-3
-    returns-2)
+pub khamdoriem-read-strict-spec : {M : Type 1} → stated.statement M
+unfolding code.routine tablesOf
+khamdoriem-read-strict-spec 𝓤 H 𝓜 𝓖 𝓡 = proves C.read-strict (world 𝓤 H 𝓜 𝓖 𝓡) code.env Key.name 2 code.function refl (code.unfolded 𝓤 H 𝓜 𝓡) (derived (world 𝓤 H 𝓜 𝓖 𝓡)) (laid (world 𝓤 H 𝓜 𝓖 𝓡))

@@ -1,83 +1,95 @@
-use borrow.Author.Needs.{needs}
-use Prim.Native.Nat.{_≤_}
-use mathlib.Core.Path.{_≡_}
-use lib.ListN.{length}
-use Rattle.lister.proofs.run.Statement.{statement}
-use Rattle.lister.proofs.run.Tie as tie
+-- `lister::run` meets its contract: a derivation by hand. In each turn the line and the chunk are lent on; where a line is ready, the part of it that is used, both tables, the second of them a local one, to the strict reader.
+use Rattle.rules.specs.Derive.{ℕ, _≤_, _<_, _+_, _-_, arith, _≡_, refl, sym, ap, _∙_, List, [], _∷_, length, tyUnit, tyBool, tyInt, tyPtr, sliceTy, w64, lt, offset, unsigned, Lfts, Shares, tablesOf, lit<, ltb-true, fix-len, World, world, Cx, Row, Life, lease, off, alive, sc-here, any-gone, sPtr, sBool, sUnit, i64, bytes, pair, here, lost, made, unmade, muts, owing, leased, spent, sharing, shared, slots₃, R·, aT, eT, iT, cx, Derived, Laid, proves, cites, Asked, Learnt, _▹_, _▸_, _◂_, at, join, put, puts, calls, lends, packs, back, shares, cuts, packs-part, unshares, begin, finish, lose, repeats, arrays, borrows, packs-all, returned, read-whole, as-array, array, branch, room, blocks, loops, nexts, exits, returns, last, gone, over, struct, choice, unshared, sc, num, fld, lit, unit, part, ptr, owed, same, held, chosen-held, lent, part-lend, none, by-val, by-choice, by-part, by-mut}
+use mir.Syntax.{sub}
+use mir.Val.{vint}
+use lib.ListN.{replicate, length-replicate}
+use borrow.Rule.Array.Rows.{arrF, arr-owed}
+use Rattle.record.specs.declared.Param.{Param}
+use Rattle.entries.proofs.Contracts as E
+use Rattle.strict.proofs.Contracts as S
+use Rattle.strict.proofs.read.Symbol as Ss
+use Rattle.strict.proofs.read.Met as Sm
+use Rattle.lister.proofs.Contracts as C
+use Rattle.lister.specs.declared.State.{State}
+use Rattle.lister.proofs.run.Key
+use Rattle.lister.proofs.run.Statement as stated
+use Rattle.lister.proofs.run.Code as code
+use Rattle.record.proofs.blank.Kinds as Bk
+use Rattle.record.proofs.blank.Reads as Br
+use Rattle.record.proofs.blank.Symbol as Bs
+use Rattle.record.proofs.blank.Met as Bm
+use Rattle.lister.proofs.start.Kinds as Tk
+use Rattle.lister.proofs.start.Reads as Tr
+use Rattle.lister.proofs.start.Symbol as Ts
+use Rattle.lister.proofs.start.Met as Tm
+use Rattle.lister.proofs.advance.Kinds as Ak
+use Rattle.lister.proofs.advance.Reads as Ar
+use Rattle.lister.proofs.advance.Symbol as As
+use Rattle.lister.proofs.advance.Met as Am
+use Rattle.lister.proofs.answered.Kinds as Nk
+use Rattle.lister.proofs.answered.Reads as Nr
+use Rattle.lister.proofs.answered.Symbol as Ns
+use Rattle.lister.proofs.answered.Met as Nm
 
-abbrev Inv-loop : tie.InvT-loop
-Inv-loop line₀ elements₀ params₀ chunk₀ s₀ more₀ turns₀ line elements params chunk s more turns = (s .used ≤ length line) × (length line ≡ length line₀) × (length chunk ≡ length chunk₀) × (length elements ≡ length elements₀) × (length params ≡ length params₀)
+module _ (w : World) where
+  -- the context, by the rows of the line, the elements, the chunk, the parameters, `used`, the answer, and what is lent of each slice
+  abbrev run-at : Row → Row → Row → Row → Row → Row → Row → Row → Row → Row → Row → List Life → Cx
+  run-at l e c p n r l′ c′ s e′ p′ ls = cx (any-gone tyUnit ∷ l ∷ e ∷ c ∷ lost E.param ∷ p ∷ here C.state ∷ n ∷ r ∷ any-gone tyBool ∷ any-gone (eT bytes) ∷ l′ ∷ any-gone (eT bytes) ∷ c′ ∷ any-gone tyPtr ∷ any-gone (tyInt w64) ∷ any-gone iT ∷ s ∷ any-gone (eT pair) ∷ e′ ∷ any-gone (aT (R· E.param) 256) ∷ p′ ∷ []) ls
 
-abbrev μ-loop : tie.MeasureT-loop
-μ-loop line₀ elements₀ params₀ chunk₀ s₀ more₀ turns₀ line elements params chunk s more turns = turns
+  -- nothing is lent
+  abbrev head-at : Lfts 3 → Shares 3 → Row → Cx
+  head-at κs qs r = run-at (muts bytes 0) (muts pair 1) (muts bytes 2) (arrF (R· E.param) 256 0) (any-gone (tyInt w64)) r (any-gone (sliceTy (eT bytes))) (any-gone (sliceTy (eT bytes))) (any-gone (sliceTy iT)) (any-gone (sliceTy (eT pair))) (any-gone (sliceTy (eT (R· E.param)))) (slots₃ κs qs (off ∷ off ∷ off ∷ []))
 
-loop-holds : tie.Need-loop-holds Inv-loop μ-loop
-loop-holds c = search needs
+  -- the line and the chunk are lent
+  abbrev turn-at : Lfts 3 → Shares 3 → Row → Row → Cx
+  turn-at κs qs l c = run-at (owing bytes 0 3 (lease (κs .0) (qs .0))) (muts pair 1) (owing bytes 2 4 (lease (κs .1 .1 .0) (qs .1 .1 .0))) (arrF (R· E.param) 256 0) (any-gone (tyInt w64)) (unmade S.reading) l c (any-gone (sliceTy iT)) (any-gone (sliceTy (eT pair))) (any-gone (sliceTy (eT (R· E.param)))) (off ∷ (lease (κs .1 .0) (qs .1 .0)) ∷ off ∷ alive ∷ alive ∷ off ∷ [])
 
-one-read-requires : tie.Need-one-read-requires Inv-loop μ-loop
-one-read-requires c κs = search needs
+  -- the line is lent as `&`
+  abbrev cut-at : Lfts 3 → Shares 3 → Row → Cx
+  cut-at κs qs r = run-at (sharing 0 3 (lease (κs .0) (qs .0))) (muts pair 1) (muts bytes 2) (arrF (R· E.param) 256 0) (sc-here i64) r (any-gone (sliceTy (eT bytes))) (any-gone (sliceTy (eT bytes))) (shared 3) (any-gone (sliceTy (eT pair))) (any-gone (sliceTy (eT (R· E.param)))) (off ∷ (lease (κs .1 .0) (qs .1 .0)) ∷ (lease (κs .1 .1 .0) (qs .1 .1 .0)) ∷ alive ∷ off ∷ off ∷ [])
 
-sub-turns : tie.Need-sub-turns Inv-loop μ-loop
-sub-turns c = search needs
+  -- and both tables are lent
+  abbrev read-at : Lfts 3 → Shares 3 → Row → Row → Row → Cx
+  read-at κs qs r e p = run-at (sharing 0 3 (lease (κs .0) (qs .0))) (owing pair 1 4 (lease (κs .1 .0) (qs .1 .0))) (muts bytes 2) (arr-owed (R· E.param) 256 5) (sc-here i64) r (any-gone (sliceTy (eT bytes))) (any-gone (sliceTy (eT bytes))) (shared 3) e p (off ∷ off ∷ (lease (κs .1 .1 .0) (qs .1 .1 .0)) ∷ alive ∷ alive ∷ alive ∷ [])
 
-loop-less : tie.Need-loop-less Inv-loop μ-loop
-loop-less c = search needs
+  abbrev derived : Derived C.run w code.env Key.name 3 code.function
+  derived κs qs bs =
+      calls 0 Bk.ps Bk.r Br.Asked Br.Learnt Bs.name (Br.known w code.env Bs.name Bs.routine code.calls-record·blank (Bm.met (w .𝓤) (w .H) (w .𝓜) (w .𝓖) (w .𝓡))) [] none 4 gone tt refl ▹
+      repeats E.param 256 4 5 held (read-whole E.param) refl gone refl ▹ arrays E.param 256 5 (as-array E.param 256) ▸ room 4 (struct E.param refl) ▸
+      calls 0 Tk.ps Tk.r Tr.Asked Tr.Learnt Ts.name (Tr.known w code.env Ts.name Ts.routine code.calls-lister·start (Tm.met (w .𝓤) (w .H) (w .𝓜) (w .𝓖) (w .𝓡))) [] none 6 gone tt refl ▹ at (head-at κs qs (unmade S.reading)) ▸ (join (head-at κs qs (unmade S.reading)) (
+      blocks (loops {Vs = List ℕ × (List (List ℕ) × (List ℕ × (List Param × State)))} (λ vs u. (u .0, (record { ptr = u .1 .0 .ptr; name = u .1 .0 .name; now = vs .0 }, (record { ptr = u .1 .1 .0 .ptr; name = u .1 .1 .0 .name; now = vs .1 .0 }, (record { ptr = u .1 .1 .1 .0 .ptr; name = u .1 .1 .1 .0 .name; now = vs .1 .1 .0 }, (u .1 .1 .1 .1 .0, (vs .1 .1 .1 .0, (vs .1 .1 .1 .1, u .1 .1 .1 .1 .1 .1 .1))))))))
+      (λ u vs. (length (vs .0) ≡ length (u .1 .0 .now)) × ((length (vs .1 .0) ≡ length (u .1 .1 .0 .now)) × ((length (vs .1 .1 .0) ≡ length (u .1 .1 .1 .0 .now)) × ((length (vs .1 .1 .1 .0) ≡ 256) × ((vs .1 .1 .1 .1 .used ≤ length (vs .0)) × (vs .1 .1 .1 .1 .got ≤ length (vs .1 .1 .0))))))) (λ u vs. vs .1 .1 .1 .1 .left) (
+      puts 9 sBool gone (lt unsigned) (lit w64 0 tt) (fld 6 5 (part C.state 5 refl) refl) refl (λ u. refl) (λ u. tt) ▹
+      join (head-at κs qs (unmade S.reading)) (branch 9 (λ x. x) (sc sBool) refl (room 9 (over sBool) ▸ nexts tt) (room 9 (over sBool) ▸ exits 1 tt)) (begin 3 _ ▸ begin 4 _ ▸
+      lends bytes 1 10 0 3 same gone refl tt refl refl ▹
+      packs bytes 10 11 3 same gone (fld 1 1 (owed bytes 0 3 (lease (κs .0) (qs .0))) refl) refl refl ▹
+      lends bytes 3 12 2 4 same gone refl tt refl refl ▹
+      packs bytes 12 13 4 same gone (fld 3 1 (owed bytes 2 4 (lease (κs .1 .1 .0) (qs .1 .1 .0))) refl) refl refl ▹ at (turn-at κs qs (leased bytes 3) (leased bytes 4)) ▸
+      calls 2 Ak.ps Ak.r Ar.Asked Ar.Learnt As.name (Ar.known w code.env As.name As.routine code.calls-lister·advance (Am.met (w .𝓤) (w .H) (w .𝓜) (w .𝓖) (w .𝓡))) (3 ∷ 4 ∷ []) (by-mut bytes 0 tt 11 lent refl (by-mut bytes 1 tt 13 lent refl (by-val C.state 6 held refl none))) 6 (struct C.state refl) (tt, (tt, tt)) refl ▹ at (turn-at κs qs (spent bytes) (spent bytes)) ▸
+      finish 4 refl ▸ back bytes 13 3 2 4 (lease (κs .1 .1 .0) (qs .1 .1 .0)) same same refl refl ▸ lose 4 refl ▸ finish 3 refl ▸ back bytes 11 1 0 3 (lease (κs .0) (qs .0)) same same refl refl ▸ lose 3 refl ▸ at (head-at κs qs (unmade S.reading)) ▸
+      put 9 sBool gone (fld 6 2 (part C.state 2 refl) refl) refl (λ u. refl) (λ u. tt) ▹
+      branch 9 (λ x. x) (sc sBool) refl (
+      room 9 (over sBool) ▸ at (head-at κs qs (unmade S.reading)) ▸
+      put 7 i64 gone (fld 6 0 (part C.state 0 refl) refl) refl (λ u. refl) (λ u. tt) ▹
+      puts 14 sPtr gone offset (fld 1 0 (ptr bytes 0) refl) (lit w64 0 tt) refl (λ u. refl) (λ u. tt) ▹
+      puts 15 i64 gone (sub unsigned) (num 7 (sc i64) refl) (lit w64 0 tt) refl (λ u. refl) (λ u. tt) ▹ begin 3 _ ▸ shares 1 0 3 same refl tt ▸
+      cuts 1 14 16 0 3 (lease (κs .0) (qs .0)) (λ u. 0) (λ u. u .1 .1 .1 .1 .1 .1 .1 .0) same same gone refl tt refl refl ▹ room 14 (over sPtr) ▸
+      packs-part 16 17 3 same gone (num 15 (sc i64) refl) refl refl ▹ room 15 (over i64) ▸ at (cut-at κs qs (unmade S.reading)) ▸ begin 4 _ ▸ begin 5 _ ▸
+      lends pair 2 18 1 4 same gone refl tt refl refl ▹
+      packs pair 18 19 4 same gone (fld 2 1 (owed pair 1 4 (lease (κs .1 .0) (qs .1 .0))) refl) refl refl ▹
+      borrows E.param 256 5 20 5 same gone refl (lit< tt, lit< tt) ▹
+      packs-all E.param 256 20 21 5 same gone tt refl refl ▹ at (read-at κs qs (unmade S.reading) (leased pair 4) (leased (R· E.param) 5)) ▸
+      calls 3 (S.read .ps) (S.read .r) (Asked S.read) (Learnt S.read) Ss.name (cites S.read w code.env Ss.name Ss.routine code.calls-strict·read (Sm.met (w .𝓤) (w .H) (w .𝓜) (w .𝓖) (w .𝓡))) (3 ∷ 4 ∷ 5 ∷ []) (by-part 0 tt 17 part-lend refl (by-mut pair 1 tt 19 lent refl (by-mut (R· E.param) 2 tt 21 lent refl none))) 8 gone (tt, (tt, (tt, tt))) refl ▹ at (read-at κs qs (made S.reading) (spent pair) (spent (R· E.param))) ▸
+      finish 5 refl ▸ returned E.param 256 21 5 5 same same refl ▸ lose 5 refl ▸ finish 4 refl ▸ back pair 19 2 1 4 (lease (κs .1 .0) (qs .1 .0)) same same refl refl ▸ lose 4 refl ▸ at (cut-at κs qs (made S.reading)) ▸
+      room 17 (unshared 3) ▸ room 7 (over i64) ▸ finish 3 refl ▸ unshares 1 0 3 (lease (κs .0) (qs .0)) same refl refl ▸ lose 3 refl ▸ at (head-at κs qs (made S.reading)) ▸
+      last tt (calls 0 Nk.ps Nk.r Nr.Asked Nr.Learnt Ns.name (Nr.known w code.env Ns.name Ns.routine code.calls-lister·answered (Nm.met (w .𝓤) (w .H) (w .𝓜) (w .𝓖) (w .𝓡))) [] (by-val C.state 6 held refl (by-choice S.reading 8 chosen-held refl none)) 6 (struct C.state refl) tt refl ◂ room 8 (choice S.reading refl))) (
+      room 9 (over sBool) ▸ nexts tt))))) (
+      put 0 sUnit gone unit refl (λ u. refl) (λ u. tt) ▹ room 5 (array E.param 256 refl) ▸ room 6 (struct C.state refl) ▸ returns tt))
 
-loop-again : tie.Need-loop-again Inv-loop μ-loop
-loop-again c = search needs
+  laid : Laid C.run w code.env Key.name 3 code.function derived
+  laid κs qs a good pre bs =
+      ((λ ls. tt), λ gb. ((λ ls. tt), λ gs. (((a .0 .now, (a .1 .0 .now, (a .1 .1 .0 .now, (replicate 256 (gb .1), gs .1)))), refl, (refl, (refl, (refl, (length-replicate 256 (gb .1), (omega (arith, gs .5 .0), omega (arith, gs .5 .1))))))), λ vs inv. (tt, ((λ t. let l : 0 < vs .1 .1 .1 .1 .left = ltb-true 0 (vs .1 .1 .1 .1 .left) t in λ γ. (refl, λ γ′. (refl, ((λ ls. (inv .1 .1 .1 .1 .0, (inv .1 .1 .1 .1 .1, l))), λ g. (refl, λ k. (refl, λ k′. let u : g .1 .used ≤ length (g .2 .0) = omega (arith, g .5 .0, k′) in let c : g .1 .got ≤ length (g .2 .1 .0) = omega (arith, g .5 .1 .0, k) in ((λ h. (tt, (omega arith, λ γ″. ((refl, refl, omega arith, u), λ part. (ap (vint w64) (part .1), λ γ₂. (refl, λ γ₃. (ap (vint w64) (sym (inv .1 .1 .1 .0)), ((λ ls. tt), λ r. (refl, λ k₃. (refl, λ k₂. ((λ ls. tt), λ n. (n .1 .left, omega (arith, n .5 .1 .1, g .5 .1 .1), ((g .2 .0, (r .2 .1 .0, (g .2 .1 .0, (r .2 .1 .1 .0, n .1)))), refl, (k′ ∙ inv .0, (k₂ ∙ inv .1 .0, (k ∙ inv .1 .1 .0, (k₃, (omega (arith, n .5 .0), omega (arith, n .5 .1 .0, c)))))), refl))))))))))))), (λ h. (g .1 .left, g .5 .1 .1, ((g .2 .0, (vs .1 .0, (g .2 .1 .0, (vs .1 .1 .1 .0, g .1)))), refl, (k′ ∙ inv .0, (inv .1 .0, (k ∙ inv .1 .1 .0, (inv .1 .1 .1 .0, (u, c))))), refl)))))))))), (λ f. ((fix-len (a .0 .ptr) (a .0 .name) (vs .0) (a .0 .now) (inv .0), (fix-len (a .1 .0 .ptr) (a .1 .0 .name) (vs .1 .0) (a .1 .0 .now) (inv .1 .0), (fix-len (a .1 .1 .0 .ptr) (a .1 .1 .0 .name) (vs .1 .1 .0) (a .1 .1 .0 .now) (inv .1 .1 .0), tt))), tt)))))))
 
-ended-requires : tie.Need-ended-requires Inv-loop μ-loop
-ended-requires c κs = search needs
-
-same-length : tie.Need-same-length Inv-loop μ-loop
-same-length c = search needs
-
-same-length-2 : tie.Need-same-length-2 Inv-loop μ-loop
-same-length-2 c = search needs
-
-same-length-3 : tie.Need-same-length-3 Inv-loop μ-loop
-same-length-3 c = search needs
-
-same-length-4 : tie.Need-same-length-4 Inv-loop μ-loop
-same-length-4 c = search needs
-
-returns : tie.Need-returns Inv-loop μ-loop
-returns c = search needs
-
-same-length-5 : tie.Need-same-length-5 Inv-loop μ-loop
-same-length-5 c = search needs
-
-same-length-6 : tie.Need-same-length-6 Inv-loop μ-loop
-same-length-6 c = search needs
-
-same-length-7 : tie.Need-same-length-7 Inv-loop μ-loop
-same-length-7 c = search needs
-
-same-length-8 : tie.Need-same-length-8 Inv-loop μ-loop
-same-length-8 c = search needs
-
-returns-2 : tie.Need-returns-2 Inv-loop μ-loop
-returns-2 c = search needs
-
-pub run-spec : {M : Type 1} → statement M
-run-spec =
-    tie.close
-    (tie.spec
-    Inv-loop
-    μ-loop
-    loop-holds
-    one-read-requires
-    sub-turns
-    loop-less
-    loop-again
-    ended-requires
-    same-length
-    same-length-2
-    same-length-3
-    same-length-4
-    returns
-    same-length-5
-    same-length-6
-    same-length-7
-    same-length-8
-    returns-2)
+pub run-spec : {M : Type 1} → stated.statement M
+unfolding code.routine tablesOf
+run-spec 𝓤 H 𝓜 𝓖 𝓡 = proves C.run (world 𝓤 H 𝓜 𝓖 𝓡) code.env Key.name 3 code.function refl (code.unfolded 𝓤 H 𝓜 𝓡) (derived (world 𝓤 H 𝓜 𝓖 𝓡)) (laid (world 𝓤 H 𝓜 𝓖 𝓡))

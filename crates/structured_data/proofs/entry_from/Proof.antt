@@ -15,14 +15,17 @@ enum-known-name c = search needs
 enum-told : tie.Need-enum-told
 enum-told c = search needs
 
+blank-requires : tie.Need-blank-requires
+blank-requires c κs = search needs
+
 returns : tie.Need-returns
 returns c = search (entry-laws, needs)
 
-add-t11 : tie.Need-add-t11
-add-t11 c = search (entry-laws, needs)
+add-t12 : tie.Need-add-t12
+add-t12 c = search (entry-laws, needs)
 
-add-t13 : tie.Need-add-t13
-add-t13 c = search (entry-laws, needs)
+add-t12-2 : tie.Need-add-t12-2
+add-t12-2 c = search (entry-laws, needs)
 
 returns-2 : tie.Need-returns-2
 returns-2 c = search (entry-laws, needs)
@@ -35,7 +38,8 @@ entry-from-spec =
     param-at-requires
     enum-known-name
     enum-told
+    blank-requires
     returns
-    add-t11
-    add-t13
+    add-t12
+    add-t12-2
     returns-2)

@@ -1,83 +1,86 @@
-use borrow.Author.Needs.{needs}
-use Rattle.structured_data.proofs.Entries.{Storing, store-laws}
-use Prim.Native.Nat.{_-_}
-use lib.ListN.{length}
-use Rattle.structured_data.proofs.fill_params.Statement.{statement}
-use Rattle.structured_data.proofs.fill_params.Tie as tie
+-- `structured_data::fill_params` meets its contract: a derivation by hand. The invariant: the rows of the parameters that are passed stand in the table.
+use Rattle.rules.specs.Derive.{Asked, Cx, Derived, Laid, Learnt, Lfts, List, Row, R·, Shares, World, [], _+_, _-_, _<_, _∙_, _∷_, _≡_, _▸_, _▹_, add, any-gone, ap, arith, at, back, begin, blocks, branch, by-lit, by-mut, by-num, by-shr, by-val, bytes, calls, cites, cx, eT, eq, eqb-false, eqb-true, finish, fix-len, fld, gone, held, here, i64, join, last, lease, lend, lends, length, lent, lit, loops, lose, lost, lt, muts, nexts, none, num, off, over, owed, packs, part, proves, put, puts, refl, returns, room, sBool, sUnit, same, sc, sc-here, set, shr, sliceTy, slots₂, struct, subst, sym, tablesOf, tyBool, tyInt, tyUnit, unsigned, w64, w8, world, ℕ}
+use mir.Syntax.{bitOr}
+use mathlib.Core.Bool.{true, false, not}
+use Rattle.record.specs.declared.Param.{Param}
+use Rattle.structured_data.specs.Steps.{Stores}
+use Rattle.record.specs.Params.{rowOf, rows}
+use Rattle.record.proofs.Params.{rows-length, rows-set}
+use Rattle.entries.proofs.Contracts as E
+use Rattle.entries.proofs.store.Symbol as Es
+use Rattle.entries.proofs.store.Met as Em
+use Rattle.structured_data.proofs.Contracts as C
+use Rattle.structured_data.proofs.fill_params.Key
+use Rattle.structured_data.proofs.fill_params.Statement as stated
+use Rattle.structured_data.proofs.fill_params.Code as code
+use Rattle.structured_data.proofs.Entries.{Storing, storing-none, stored-all, index-fits, stored-given-up, index-within, count-fits, stored-last, next-fits, walk-less, storing-on}
+use Rattle.base.proofs.is_at.Kinds as Ik
+use Rattle.base.proofs.is_at.Reads as Ir
+use Rattle.base.proofs.is_at.Symbol as Is
+use Rattle.base.proofs.is_at.Met as Im
+use Rattle.structured_data.proofs.entry_from.Kinds as Fk
+use Rattle.structured_data.proofs.entry_from.Reads as Fr
+use Rattle.structured_data.proofs.entry_from.Symbol as Fs
+use Rattle.structured_data.proofs.entry_from.Met as Fm
+use Rattle.structured_data.proofs.row_of.Kinds as Rk
+use Rattle.structured_data.proofs.row_of.Reads as Rr
+use Rattle.structured_data.proofs.row_of.Symbol as Rs
+use Rattle.structured_data.proofs.row_of.Met as Rm
+use Rattle.structured_data.proofs.walk_to.Kinds as Kk
+use Rattle.structured_data.proofs.walk_to.Reads as Kr
+use Rattle.structured_data.proofs.walk_to.Symbol as Ks
+use Rattle.structured_data.proofs.walk_to.Met as Km
 
-abbrev Inv-loop : tie.InvT-loop
-Inv-loop s e at stop params₀ first end count₀ next₀ start₀ params count next start = Storing s e at params₀ first end params count next start
+-- the table behind a store, as rows
+rows-stored : (p q : List Param) (i : ℕ) (x y : Param) → q ≡ set p i x → x ≡ y → set (rows p) i (rowOf y) ≡ rows q
+rows-stored p q i x y e f = ap (λ (z : Param). set (rows p) i (rowOf z)) (sym f) ∙ sym (rows-set p i x) ∙ ap rows (sym e)
 
-abbrev μ-loop : tie.MeasureT-loop
-μ-loop s e at stop params₀ first end count₀ next₀ start₀ params count next start = length s - start
+module _ (w : World) where
+  -- the context, by the rows of the result, the numbers, the entry, `behind` and `i`
+  abbrev walk-at : Lfts 2 → Shares 2 → Row → Row → Row → Row → Row → Cx
+  walk-at κs qs r m x b i = cx (r ∷ shr bytes 0 ∷ m ∷ m ∷ m ∷ muts (R· E.param) 1 ∷ m ∷ m ∷ m ∷ m ∷ m ∷ x ∷ b ∷ i ∷ lost E.param ∷ any-gone tyBool ∷ any-gone tyBool ∷ any-gone tyBool ∷ any-gone tyBool ∷ any-gone tyUnit ∷ any-gone (eT (R· E.param)) ∷ any-gone (sliceTy (eT (R· E.param))) ∷ []) (slots₂ κs qs (off ∷ []))
 
-loop-holds : tie.Need-loop-holds Inv-loop μ-loop
-loop-holds c = search (store-laws, needs)
+  abbrev head-at : Lfts 2 → Shares 2 → Row → Row → Row → Cx
+  head-at κs qs x b i = walk-at κs qs (lost C.walk) (sc-here i64) x b i
 
-entry-from-requires : tie.Need-entry-from-requires Inv-loop μ-loop
-entry-from-requires c κs = search (store-laws, needs)
+  abbrev derived : Derived C.fill-params w code.env Key.name 1 code.function
+  derived κs qs bs =
+      put 8 i64 gone (lit w64 0 tt) refl (λ u. refl) (λ u. tt) ▹
+      put 9 i64 gone (num 3 (sc i64) refl) refl (λ u. refl) (λ u. tt) ▹
+      put 10 i64 gone (num 3 (sc i64) refl) refl (λ u. refl) (λ u. tt) ▹ at (head-at κs qs (lost C.entry) (any-gone (tyInt w64)) (any-gone (tyInt w64))) ▸ (join (walk-at κs qs (here C.walk) (any-gone (tyInt w64)) (lost C.entry) (any-gone (tyInt w64)) (any-gone (tyInt w64))) (
+      blocks (loops {Vs = List Param × (ℕ × (ℕ × ℕ))} (λ vs u. (u .0, (u .1 .0, (u .1 .1 .0, (u .1 .1 .1 .0, (u .1 .1 .1 .1 .0, (record { ptr = u .1 .1 .1 .1 .1 .0 .ptr; name = u .1 .1 .1 .1 .1 .0 .name; now = vs .0 }, (u .1 .1 .1 .1 .1 .1 .0, (u .1 .1 .1 .1 .1 .1 .1 .0, (vs .1 .0, (vs .1 .1 .0, (vs .1 .1 .1, u .1 .1 .1 .1 .1 .1 .1 .1 .1 .1 .1))))))))))))
+      (λ u vs. Storing (u .1 .0 .now) (u .1 .1 .0) (u .1 .1 .1 .0) (rows (u .1 .1 .1 .1 .1 .0 .now)) (u .1 .1 .1 .1 .1 .1 .0) (u .1 .1 .1 .1 .1 .1 .1 .0) (rows (vs .0)) (vs .1 .0) (vs .1 .1 .0) (vs .1 .1 .1) × (length (vs .0) ≡ length (u .1 .1 .1 .1 .1 .0 .now))) (λ u vs. length (u .1 .0 .now) - vs .1 .1 .1) (
+      calls 1 Fk.ps Fk.r Fr.Asked Fr.Learnt Fs.name (Fr.known w code.env Fs.name Fs.routine code.calls-structured-data·entry-from (Fm.met (w .𝓤) (w .H) (w .𝓜) (w .𝓖) (w .𝓡))) (0 ∷ []) (by-shr bytes 0 tt 1 0 lend refl (by-num w64 2 (sc i64) refl (by-num w64 10 (sc i64) refl none))) 11 gone (tt, tt) refl ▹
+      put 12 i64 gone (fld 11 1 (part C.entry 1 refl) refl) refl (λ u. refl) (λ u. tt) ▹ at (head-at κs qs (here C.entry) (sc-here i64) (any-gone (tyInt w64))) ▸
+      puts 16 sBool gone eq (num 12 (sc i64) refl) (num 10 (sc i64) refl) refl (λ u. refl) (λ u. tt) ▹
+      join (head-at κs qs (here C.entry) (sc-here i64) (any-gone (tyInt w64))) (branch 16 (λ x. x) (sc sBool) refl (
+      room 16 (over sBool) ▸ room 11 (struct C.entry refl) ▸ room 12 (over i64) ▸ at (head-at κs qs (lost C.entry) (any-gone (tyInt w64)) (any-gone (tyInt w64))) ▸ calls 0 Kk.ps Kk.r Kr.Asked Kr.Learnt Ks.name (Kr.known w code.env Ks.name Ks.routine code.calls-structured-data·walk-to (Km.met (w .𝓤) (w .H) (w .𝓜) (w .𝓖) (w .𝓡))) [] (by-num w64 8 (sc i64) refl (by-num w64 9 (sc i64) refl none)) 0 gone tt refl ▹ room 2 (over i64) ▸ room 3 (over i64) ▸ room 4 (over i64) ▸ room 6 (over i64) ▸ room 7 (over i64) ▸ room 8 (over i64) ▸ room 9 (over i64) ▸ room 10 (over i64) ▸ returns tt) (
+      room 16 (over sBool) ▸ nexts tt)) (
+      puts 13 i64 gone (add unsigned) (num 6 (sc i64) refl) (num 8 (sc i64) refl) refl (λ u. refl) (λ u. tt) ▹ at (head-at κs qs (here C.entry) (sc-here i64) (sc-here i64)) ▸
+      puts 16 sBool gone eq (num 13 (sc i64) refl) (num 7 (sc i64) refl) refl (λ u. refl) (λ u. tt) ▹
+      puts 17 sBool gone (lt unsigned) (num 4 (sc i64) refl) (num 12 (sc i64) refl) refl (λ u. refl) (λ u. tt) ▹
+      puts 18 sBool gone bitOr (num 16 (sc sBool) refl) (num 17 (sc sBool) refl) refl (λ u. refl) (λ u. tt) ▹ room 16 (over sBool) ▸ room 17 (over sBool) ▸
+      join (head-at κs qs (here C.entry) (sc-here i64) (sc-here i64)) (branch 18 (λ x. x) (sc sBool) refl (
+      room 18 (over sBool) ▸ room 11 (struct C.entry refl) ▸ room 12 (over i64) ▸ room 13 (over i64) ▸ at (head-at κs qs (lost C.entry) (any-gone (tyInt w64)) (any-gone (tyInt w64))) ▸ calls 0 Kk.ps Kk.r Kr.Asked Kr.Learnt Ks.name (Kr.known w code.env Ks.name Ks.routine code.calls-structured-data·walk-to (Km.met (w .𝓤) (w .H) (w .𝓜) (w .𝓖) (w .𝓡))) [] (by-lit w64 0 tt (by-num w64 3 (sc i64) refl none)) 0 gone tt refl ▹ room 2 (over i64) ▸ room 3 (over i64) ▸ room 4 (over i64) ▸ room 6 (over i64) ▸ room 7 (over i64) ▸ room 8 (over i64) ▸ room 9 (over i64) ▸ room 10 (over i64) ▸ returns tt) (
+      room 18 (over sBool) ▸ nexts tt)) (
+      calls 0 Rk.ps Rk.r Rr.Asked Rr.Learnt Rs.name (Rr.known w code.env Rs.name Rs.routine code.calls-structured-data·row-of (Rm.met (w .𝓤) (w .H) (w .𝓜) (w .𝓖) (w .𝓡))) [] (by-val C.entry 11 held refl none) 14 gone tt refl ▹ room 11 (struct C.entry refl) ▸ begin 2 _ ▸
+      lends (R· E.param) 5 20 1 2 same gone refl tt refl refl ▹
+      packs (R· E.param) 20 21 2 same gone (fld 5 1 (owed (R· E.param) 1 2 (lease (κs .1 .0) (qs .1 .0))) refl) refl refl ▹
+      calls 1 (E.store .ps) (E.store .r) (Asked E.store) (Learnt E.store) Es.name (cites E.store w code.env Es.name Es.routine code.calls-entries·store (Em.met (w .𝓤) (w .H) (w .𝓜) (w .𝓖) (w .𝓡))) (2 ∷ []) (by-mut (R· E.param) 0 tt 21 lent refl (by-num w64 13 (sc i64) refl (by-val E.param 14 held refl none))) 19 gone (tt, tt) refl ▹
+      finish 2 refl ▸ back (R· E.param) 21 5 1 2 (lease (κs .1 .0) (qs .1 .0)) same same refl refl ▸ lose 2 refl ▸ room 19 (over sUnit) ▸ room 14 (struct E.param refl) ▸ room 13 (over i64) ▸ at (head-at κs qs (lost C.entry) (sc-here i64) (any-gone (tyInt w64))) ▸
+      puts 8 i64 (over i64) (add unsigned) (num 8 (sc i64) refl) (lit w64 1 tt) refl (λ u. refl) (λ u. tt) ▹
+      put 9 i64 (over i64) (num 12 (sc i64) refl) refl (λ u. refl) (λ u. tt) ▹ room 12 (over i64) ▸ at (head-at κs qs (lost C.entry) (any-gone (tyInt w64)) (any-gone (tyInt w64))) ▸
+      calls 1 Ik.ps Ik.r Ir.Asked Ir.Learnt Is.name (Ir.known w code.env Is.name Is.routine code.calls-base·is-at (Im.met (w .𝓤) (w .H) (w .𝓜) (w .𝓖) (w .𝓡))) (0 ∷ []) (by-shr bytes 0 tt 1 0 lend refl (by-num w64 9 (sc i64) refl (by-lit w8 32 tt none))) 15 gone (tt, tt) refl ▹
+      put 16 sBool gone (num 15 (sc sBool) refl) refl (λ u. refl) (λ u. tt) ▹ room 15 (over sBool) ▸
+      branch 16 (λ x. x) (sc sBool) refl (
+      room 16 (over sBool) ▸ at (head-at κs qs (lost C.entry) (any-gone (tyInt w64)) (any-gone (tyInt w64))) ▸ last tt (puts 10 i64 (over i64) (add unsigned) (num 9 (sc i64) refl) (lit w64 1 tt) refl (λ u. refl) (λ u. tt))) (
+      room 16 (over sBool) ▸ at (head-at κs qs (lost C.entry) (any-gone (tyInt w64)) (any-gone (tyInt w64))) ▸ calls 0 Kk.ps Kk.r Kr.Asked Kr.Learnt Ks.name (Kr.known w code.env Ks.name Ks.routine code.calls-structured-data·walk-to (Km.met (w .𝓤) (w .H) (w .𝓜) (w .𝓖) (w .𝓡))) [] (by-num w64 8 (sc i64) refl (by-num w64 9 (sc i64) refl none)) 0 gone tt refl ▹ room 2 (over i64) ▸ room 3 (over i64) ▸ room 4 (over i64) ▸ room 6 (over i64) ▸ room 7 (over i64) ▸ room 8 (over i64) ▸ room 9 (over i64) ▸ room 10 (over i64) ▸ returns tt))))))
+      (returns tt))
 
-same-length : tie.Need-same-length Inv-loop μ-loop
-same-length c = search (store-laws, needs)
+  laid : Laid C.fill-params w code.env Key.name 1 code.function derived
+  laid κs qs a good pre bs =
+      (((a .1 .1 .1 .1 .0 .now, (0, (a .1 .1 .0, a .1 .1 .0))), refl, (storing-none (a .0 .now) (a .1 .0) (a .1 .1 .0) (a .1 .1 .1 .0) (rows (a .1 .1 .1 .1 .0 .now)) (a .1 .1 .1 .1 .1 .0) (a .1 .1 .1 .1 .1 .1 .0) pre, refl)), λ vs inv. ((λ ls. inv .0 .walk .start-within), λ g. (tt, ((λ t. let z : g .1 .next ≡ (vs .1 .1 .1) = eqb-true (g .1 .next) (vs .1 .1 .1) t in ((λ ls. tt), λ k. ((refl, (tt, (tt, (tt, (fix-len (a .1 .1 .1 .1 .0 .ptr) (a .1 .1 .1 .1 .0 .name) (vs .0) (a .1 .1 .1 .1 .0 .now) (inv .1), (tt, (tt, tt))))))), rw (k .5) (stored-all (a .0 .now) (a .1 .0) (a .1 .1 .0) (a .1 .1 .1 .0) (rows (a .1 .1 .1 .1 .0 .now)) (a .1 .1 .1 .1 .1 .0) (a .1 .1 .1 .1 .1 .1 .0) pre (rows (vs .0)) (vs .1 .0) (vs .1 .1 .0) (vs .1 .1 .1) (inv .0) (g .1) (g .5) z)))), (λ f. let z : g .1 .next ≡ (vs .1 .1 .1) → ⊥ = eqb-false (g .1 .next) (vs .1 .1 .1) f in (index-fits (a .0 .now) (a .1 .0) (a .1 .1 .0) (a .1 .1 .1 .0) (rows (a .1 .1 .1 .1 .0 .now)) (a .1 .1 .1 .1 .1 .0) (a .1 .1 .1 .1 .1 .1 .0) pre (rows (vs .0)) (vs .1 .0) (vs .1 .1 .0) (vs .1 .1 .1) (inv .0) (g .1) (g .5) z (rw (rows-length (a .1 .1 .1 .1 .0 .now)) (good .1 .1 .1 .1 .0 .0)), (tt, (tt, (tt, ((λ t. ((λ ls. tt), λ k. ((refl, (tt, (tt, (tt, (fix-len (a .1 .1 .1 .1 .0 .ptr) (a .1 .1 .1 .1 .0 .name) (vs .0) (a .1 .1 .1 .1 .0 .now) (inv .1), (tt, (tt, tt))))))), rw (k .5) (stored-given-up (a .0 .now) (a .1 .0) (a .1 .1 .0) (a .1 .1 .1 .0) (rows (a .1 .1 .1 .1 .0 .now)) (a .1 .1 .1 .1 .1 .0) (a .1 .1 .1 .1 .1 .1 .0) pre (rows (vs .0)) (vs .1 .0) (vs .1 .1 .0) (vs .1 .1 .1) (inv .0) (g .1) (g .5) z t)))), (λ q. let b : (a .1 .1 .1 .1 .1 .0) + (vs .1 .0) < length (vs .0) = omega (arith, rows-length (vs .0), index-within (a .0 .now) (a .1 .0) (a .1 .1 .0) (a .1 .1 .1 .0) (rows (a .1 .1 .1 .1 .0 .now)) (a .1 .1 .1 .1 .1 .0) (a .1 .1 .1 .1 .1 .1 .0) pre (rows (vs .0)) (vs .1 .0) (vs .1 .1 .0) (vs .1 .1 .1) (inv .0) (g .1) (g .5) z q) in ((λ ls. tt), λ r. λ γ. (refl, ((λ ls. b), λ o. (refl, λ l. (count-fits (a .0 .now) (a .1 .0) (a .1 .1 .0) (vs .1 .0) (vs .1 .1 .0) (vs .1 .1 .1) (inv .0 .walk) (g .1) (g .5) z (good .0 .0), ((λ ls. omega arith), λ i. ((λ t. let h : not (i .1) ≡ false = ap not t in (next-fits (a .0 .now) (a .1 .0) (a .1 .1 .0) (vs .1 .0) (vs .1 .1 .0) (vs .1 .1 .1) (inv .0 .walk) (g .1) (g .5) z (i .1) (i .5) h (good .0 .0), (length (a .0 .now) - (g .1 .next + 1), walk-less (a .0 .now) (a .1 .0) (a .1 .1 .0) (vs .1 .0) (vs .1 .1 .0) (vs .1 .1 .1) (inv .0 .walk) (g .1) (g .5) z (i .1) (i .5) h, ((o .2 .0, ((vs .1 .0) + 1, (g .1 .next, g .1 .next + 1))), refl, (subst (λ (y : List (List ℕ)). Storing (a .0 .now) (a .1 .0) (a .1 .1 .0) (rows (a .1 .1 .1 .1 .0 .now)) (a .1 .1 .1 .1 .1 .0) (a .1 .1 .1 .1 .1 .1 .0) y ((vs .1 .0) + 1) (g .1 .next) (g .1 .next + 1)) (rows-stored (vs .0) (o .2 .0) ((a .1 .1 .1 .1 .1 .0) + (vs .1 .0)) (r .1) (g .1 .row) (o .5) (r .5)) (storing-on (a .0 .now) (a .1 .0) (a .1 .1 .0) (a .1 .1 .1 .0) (rows (a .1 .1 .1 .1 .0 .now)) (a .1 .1 .1 .1 .1 .0) (a .1 .1 .1 .1 .1 .1 .0) pre (rows (vs .0)) (vs .1 .0) (vs .1 .1 .0) (vs .1 .1 .1) (inv .0) (g .1) (g .5) z q (i .1) (i .5) h), l ∙ inv .1), refl)))), (λ t. let h : not (i .1) ≡ true = ap not t in ((λ ls. tt), λ k. ((refl, (tt, (tt, (tt, (fix-len (a .1 .1 .1 .1 .0 .ptr) (a .1 .1 .1 .1 .0 .name) (o .2 .0) (a .1 .1 .1 .1 .0 .now) (l ∙ inv .1), (tt, (tt, tt))))))), rw (k .5) (subst (λ (y : List (List ℕ)). Stores (a .0 .now) (a .1 .0) (a .1 .1 .0) (rows (a .1 .1 .1 .1 .0 .now)) (a .1 .1 .1 .1 .1 .0) (a .1 .1 .1 .1 .1 .1 .0) (record { count = (vs .1 .0) + 1; next = g .1 .next }) y) (rows-stored (vs .0) (o .2 .0) ((a .1 .1 .1 .1 .1 .0) + (vs .1 .0)) (r .1) (g .1 .row) (o .5) (r .5)) (stored-last (a .0 .now) (a .1 .0) (a .1 .1 .0) (a .1 .1 .1 .0) (rows (a .1 .1 .1 .1 .0 .now)) (a .1 .1 .1 .1 .1 .0) (a .1 .1 .1 .1 .1 .1 .0) pre (rows (vs .0)) (vs .1 .0) (vs .1 .1 .0) (vs .1 .1 .1) (inv .0) (g .1) (g .5) z q (i .1) (i .5) h)))))))))))))))))))))))
 
-returns : tie.Need-returns Inv-loop μ-loop
-returns c = search (store-laws, needs)
-
-add-i : tie.Need-add-i Inv-loop μ-loop
-add-i c = search (store-laws, needs)
-
-same-length-2 : tie.Need-same-length-2 Inv-loop μ-loop
-same-length-2 c = search (store-laws, needs)
-
-returns-2 : tie.Need-returns-2 Inv-loop μ-loop
-returns-2 c = search (store-laws, needs)
-
-mul-row : tie.Need-mul-row Inv-loop μ-loop
-mul-row c = search (store-laws, needs)
-
-slice-set-from-row : tie.Need-slice-set-from-row Inv-loop μ-loop
-slice-set-from-row c = search (store-laws, needs)
-
-add-count : tie.Need-add-count Inv-loop μ-loop
-add-count c = search (store-laws, needs)
-
-is-at-requires : tie.Need-is-at-requires Inv-loop μ-loop
-is-at-requires c κs = search (store-laws, needs)
-
-same-length-3 : tie.Need-same-length-3 Inv-loop μ-loop
-same-length-3 c = search (store-laws, needs)
-
-returns-3 : tie.Need-returns-3 Inv-loop μ-loop
-returns-3 c = search (store-laws, needs)
-
-add-start : tie.Need-add-start Inv-loop μ-loop
-add-start c = search (store-laws, needs)
-
-loop-less : tie.Need-loop-less Inv-loop μ-loop
-loop-less c = search (store-laws, needs)
-
-loop-again : tie.Need-loop-again Inv-loop μ-loop
-loop-again c = search (store-laws, needs)
-
-pub fill-params-spec : {M : Type 1} → statement M
-fill-params-spec =
-    tie.close
-    (tie.spec
-    Inv-loop
-    μ-loop
-    loop-holds
-    entry-from-requires
-    same-length
-    returns
-    add-i
-    same-length-2
-    returns-2
-    mul-row
-    slice-set-from-row
-    add-count
-    is-at-requires
-    same-length-3
-    returns-3
-    add-start
-    loop-less
-    loop-again)
+pub fill-params-spec : {M : Type 1} → stated.statement M
+unfolding code.routine tablesOf
+fill-params-spec 𝓤 H 𝓜 𝓖 𝓡 = proves C.fill-params (world 𝓤 H 𝓜 𝓖 𝓡) code.env Key.name 1 code.function refl (code.unfolded 𝓤 H 𝓜 𝓡) (derived (world 𝓤 H 𝓜 𝓖 𝓡)) (laid (world 𝓤 H 𝓜 𝓖 𝓡))

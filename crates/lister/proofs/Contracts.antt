@@ -1,0 +1,18 @@
+-- The contract of the function over the parameter table, as the rules take it.
+use mathlib.Core.Path.{refl}
+use mathlib.Core.List.{[], _∷_}
+use base.Logic.{id⊢}
+use borrow.Fn.Kinds.{rUnit}
+use borrow.Fn.Read.{all-models, reads}
+use borrow.Kind.MutSlice.{pMutS}
+use Rattle.rules.specs.Derive.{Struct, Contract, plainly, bytes, pair}
+use Rattle.lister.proofs.State as St
+use Rattle.lister.proofs.State.Laws as St′
+use Rattle.lister.proofs.run as r
+
+abbrev pub state : Struct
+state = record { type = St.the-type; laws = St′.the-laws; copy = St′.the-copy; plain = St′.the-plain }
+
+abbrev pub run : Contract
+run = plainly 3 (pMutS bytes 0 tt ∷ pMutS pair 1 tt ∷ pMutS bytes 2 tt ∷ []) rUnit (λ w. r.clauses (w .𝓤) (w .H) (w .𝓖 .A) (w .𝓜 .mem) (w .𝓡 .run)) (λ w κs a. tt)
+    (λ κs a. all-models _ (λ w. search reads) (λ w. refl) (λ w. refl) (λ w. refl)) (λ κs a z e. all-models _ (λ w. search reads) (λ w. refl) (λ w. refl) (λ w. refl)) (λ κs a. tt) (λ κs a z e. tt) (λ w κs a. id⊢ (w .𝓤) _) (λ w κs a z e. id⊢ (w .𝓤) _)
