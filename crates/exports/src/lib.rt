@@ -8,7 +8,9 @@ use record::Written;
 ghost use mathlib.Core.Path.{_≡_};
 ghost use Prim.Native.Nat.{_≤_};
 ghost use lib.ListN.{length};
+ghost use Rattle.record.specs.Answers.{outputAnswerOf};
 ghost use Rattle.record.specs.Params.{rows};
+ghost use Rattle.record.specs.declared.Written.the-variants.{Refused};
 ghost use Rattle.exports.specs.Exports.{shortNumber, numberOf, strictNumberOf, LeavesExact, LeavesFallback, LeavesStrict, firstRefusal, ServesPrint, ServesLookup};
 ghost use Rattle.exports.specs.Steps.{Left, StrictLeft};
 
@@ -140,25 +142,33 @@ fn first_refusal(len: usize, kind: u32) -> Refusal
     Refusal::Unsuitable
 }
 
+// What is answered where bytes hold no record.
+fn unheld(len: usize, kind: u32) -> OutputAnswer
+    ensures { λ a. ⌜ a ≡ outputAnswerOf (Refused (firstRefusal len kind)) ⌝ }
+{
+    let first = first_refusal(len, kind);
+    record::output_answer_of(Written::Refused(first))
+}
+
 #[no_mangle]
 pub extern "C" fn khamdoriem_print(
     line: &[u8],
     memory: &[u8],
     elements: &[[usize; 2]],
-    params: &[[usize; 5]],
+    params: &[Param],
     output: &mut [u8],
 ) -> OutputAnswer
-    ensures { λ a. ⌜ ServesPrint (now (line .entry)) (now (memory .entry)) (now (elements .entry)) (now (params .entry)) (now (output .entry)) a (now (output .exit)) ⌝ }
+    ensures { λ a. ⌜ ServesPrint (now (line .entry)) (now (memory .entry)) (now (elements .entry)) (rows (now (params .entry))) (now (output .entry)) a (now (output .exit)) ⌝ }
 {
-    if !layout::holds_record(memory) {
-        let first = first_refusal(line.len(), 0);
-        return record::output_answer_of(Written::Refused(first));
+    if layout::holds_record(memory) {
+        let r = layout::record_at(memory);
+        let e = layout::element_count(memory);
+        let p = layout::param_count(memory);
+        let w = message::print(line, r, e, p, elements, params, output);
+        return record::output_answer_of(w);
     }
-    let r = layout::record_at(memory);
-    let e = layout::element_count(memory);
-    let p = layout::param_count(memory);
-    let w = message::print(line, r, e, p, elements, params, output);
-    record::output_answer_of(w)
+    let n = line.len();
+    unheld(n, 0)
 }
 
 #[no_mangle]
@@ -166,21 +176,21 @@ pub extern "C" fn khamdoriem_lookup(
     line: &[u8],
     memory: &[u8],
     elements: &[[usize; 2]],
-    params: &[[usize; 5]],
+    params: &[Param],
     id: &[u8],
     name: &[u8],
     kind: u32,
     output: &mut [u8],
 ) -> OutputAnswer
-    ensures { λ a. ⌜ ServesLookup (now (line .entry)) (now (memory .entry)) (now (elements .entry)) (now (params .entry)) (now (id .entry)) (now (name .entry)) kind (now (output .entry)) a (now (output .exit)) ⌝ }
+    ensures { λ a. ⌜ ServesLookup (now (line .entry)) (now (memory .entry)) (now (elements .entry)) (rows (now (params .entry))) (now (id .entry)) (now (name .entry)) kind (now (output .entry)) a (now (output .exit)) ⌝ }
 {
-    if !layout::holds_record(memory) {
-        let first = first_refusal(line.len(), kind);
-        return record::output_answer_of(Written::Refused(first));
+    if layout::holds_record(memory) {
+        let r = layout::record_at(memory);
+        let e = layout::element_count(memory);
+        let p = layout::param_count(memory);
+        let w = lookup::lookup(line, r, e, p, elements, params, id, name, kind, output);
+        return record::output_answer_of(w);
     }
-    let r = layout::record_at(memory);
-    let e = layout::element_count(memory);
-    let p = layout::param_count(memory);
-    let w = lookup::lookup(line, r, e, p, elements, params, id, name, kind, output);
-    record::output_answer_of(w)
+    let n = line.len();
+    unheld(n, kind)
 }

@@ -1,12 +1,14 @@
 -- The answers: each refusal, and the value given.
 use Prim.Native.Nat.{ℕ, _+_, _-_, _≤_, _<_}
-use mathlib.Core.Path.{_≡_, refl, sym, _∙_}
-use mathlib.Core.Bool.{Bool, true, false, not}
+use mathlib.Core.Path.{_≡_, refl, sym, ap, _∙_}
+use mathlib.Core.Bool.{Bool, true, false, not, _||_}
 use mathlib.Core.List.{List}
-use lib.Dec.{eqb}
+use lib.Dec.{eqb, ltb}
 use lib.ListN.{length, take, drop}
-use borrow.Author.Tests.{lt-ltb, le-ltb, not-true, not-false}
+use borrow.Author.Tests.{lt-ltb, le-ltb, ltb-true, ltb-false, not-true, not-false}
+use Rattle.base.specs.Choose.{if_then_else_}
 use Rattle.base.specs.Fills.{filled}
+use Rattle.base.proofs.Tests.{clash}
 use Rattle.record.specs.declared.Place.{Place}
 use Rattle.record.specs.declared.Record.{Record}
 use Rattle.record.specs.declared.Written.{Written}
@@ -40,13 +42,34 @@ module _ (loose : Bool) (line : List ℕ) (at : Place) (out : List ℕ) where
 
 pub ruleset give-laws = (give-none, give-value)
 
+-- refusals 1 and 2 come first
+pub early-long : (n : ℕ) → 8192 < n → Refused LineTooLong ≡ (if ltb 8192 n then Refused LineTooLong else Refused BadSetting)
+early-long n h = rw (lt-ltb 8192 n h)
+
+pub early-bad : (n : ℕ) → n ≤ 8192 → Refused BadSetting ≡ (if ltb 8192 n then Refused LineTooLong else Refused BadSetting)
+early-bad n h = rw (le-ltb 8192 n h)
+
+pub ruleset early-laws = (early-long, early-bad)
+
+pub record Later (n kind : ℕ) : Type 0 where
+  pub short : n ≤ 8192
+  pub known : kind ≤ 1
+
+pub later : (n kind : ℕ) → (ltb 8192 n || ltb 1 kind) ≡ false → Later n kind
+later n kind h = go (ltb 8192 n) (ltb 1 kind) refl refl h
+  where
+    go : (a b : Bool) → ltb 8192 n ≡ a → ltb 1 kind ≡ b → (a || b) ≡ false → Later n kind
+    go false false ea eb q = record { short = ltb-false 8192 n ea; known = ltb-false 1 kind eb }
+    go false true ea eb q = clash q
+    go true b ea eb q = clash q
+
 -- the refusals, in order
 module _ (line : List ℕ) (r : Record) (e p : ℕ) (elements params : List (List ℕ)) (id name : List ℕ) (kind : ℕ) (out : List ℕ) where
-  pub looks-long : 8192 < length line → Looks line r e p elements params id name kind out (Refused LineTooLong) out
+  looks-long : 8192 < length line → Looks line r e p elements params id name kind out (Refused LineTooLong) out
   looks-long h = record { answer = rw (lt-ltb 8192 (length line) h); output = refl }
 
   module _ (hl : length line ≤ 8192) where
-    pub looks-bad : 1 < kind → Looks line r e p elements params id name kind out (Refused BadSetting) out
+    looks-bad : 1 < kind → Looks line r e p elements params id name kind out (Refused BadSetting) out
     looks-bad h = record { answer = rw (le-ltb 8192 (length line) hl, lt-ltb 1 kind h); output = refl }
 
     module _ (hk : kind ≤ 1) (t : Bool) (et : t ≡ suits line r e p elements params) where
@@ -65,7 +88,14 @@ module _ (line : List ℕ) (r : Record) (e p : ℕ) (elements params : List (Lis
               output = rw (f .is) (g .output);
             }
 
-pub ruleset looks-laws = (looks-long, looks-bad, looks-unsuitable, looks-tables, looks-given)
+  pub looks-early : (ltb 8192 (length line) || ltb 1 kind) ≡ true → (w : Written) → w ≡ (if ltb 8192 (length line) then Refused LineTooLong else Refused BadSetting)
+      → Looks line r e p elements params id name kind out w out
+  looks-early h w q = go (ltb 8192 (length line)) (ltb 1 kind) refl refl h
+    where
+      go : (a b : Bool) → ltb 8192 (length line) ≡ a → ltb 1 kind ≡ b → (a || b) ≡ true → Looks line r e p elements params id name kind out w out
+      go true b ea eb z = rw (q ∙ ap (λ (b : Bool). if b then Refused LineTooLong else Refused BadSetting) ea) (looks-long (ltb-true 8192 (length line) ea))
+      go false true ea eb z = rw (q ∙ ap (λ (b : Bool). if b then Refused LineTooLong else Refused BadSetting) ea) (looks-bad (ltb-false 8192 (length line) ea) (ltb-true 1 kind eb))
+      go false false ea eb z = clash (sym z)
 
 -- the contract leaves one answer and one output
 pub looks-one : {line : List ℕ} {r : Record} {e p : ℕ} {elements params : List (List ℕ)} {id name : List ℕ} {kind : ℕ} {out : List ℕ} {w w′ : Written} {after after′ : List ℕ}

@@ -4,3 +4,4 @@ pub mod Unescaping
 pub mod Finding
 pub mod Answers
 mod Examples
+pub mod Contracts

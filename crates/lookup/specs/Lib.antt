@@ -1,3 +1,4 @@
 pub mod Unescape
 pub mod Lookup
 pub mod Steps
+pub mod Searches

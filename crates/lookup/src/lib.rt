@@ -1,13 +1,19 @@
 // Lookup: the unescaped value of the first parameter with a given element id and name.
+use record::Param;
 use record::Place;
 use record::Record;
 use record::Refusal;
 use record::Written;
 ghost use mathlib.Core.Path.{_≡_};
-ghost use mathlib.Core.Bool.{true, _&&_};
+ghost use mathlib.Core.Bool.{true, _&&_, _||_};
 ghost use mathlib.Core.List.{[]};
 ghost use Prim.Native.Nat.{_+_, _≤_, _<_};
+ghost use lib.Dec.{eqb, ltb};
 ghost use lib.ListN.{length, getD, take};
+ghost use Rattle.base.specs.Choose.{if_then_else_};
+ghost use Rattle.record.specs.Params.{rows};
+ghost use Rattle.record.specs.declared.Written.the-variants.{Refused};
+ghost use Rattle.record.specs.declared.Refusal.the-variants.{LineTooLong, BadSetting, Unsuitable};
 ghost use Rattle.base.specs.Fills.{filled};
 ghost use Rattle.base.specs.Texts.{textAt, sameText};
 ghost use Rattle.output.specs.Fits.{Fits};
@@ -16,6 +22,7 @@ ghost use Rattle.suits.specs.Suits.{tablesSuit};
 ghost use Rattle.lookup.specs.Unescape.{unescapedFrom, unescaped};
 ghost use Rattle.lookup.specs.Lookup.{Found, idText, Looks};
 ghost use Rattle.lookup.specs.Steps.{adds, bytesOf, foundAt, Finds, Gives};
+ghost use Rattle.lookup.specs.Searches.{Asks, searchFrom, searchOf};
 
 fn same_text(a: &[u8], b: &[u8]) -> bool
     ensures { λ r. ⌜ r ≡ sameText (now (a .entry)) (now (b .entry)) ⌝ }
@@ -57,14 +64,70 @@ fn id_is(line: &[u8], elements: &[[usize; 2]], id: &[u8], last: usize, same: boo
 }
 
 // Is this the parameter, where its element has the id?
-fn matches(line: &[u8], name: &[u8], same: bool, row: [usize; 5]) -> bool
-    requires { ⌜ getD row 1 0 + getD row 2 0 ≤ length (now line) ⌝ }
-    ensures { λ r. ⌜ r ≡ (same && sameText (textAt (now (line .entry)) (getD row 1 0) (getD row 2 0)) (now (name .entry))) ⌝ }
+fn matches(line: &[u8], name: &[u8], same: bool, p: Param) -> bool
+    requires { ⌜ p .«name_start» + p .«name_len» ≤ length (now line) ⌝ }
+    ensures { λ r. ⌜ r ≡ (same && sameText (textAt (now (line .entry)) (p .«name_start») (p .«name_len»)) (now (name .entry))) ⌝ }
 {
     if !same {
         return false;
     }
-    text_is(line, row[1], row[2], name)
+    text_is(line, p.name_start, p.name_len, name)
+}
+
+// How far the search is: the next entry, whether element `last` has the id, and the place of the value, which is absent as long as no parameter matches. Where
+// one does, no entry is next.
+struct Search {
+    next: usize,
+    last: usize,
+    same: bool,
+    value: Place,
+}
+
+fn search_from(element_count: usize) -> Search
+    ensures { λ r. ⌜ r ≡ searchFrom «element_count» ⌝ }
+{
+    Search {
+        next: 0,
+        last: element_count,
+        same: false,
+        value: record::absent(),
+    }
+}
+
+fn search_param(
+    line: &[u8],
+    elements: &[[usize; 2]],
+    id: &[u8],
+    name: &[u8],
+    count: usize,
+    s: Search,
+    p: Param,
+) -> Search
+    requires { ⌜ Asks (now line) (now elements) (now id) count s p ⌝ }
+    ensures { λ r. ⌜ r ≡ searchOf (now (line .entry)) (now (elements .entry)) (now (id .entry)) (now (name .entry)) count s p ⌝ }
+{
+    let same = id_is(line, elements, id, s.last, s.same, p.element);
+    if matches(line, name, same, p) {
+        return Search {
+            next: count,
+            last: p.element,
+            same,
+            value: record::place_at(p.value_start, p.value_len),
+        };
+    }
+    Search {
+        next: s.next + 1,
+        last: p.element,
+        same,
+        value: record::absent(),
+    }
+}
+
+fn value_of(s: Search) -> Place
+    ensures { λ r. ⌜ r ≡ s .value ⌝ }
+{
+    let value = s.value;
+    value
 }
 
 // The place of the value; absent where no parameter matches.
@@ -73,27 +136,20 @@ fn find(
     element_count: usize,
     param_count: usize,
     elements: &[[usize; 2]],
-    params: &[[usize; 5]],
+    params: &[Param],
     id: &[u8],
     name: &[u8],
 ) -> Place
-    requires { ⌜ tablesSuit (now line) «element_count» «param_count» (now elements) (now params) ≡ true ⌝ }
-    ensures { λ r. ⌜ Finds (now (line .entry)) (now (elements .entry)) (now (id .entry)) (now (name .entry)) (take «param_count» (now (params .entry))) r ⌝ }
+    requires { ⌜ tablesSuit (now line) «element_count» «param_count» (now elements) (rows (now params)) ≡ true ⌝ }
+    ensures { λ r. ⌜ Finds (now (line .entry)) (now (elements .entry)) (now (id .entry)) (now (name .entry)) (take «param_count» (rows (now (params .entry)))) r ⌝ }
 {
-    let mut last = element_count;
-    let mut same = false;
-    let mut i = 0;
-    while i < param_count {
-        let row = params[i];
-        let k = row[0];
-        same = id_is(line, elements, id, last, same, k);
-        last = k;
-        if matches(line, name, same, row) {
-            return record::place_at(row[3], row[4]);
-        }
-        i += 1;
+    let mut s = search_from(element_count);
+    while s.next < param_count {
+        let i = s.next;
+        let p = entries::fetch(params, i);
+        s = search_param(line, elements, id, name, param_count, s, p);
     }
-    record::absent()
+    value_of(s)
 }
 
 // What a byte of a value adds: nothing, one byte, or a backslash and a byte.
@@ -214,29 +270,57 @@ fn give(line: &[u8], value: Place, loose: bool, out: &mut [u8]) -> Written
     put_value(&line[start..end], loose, out)
 }
 
+// By the kind.
+fn give_by(line: &[u8], value: Place, kind: u32, out: &mut [u8]) -> Written
+    requires { ⌜ value .start + value .len ≤ length (now line) ⌝ }
+    ensures { λ w. ⌜ Gives (eqb kind 0) (foundAt (now (line .entry)) value) (now (out .entry)) w (now (out .exit)) ⌝ }
+{
+    give(line, value, kind == 0, out)
+}
+
+// Refusals 1 and 2, of a line of `n` bytes.
+fn is_early(n: usize, kind: u32) -> bool
+    ensures { λ b. ⌜ b ≡ (ltb 8192 n || ltb 1 kind) ⌝ }
+{
+    (8192 < n) | (1 < kind)
+}
+
+fn early(n: usize) -> Written
+    ensures { λ w. ⌜ w ≡ (if ltb 8192 n then Refused LineTooLong else Refused BadSetting) ⌝ }
+{
+    if 8192 < n {
+        return Written::Refused(Refusal::LineTooLong);
+    }
+    Written::Refused(Refusal::BadSetting)
+}
+
+fn unsuitable() -> Written
+    ensures { λ w. ⌜ w ≡ Refused Unsuitable ⌝ }
+{
+    Written::Refused(Refusal::Unsuitable)
+}
+
 pub fn lookup(
     line: &[u8],
     r: Record,
     element_count: usize,
     param_count: usize,
     elements: &[[usize; 2]],
-    params: &[[usize; 5]],
+    params: &[Param],
     id: &[u8],
     name: &[u8],
     kind: u32,
     out: &mut [u8],
 ) -> Written
-    ensures { λ w. ⌜ Looks (now (line .entry)) r «element_count» «param_count» (now (elements .entry)) (now (params .entry)) (now (id .entry)) (now (name .entry)) kind (now (out .entry)) w (now (out .exit)) ⌝ }
+    ensures { λ w. ⌜ Looks (now (line .entry)) r «element_count» «param_count» (now (elements .entry)) (rows (now (params .entry))) (now (id .entry)) (now (name .entry)) kind (now (out .entry)) w (now (out .exit)) ⌝ }
 {
-    if 8192 < line.len() {
-        return Written::Refused(Refusal::LineTooLong);
+    let n = line.len();
+    if is_early(n, kind) {
+        return early(n);
     }
-    if 1 < kind {
-        return Written::Refused(Refusal::BadSetting);
+    if suits::is_suitable(line, r, element_count, param_count, elements, params) {
+        let value = find(line, element_count, param_count, elements, params, id, name);
+        return give_by(line, value, kind, out);
     }
-    if !suits::is_suitable(line, r, element_count, param_count, elements, params) {
-        return Written::Refused(Refusal::Unsuitable);
-    }
-    let value = find(line, element_count, param_count, elements, params, id, name);
-    give(line, value, kind == 0, out)
+    unsuitable()
 }

@@ -1,41 +1,35 @@
 -- Printing: what is measured, what is answered, and what the output holds.
-use Prim.Native.Nat.{ℕ, _+_, _-_, _≤_, _<_}
+use Prim.Native.Nat.{ℕ, _+_, _≤_, _<_}
 use mathlib.Core.Path.{_≡_, refl, sym, ap, _∙_}
-use mathlib.Core.Bool.{Bool, true, false, not}
+use mathlib.Core.Bool.{Bool, true, false, _&&_}
 use mathlib.Core.List.{List, [], _∷_, _++_}
 use native.Mathlib.Omega.{arith}
 use lib.Dec.{leb}
 use lib.ListN.{length, take}
-use lib.Seq.{length-take-le, take-length}
-use borrow.Author.Tests.{le-leb, lt-leb, lt-ltb, le-ltb, leb-true, leb-false, not-true, not-false, eq-eqb, ne-eqb}
+use lib.Seq.{length-take-le}
+use borrow.Author.Tests.{le-leb, lt-leb, lt-ltb, le-ltb, leb-true, leb-false, eq-eqb, ne-eqb}
 use mir.Syntax.{w64}
 use mir.Val
-use Rattle.base.specs.Texts.{textAt}
 use Rattle.base.proofs.Tests.{both}
 use Rattle.record.specs.declared.Protocol.{Protocol}
 use Rattle.record.specs.declared.Protocol.the-variants.{Rfc3164, Rfc5424}
 use Rattle.record.specs.declared.Record.{Record}
 use Rattle.record.specs.declared.Written.the-variants.{Done, Refused}
 use Rattle.record.specs.declared.Refusal.the-variants.{LineTooLong, Unsuitable, OutputShort}
-use Rattle.suits.specs.Suits.{recordSuits, tablesSuit, suits}
-use Rattle.suits.proofs.Suited.{record-in, tables-suited, elements-fit, params-fit}
+use Rattle.suits.specs.Suits.{recordSuits, elementsSuit, paramsSuit, tablesSuit, suits}
+use Rattle.suits.proofs.Suited.{tables-suited, elements-fit, params-fit}
 use Rattle.output.specs.Fits.{Fits, Sized}
 use Rattle.output.specs.Output.{Wrote}
-use Rattle.output.proofs.Pieces.{starts-front, starts-more, starts-named, first-fits, next-fits, last-fits, three-are}
 use Rattle.output.proofs.Writes.{written-front}
-use Rattle.message.specs.Message.{elementsText, headText, namesText, printed}
+use Rattle.message.specs.Message.{headText, namesText, printed}
 use Rattle.message.specs.Opens.{endText}
 use Rattle.message.specs.Prints.{Prints}
-use Rattle.message.specs.Rooms.{roomFor, elementSize, paramSize, total, otherSize}
+use Rattle.message.specs.Rooms.{roomFor, fitsIn, elementSize, paramSize, total, otherSize}
 use Rattle.message.specs.declared.Room.{Room}
 use Rattle.message.specs.declared.Room.the-variants.{Short, Left}
-use Rattle.message.proofs.Rooms.{room-over, room-rest}
-use Rattle.message.proofs.Lengths.{printed-is, printed-size}
-use Rattle.message.proofs.Walks.{ids-suit, params-suit}
-
--- what `&elements[0..count]` lends
-pub counted-is : (rows : List (List ℕ)) (n : ℕ) → take (n - 0) rows ≡ take n rows
-counted-is rows n = let e : n - 0 ≡ n = omega arith in ap (λ (k : ℕ). take k rows) e
+use Rattle.message.proofs.Texts.{message-in}
+use Rattle.message.proofs.Rooms.{room-over, room-rest, fits-both}
+use Rattle.message.proofs.Lengths.{printed-size}
 
 -- behind the elements
 module _ (p : Protocol) (n : ℕ) where
@@ -69,7 +63,7 @@ pub ruleset end-sizes = (end-some-sized, end-none-sized, end-dash-sized)
 module _ (line : List ℕ) (r : Record) (ids : List (List ℕ)) (a b : ℕ)
     (sa : Sized (headText line r ++ namesText line r (r .protocol)) 32831 a) (sb : Sized (endText (r .protocol) (length ids)) 2 b) where
   pub others-sum : length line ≤ 8192 → recordSuits line r ≡ true → mir.Val.Fits w64 (a + b + r .message .len)
-  others-sum l s = record { fits = omega (arith, sa .to, sb .to, record-in line r s .message-in) }
+  others-sum l s = record { fits = omega (arith, sa .to, sb .to, message-in line r s) }
 
   sum : otherSize line r ids ≡ a + b + r .message .len + total elementSize ids
   unfolding otherSize
@@ -88,123 +82,72 @@ module _ (line : List ℕ) (r : Record) (ids : List (List ℕ)) (a b : ℕ)
 
 pub ruleset others-laws = (others-sum, others-out, ids-out, ids-in)
 
+-- by what the parameters leave
+module _ (room : Room) (n : ℕ) where
+  pub rest-none : room ≡ Short → false ≡ fitsIn room n
+  rest-none e = rw e
+
+  pub rest-some : (left : ℕ) → room ≡ Left left → (b : Bool) → b ≡ leb n left → b ≡ fitsIn room n
+  rest-some left e b h = rw e h
+
 -- a record and tables that suit
 module _ (line : List ℕ) (r : Record) (e p : ℕ) (elements params : List (List ℕ)) (suited : suits line r e p elements params ≡ true) where
   tables : tablesSuit line e p elements params ≡ true
   tables = tables-suited line r e p elements params suited
 
-  recorded : recordSuits line r ≡ true
+  pub record-suits : recordSuits line r ≡ true
   unfolding suits
-  recorded = both _ _ suited .0
+  record-suits = both _ _ suited .0
 
-  placed : r .message .start + r .message .len ≤ length line
-  placed = record-in line r recorded .message-in
+  pub elements-counted : e ≤ length elements
+  elements-counted = elements-fit line e p elements params tables
 
-  module _ (ids : List (List ℕ)) (ei : ids ≡ take e elements) where
-    long : length ids ≡ e
-    long = ap length ei ∙ length-take-le e elements (elements-fit line e p elements params tables)
+  pub params-counted : p ≤ length params
+  params-counted = params-fit line e p elements params tables
 
-    tabled : tablesSuit line (length ids) p ids params ≡ true
-    unfolding tablesSuit
-    tabled =
-        rw (le-leb (length ids) (length ids) (omega arith), take-length ids)
-        (rw (le-leb e (length elements) (elements-fit line e p elements params tables), ← ei, ← long) at tables)
+  pub ids-suit : elementsSuit line (take e elements) ≡ true
+  unfolding tablesSuit
+  ids-suit = both (leb e (length elements) && leb p (length params)) _ (both _ _ tables .0) .1
 
-    size : length (printed line r (take e elements) (take p params)) ≡ otherSize line r ids + total paramSize (take p params)
-    size = rw (← ei) (printed-size line r ids (take p params) placed (ids-suit line ids params p tabled) (params-suit line ids params p tabled))
+  pub params-suit : paramsSuit line e 0 (take p params) ≡ true
+  unfolding tablesSuit
+  params-suit = both (leb e (length elements) && leb p (length params) && elementsSuit line (take e elements)) _ tables .1
 
--- the output is long enough
-pub record Measured (line : List ℕ) (r : Record) (e p : ℕ) (elements params : List (List ℕ)) (out : List ℕ) (ids : List (List ℕ)) : Type 0 where
-  pub line-to : length line ≤ 8192
-  pub suited : suits line r e p elements params ≡ true
-  pub ids-are : ids ≡ take e elements
-  pub whole : Fits out 0 (printed line r (take e elements) (take p params))
+  pub ids-length : length (take e elements) ≡ e
+  ids-length = length-take-le e elements elements-counted
 
--- the refusals, in the order in which they are checked
+  size : length (printed line r (take e elements) (take p params)) ≡ otherSize line r (take e elements) + total paramSize (take p params)
+  size = printed-size line r (take e elements) (take p params) (message-in line r record-suits) ids-suit (rw ids-length params-suit)
+
+  -- what is measured
+  pub fits-is : (room : ℕ) (m : Room) → m ≡ roomFor room (total paramSize (take p params)) → (b : Bool) → b ≡ fitsIn m (otherSize line r (take e elements))
+      → b ≡ leb (length (printed line r (take e elements) (take p params))) room
+  fits-is room m em b eb = eb ∙ ap (λ (q : Room). fitsIn q (otherSize line r (take e elements))) em ∙ fits-both room _ _ ∙ ap (λ (n : ℕ). leb n room) (sym size)
+
+-- the refusals, in the order in which they are checked, and the answer
 module _ (line : List ℕ) (r : Record) (e p : ℕ) (elements params : List (List ℕ)) (out : List ℕ) where
   pub print-long : 8192 < length line → Prints line r e p elements params out (Refused LineTooLong) out
   print-long h = record { answer = rw (lt-ltb 8192 (length line) h); output = refl }
 
-  module _ (l : length line ≤ 8192) (b : Bool) (eb : b ≡ suits line r e p elements params) where
-    pub print-unsuited : not b ≡ true → Prints line r e p elements params out (Refused Unsuitable) out
-    print-unsuited h = record { answer = rw (le-ltb 8192 (length line) l, ← eb, h); output = refl }
+  module _ (l : length line ≤ 8192) where
+    pub print-unsuited : suits line r e p elements params ≡ false → Prints line r e p elements params out (Refused Unsuitable) out
+    print-unsuited s = record { answer = rw (le-ltb 8192 (length line) l, s); output = refl }
 
-    module _ (h : not b ≡ false) where
-      yes-suits : suits line r e p elements params ≡ true
-      yes-suits = sym eb ∙ not-false b h
+    module _ (s : suits line r e p elements params ≡ true) where
+      pub print-short : leb (length (printed line r (take e elements) (take p params))) (length out) ≡ false → Prints line r e p elements params out (Refused OutputShort) out
+      print-short h = record { answer = rw (le-ltb 8192 (length line) l, s, lt-ltb (length out) _ (leb-false _ (length out) h)); output = refl }
 
-      short : length out < length (printed line r (take e elements) (take p params)) → Prints line r e p elements params out (Refused OutputShort) out
-      short k = record { answer = rw (le-ltb 8192 (length line) l, yes-suits, lt-ltb (length out) _ k); output = refl }
+      module _ (h : leb (length (printed line r (take e elements) (take p params))) (length out) ≡ true) where
+        enough : length (printed line r (take e elements) (take p params)) ≤ length out
+        enough = leb-true _ (length out) h
 
-      pub record-suits : recordSuits line r ≡ true
-      record-suits = recorded line r e p elements params yes-suits
+        pub print-fits : Fits out 0 (printed line r (take e elements) (take p params))
+        print-fits = record { fits = omega (arith, enough) }
 
-      pub elements-counted : e ≤ length elements
-      elements-counted = elements-fit line e p elements params (tables line r e p elements params yes-suits)
-
-      pub params-counted : p ≤ length params
-      params-counted = params-fit line e p elements params (tables line r e p elements params yes-suits)
-
-      module _ (ids : List (List ℕ)) (ei : ids ≡ take e elements) (q : Room) (eq : q ≡ roomFor (length out) (total paramSize (take p params))) where
-        all : length (printed line r (take e elements) (take p params)) ≡ otherSize line r ids + total paramSize (take p params)
-        all = size line r e p elements params yes-suits ids ei
-
-        pub print-short-params : q ≡ Short → Prints line r e p elements params out (Refused OutputShort) out
-        print-short-params k = short (omega (arith, all, room-over (length out) _ (sym eq ∙ k)))
-
-        module _ (left : ℕ) (k : q ≡ Left left) (v : Bool) (ev : v ≡ leb (otherSize line r ids) left) where
-          rest : left + total paramSize (take p params) ≡ length out
-          rest = room-rest (length out) _ left (sym eq ∙ k)
-
-          pub print-short : not v ≡ true → Prints line r e p elements params out (Refused OutputShort) out
-          print-short n = short (omega (arith, all, rest, leb-false (otherSize line r ids) left (sym ev ∙ not-true v n)))
-
-          pub measured : not v ≡ false → Measured line r e p elements params out ids
-          measured n =
-              record {
-                line-to = l;
-                suited = yes-suits;
-                ids-are = ei;
-                whole = record { fits = omega (arith, all, rest, leb-true (otherSize line r ids) left (sym ev ∙ not-false v n)) };
-              }
-
-pub ruleset refusals = (print-long, print-unsuited, record-suits, elements-counted, params-counted, print-short-params, print-short)
-
--- the writes, in three pieces
-module _ (line : List ℕ) (r : Record) (e p : ℕ) (elements params : List (List ℕ)) (out : List ℕ) (ids : List (List ℕ)) (m : Measured line r e p elements params out ids) where
-  pieces : headText line r ++ namesText line r (r .protocol) ++ elementsText line 0 ids (take p params) ++ (endText (r .protocol) e ++ textAt line (r .message .start) (r .message .len))
-      ≡ printed line r (take e elements) (take p params)
-  pieces = rw (← m .ids-are, ← long line r e p elements params (m .suited) ids (m .ids-are)) (printed-is line r ids (take p params))
-
-  pub front-suits : recordSuits line r ≡ true
-  front-suits = recorded line r e p elements params (m .suited)
-
-  pub front-fits : Fits out 0 (headText line r ++ namesText line r (r .protocol))
-  front-fits = first-fits (m .whole) (rw (← pieces) (starts-more _ _ _ (starts-front _ _)))
-
-  pub ids-tables : tablesSuit line (length ids) p ids params ≡ true
-  ids-tables = tabled line r e p elements params (m .suited) ids (m .ids-are)
-
-  pub message-in : r .message .start + r .message .len ≤ length line
-  message-in = placed line r e p elements params (m .suited)
-
-  module _ (n₁ : ℕ) (out₁ : List ℕ) (w₁ : Wrote out 0 (headText line r ++ namesText line r (r .protocol)) n₁ out₁) where
-    pub data-fits : Fits out₁ n₁ (elementsText line 0 ids (take p params))
-    data-fits = next-fits (m .whole) w₁ (rw (← pieces) (starts-front _ _))
-
-    module _ (n₂ : ℕ) (out₂ : List ℕ) (w₂ : Wrote out₁ n₁ (elementsText line 0 ids (take p params)) n₂ out₂) where
-      pub back-fits : Fits out₂ n₂ (endText (r .protocol) e ++ textAt line (r .message .start) (r .message .len))
-      back-fits = last-fits (m .whole) w₁ w₂ (starts-named _ _ pieces)
-
-      pub print-done : (n₃ : ℕ) (out₃ : List ℕ) → Wrote out₂ n₂ (endText (r .protocol) e ++ textAt line (r .message .start) (r .message .len)) n₃ out₃
-          → Prints line r e p elements params out (Done n₃) out₃
-      print-done n₃ out₃ w₃ =
-          let w = three-are (m .whole) w₁ w₂ w₃ pieces in
-          let len : n₃ ≡ length (printed line r (take e elements) (take p params)) = omega (arith, w .behind) in
-          let enough : length (printed line r (take e elements) (take p params)) ≤ length out = omega (arith, m .whole .fits) in
-          record {
-            answer = rw (le-ltb 8192 (length line) (m .line-to), m .suited, le-ltb (length out) _ enough) (ap Done len);
-            output = w .holds ∙ written-front out _;
-          }
-
-pub ruleset writes = (front-suits, front-fits, ids-tables, message-in, data-fits, back-fits, print-done)
+        pub print-done : (n : ℕ) (after : List ℕ) → Wrote out 0 (printed line r (take e elements) (take p params)) n after → Prints line r e p elements params out (Done n) after
+        print-done n after w =
+            let len : n ≡ length (printed line r (take e elements) (take p params)) = omega (arith, w .behind) in
+            record {
+              answer = rw (le-ltb 8192 (length line) l, s, le-ltb (length out) _ enough) (ap Done len);
+              output = w .holds ∙ written-front out _;
+            }

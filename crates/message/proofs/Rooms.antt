@@ -5,10 +5,13 @@ use mathlib.Core.List.{List, [], _∷_}
 use native.Mathlib.Decide.{decLe}
 use native.Mathlib.Omega.{arith}
 use native.Mathlib.Numerals.{add-one}
-use lib.ListN.{length, getD, drop, drop-of-length-le}
+use lib.Dec.{leb}
+use lib.ListN.{length, getD, take, drop, drop-of-length-le}
 use lib.Seq.{drop-cons}
-use borrow.Author.Tests.{lt-ltb, le-ltb}
-use Rattle.message.specs.Rooms.{roomFor, total}
+use borrow.Author.Tests.{lt-ltb, le-ltb, lt-leb, le-leb, leb-true, leb-false}
+use Rattle.base.proofs.Tests.{by-test}
+use Rattle.suits.proofs.Rows.{row-step, rows-ended}
+use Rattle.message.specs.Rooms.{roomFor, roomAfter, fitsIn, paramSize, total}
 use Rattle.message.specs.declared.Room.{Room}
 use Rattle.message.specs.declared.Room.the-variants.{Short, Left}
 
@@ -57,19 +60,24 @@ module _ (left a b : ℕ) (r : Room) (e : r ≡ roomFor left a) where
     pub room-then : (s : Room) → s ≡ roomFor x b → s ≡ roomFor left (a + b)
     room-then s es = es ∙ sym room-on
 
--- three of them, the first two as one
-module _ (left a b c : ℕ) (r : Room) (e : r ≡ roomFor left a) where
-  pub room-out-first : r ≡ Short → Short ≡ roomFor left (a + b + c)
-  room-out-first h = room-out left (a + b) c Short (room-out left a b r e h) refl
+pub ruleset room-laws = (room-out, room-then)
 
-  module _ (x : ℕ) (h : r ≡ Left x) (s : Room) (f : s ≡ roomFor x b) where
-    pub room-out-second : s ≡ Short → Short ≡ roomFor left (a + b + c)
-    room-out-second k = room-out left (a + b) c s (room-then left a b r e x h s f) k
+-- the pieces of a parameter: name, value and four bytes more
+module _ (room : Room) (a b : ℕ) where
+  module _ (left : ℕ) (e : room ≡ Left left) where
+    pub param-name : left < a → Short ≡ roomAfter room (a + b + 4)
+    param-name h = rw e (room-short left (a + b + 4) (omega arith))
 
-    pub room-then-third : (y : ℕ) → s ≡ Left y → (t : Room) → t ≡ roomFor y c → t ≡ roomFor left (a + b + c)
-    room-then-third y k t g = room-then left (a + b) c s (room-then left a b r e x h s f) y k t g
+    module _ (h : a ≤ left) where
+      pub param-value : left - a < b → Short ≡ roomAfter room (a + b + 4)
+      param-value k = rw e (room-short left (a + b + 4) (omega arith))
 
-pub ruleset room-laws = (room-out, room-then, room-out-first, room-out-second, room-then-third)
+      pub param-rest : b ≤ left - a → (s : Room) → s ≡ roomFor (left - a - b) 4 → s ≡ roomAfter room (a + b + 4)
+      param-rest k s f =
+          let q : left - a - b ≡ left - (a + b) = omega arith in
+          rw e (room-then left (a + b) 4 (Left (left - a - b)) (ap Left q ∙ room-left left (a + b) (omega arith)) (left - a - b) refl s f)
+
+pub ruleset param-laws = (param-name, param-value, param-rest)
 
 -- the rows: `i` of them passed
 module _ (size : List ℕ → ℕ) (rows : List (List ℕ)) (room left i : ℕ) (inv : roomFor room (total size rows) ≡ roomFor left (total size (drop i rows))) where
@@ -97,3 +105,50 @@ ids-step rows i h = rw (add-one, drop-cons rows i [])
 
 pub ids-ended : (rows : List (List ℕ)) (i : ℕ) → length rows ≤ i → drop i rows ≡ []
 ids-ended rows i h = drop-of-length-le rows h
+
+-- what parameters leave, one after the other
+after-then : (r : Room) (a b : ℕ) → roomAfter (roomAfter r a) b ≡ roomAfter r (a + b)
+after-then Short a b = refl
+after-then (Left left) a b = go (roomFor left a) refl
+  where
+    go : (q : Room) → q ≡ roomFor left a → roomAfter q b ≡ roomFor left (a + b)
+    go Short e = room-out left a b Short e refl
+    go (Left x) e = room-then left a b (Left x) e x refl (roomFor x b) refl
+
+after-none : (r : Room) → roomAfter r 0 ≡ r
+after-none Short = refl
+after-none (Left left) = let z : left - 0 ≡ left = omega arith in sym (room-left left 0 (omega arith)) ∙ ap Left z
+
+-- `m` is left of the room behind `i` of the first `p` parameters
+pub record Measured (room p : ℕ) (params : List (List ℕ)) (m : Room) (i : ℕ) : Type 0 where
+  pub left : roomAfter m (total paramSize (drop i (take p params))) ≡ roomFor room (total paramSize (take p params))
+
+module _ (room p : ℕ) (params : List (List ℕ)) (m : Room) where
+  pub measured-none : m ≡ Left room → Measured room p params m 0
+  measured-none e = record { left = rw e }
+
+  module _ (fits : p ≤ length params) (i : ℕ) (w : Measured room p params m i) where
+    pub measured-on : i < p → (row : List ℕ) → row ≡ getD params i [] → (n : Room) → n ≡ roomAfter m (paramSize row) → Measured room p params n (i + 1)
+    unfolding total
+    measured-on h row er n en =
+        let rest = total paramSize (drop (i + 1) (take p params)) in
+        let step = ap (total paramSize) (row-step params p fits i [] h) ∙ ap (λ (l : List ℕ). paramSize l + rest) (sym er) in
+        record {
+          left = ap (λ (r : Room). roomAfter r rest) en ∙ after-then m (paramSize row) rest ∙ ap (roomAfter m) (sym step) ∙ w .left;
+        }
+
+    pub measured-all : p ≤ i → m ≡ roomFor room (total paramSize (take p params))
+    unfolding total
+    measured-all h = sym (after-none m) ∙ ap (λ (l : List (List ℕ)). roomAfter m (total paramSize l)) (sym (rows-ended params p fits i h)) ∙ w .left
+
+-- and whether others fit behind them
+pub fits-both : (room a n : ℕ) → fitsIn (roomFor room a) n ≡ leb (n + a) room
+fits-both room a n = go (roomFor room a) refl
+  where
+    go : (q : Room) → roomFor room a ≡ q → fitsIn q n ≡ leb (n + a) room
+    go Short e = sym (lt-leb (n + a) room (omega (arith, room-over room a e)))
+    go (Left x) e =
+        let l : x + a ≡ room = room-rest room a x e in
+        by-test (λ b. b ≡ leb (n + a) room) (leb n x)
+        (λ h. sym (le-leb (n + a) room (omega (arith, leb-true n x h))))
+        (λ h. sym (lt-leb (n + a) room (omega (arith, leb-false n x h))))

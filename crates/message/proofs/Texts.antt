@@ -43,6 +43,9 @@ module _ (line : List ℕ) (r : Record) (s : recordSuits line r ≡ true) where
   pub msgid-in : r .msgid .start + r .msgid .len ≤ length line
   msgid-in = record-in line r s .msgid-in
 
+  pub message-in : r .message .start + r .message .len ≤ length line
+  message-in = record-in line r s .message-in
+
 pub ruleset places-in = (stamp-in, host-in, app-in, procid-in, msgid-in)
 
 -- `<p>`, its number found

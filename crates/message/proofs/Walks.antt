@@ -1,30 +1,37 @@
 -- The walk over both tables: the elements opened one after another, and the parameters in between.
 use Prim.Native.Nat.{ℕ, zero, suc, _+_, _-_, _≤_, _<_}
 use mathlib.Core.Path.{_≡_, refl, sym, ap, _∙_}
-use mathlib.Core.Bool.{true, _&&_}
+use mathlib.Core.Bool.{true}
 use mathlib.Core.List.{List, [], _∷_, _++_, append-assoc}
+use native.Mathlib.Decide.{decLe}
 use native.Mathlib.Omega.{arith}
-use lib.Dec.{leb}
+use lib.Dec.{eqb}
 use lib.ListN.{length, getD, take, drop}
-use lib.Seq.{take-length}
+use lib.Seq.{take-length, length-take-le}
 use borrow.Author.Tests.{le-leb, leb-true, ltb-true, eq-eqb, ne-eqb}
+use Rattle.base.specs.Choose.{if_then_else_}
 use Rattle.base.proofs.Tests.{both}
+use Rattle.record.specs.declared.Param.{Param}
+use Rattle.record.specs.Params.{rowOf}
 use Rattle.suits.specs.Suits.{elementsSuit, paramSuits, paramsSuit, tablesSuit}
-use Rattle.suits.proofs.Suited.{id-suited, params-fit, ParamIn}
-use Rattle.suits.proofs.Rows.{row-step, rows-ended}
+use Rattle.suits.proofs.Suited.{id-suited, ParamIn}
 use Rattle.output.specs.Fits.{Fits}
 use Rattle.output.specs.Output.{Wrote}
-use Rattle.output.proofs.Pieces.{Starts, starts-named, first-fits, next-fits, two-are, unwritten, Midway, midway-all, midway-fits, midway-on, midway-last}
+use Rattle.output.proofs.Pieces.{Starts, starts-named, named-fits, named}
 use Rattle.message.specs.Message.{openText, paramText, paramsText, otherParams, elementsText}
-use Rattle.message.specs.Opens.{opensText}
+use Rattle.message.specs.Opens.{firstText, opensText, closeText}
 use Rattle.message.proofs.Rooms.{ids-step, ids-ended}
+
+-- what `&elements[0..count]` lends
+pub counted-is : (rows : List (List ℕ)) (n : ℕ) → take (n - 0) rows ≡ take n rows
+counted-is rows n = let e : n - 0 ≡ n = omega arith in ap (λ (k : ℕ). take k rows) e
 
 -- what suits of the rows
 alone : (line : List ℕ) (ids : List (List ℕ)) → elementsSuit line ids ≡ true → tablesSuit line (length ids) 0 ids [] ≡ true
 unfolding tablesSuit paramsSuit
 alone line ids h = rw (le-leb (length ids) (length ids) (omega arith), take-length ids, h)
 
-pub id-in : (line : List ℕ) (ids : List (List ℕ)) → elementsSuit line ids ≡ true → (j : ℕ) → j < length ids
+id-in : (line : List ℕ) (ids : List (List ℕ)) → elementsSuit line ids ≡ true → (j : ℕ) → j < length ids
     → getD (getD ids j []) 0 0 + getD (getD ids j []) 1 0 ≤ length line
 id-in line ids h j l = id-suited line (length ids) 0 ids [] (alone line ids h) j l
 
@@ -52,8 +59,6 @@ module _ (line : List ℕ) (e low : ℕ) (row : List ℕ) (h : paramSuits line e
 
   pub value-in : getD row 3 0 + getD row 4 0 ≤ length line
   value-in = param-in .value-in
-
-pub ruleset rows-in = (id-in, number-from, number-below, name-in, value-in)
 
 -- the next parameter, if there is one, is of element `n` or a later one
 abbrev Late : ℕ → List (List ℕ) → Type 0
@@ -143,99 +148,104 @@ module _ (line : List ℕ) (ids : List (List ℕ)) where
       start [] h = absurd (omega arith)
       start (row ∷ rows) h = simp append-assoc
 
--- The walk, begun at `at` of `o`: `i` parameters are written, element `k` is open.
-pub record Walk (line : List ℕ) (ids params : List (List ℕ)) (p : ℕ) (o : List ℕ) (at : ℕ) (out : List ℕ) (pos k i : ℕ) : Type 0 where
-  pub counted : p ≤ length params
-  pub passed : i ≤ p
-  pub opened : k < length ids
-  pub suited : paramsSuit line (length ids) k (drop i (take p params)) ≡ true
-  pub room : Fits o at (restText line ids 0 (take p params))
-  pub midway : Midway o at (restText line ids 0 (take p params)) out pos (restText line ids k (drop i (take p params)))
-
-module _ (line : List ℕ) (ids params : List (List ℕ)) (p : ℕ) (t : tablesSuit line (length ids) p ids params ≡ true) where
-  pub ids-suit : elementsSuit line ids ≡ true
-  unfolding tablesSuit
-  ids-suit =
-      let counts = leb (length ids) (length ids) && leb p (length params) in
-      rw (take-length ids) at (both counts (elementsSuit line (take (length ids) ids)) (both _ _ t .0) .1)
-
-  pub params-suit : paramsSuit line (length ids) 0 (take p params) ≡ true
-  unfolding tablesSuit
-  params-suit = both (leb (length ids) (length ids) && leb p (length params) && elementsSuit line (take (length ids) ids)) _ t .1
-
-  pub walk-nothing : (o : List ℕ) (at : ℕ) → length ids ≡ 0 → Wrote o at (elementsText line 0 ids (take p params)) at o
+  empty : (ps : List (List ℕ)) → length ids ≡ 0 → [] ≡ elementsText line 0 ids ps
   unfolding elementsText
-  walk-nothing o at h = unwritten _ o at (none ids h)
+  empty ps h = none ids h
     where
-      none : (l : List (List ℕ)) → length l ≡ 0 → [] ≡ elementsText line 0 l (take p params)
+      none : (l : List (List ℕ)) → length l ≡ 0 → [] ≡ elementsText line 0 l ps
       none [] h = refl
       none (row ∷ rows) h = absurd (omega arith)
 
-  module _ (o : List ℕ) (at : ℕ) (f : Fits o at (elementsText line 0 ids (take p params))) (h : length ids ≡ 0 → ⊥) where
-    begins : openText line (getD ids 0 []) ++ restText line ids 0 (take p params) ≡ elementsText line 0 ids (take p params)
-    begins = first-is line ids (take p params) (omega arith)
+  -- the same where there may be no element, and then nothing is to come
+  unfoldable pub leftText : ℕ → List (List ℕ) → List ℕ
+  leftText k ps = if eqb (length ids) 0 then [] else restText k ps
 
-    pub walk-first : Fits o at (openText line (getD ids 0 []))
-    walk-first = first-fits f (record { others = _; is = begins })
+  left-some : (k : ℕ) (ps : List (List ℕ)) → (length ids ≡ 0 → ⊥) → leftText k ps ≡ restText k ps
+  unfolding leftText
+  left-some k ps h = rw (ne-eqb (length ids) 0 h)
 
-    pub first-in : getD (getD ids 0 []) 0 0 + getD (getD ids 0 []) 1 0 ≤ length line
-    first-in = id-in line ids ids-suit 0 (omega arith)
+  -- how the walk begins and ends, where there is no element and where there is one
+  module _ (z : length ids ≡ 0) where
+    pub first-none : [] ≡ firstText line ids
+    unfolding firstText
+    first-none = rw (eq-eqb (length ids) 0 z)
 
-    module _ (n : ℕ) (q : List ℕ) (w : Wrote o at (openText line (getD ids 0 [])) n q) where
-      pub walk-start : Walk line ids params p q n q n 0 0
-      walk-start =
-          record {
-            counted = params-fit line (length ids) p ids params t;
-            passed = omega arith;
-            opened = omega arith;
-            suited = params-suit;
-            room = next-fits f w (starts-named _ _ begins);
-            midway = midway-all q n (restText line ids 0 (take p params));
-          }
+    pub close-none : (k : ℕ) → [] ≡ closeText line ids k
+    unfolding closeText
+    close-none k = rw (eq-eqb (length ids) 0 z)
 
-  module _ (o : List ℕ) (at : ℕ) (out : List ℕ) (pos k i : ℕ) (m : Walk line ids params p o at out pos k i) where
-    module _ (h : i < p) where
-      step : drop i (take p params) ≡ getD params i [] ∷ drop (i + 1) (take p params)
-      step = row-step params p (m .counted) i [] h
+  module _ (h : length ids ≡ 0 → ⊥) where
+    pub first-some : openText line (getD ids 0 []) ≡ firstText line ids
+    unfolding firstText
+    first-some = rw (ne-eqb (length ids) 0 h)
 
-      suits-on : (paramSuits line (length ids) k (getD params i []) && paramsSuit line (length ids) (getD (getD params i []) 0 0) (drop (i + 1) (take p params))) ≡ true
-      unfolding paramsSuit
-      suits-on = rw step at (m .suited)
+    pub first-in : elementsSuit line ids ≡ true → getD (getD ids 0 []) 0 0 + getD (getD ids 0 []) 1 0 ≤ length line
+    first-in s = id-in line ids s 0 (omega arith)
 
-      pub turn-suits : paramSuits line (length ids) k (getD params i []) ≡ true
-      turn-suits = both _ _ suits-on .0
+    module _ (k : ℕ) where
+      pub close-some : opensText line (take (length ids - 1 - k) (drop (k + 1) ids)) ++ (93 ∷ []) ≡ closeText line ids k
+      unfolding closeText
+      close-some = rw (ne-eqb (length ids) 0 h)
 
-      turn-text : (opensText line (take (getD (getD params i []) 0 0 - k) (drop (k + 1) ids)) ++ paramText line (getD params i [])) ++ restText line ids (getD (getD params i []) 0 0) (drop (i + 1) (take p params))
-          ≡ restText line ids k (drop i (take p params))
-      turn-text = rw step (turn-is line ids k (getD params i []) (drop (i + 1) (take p params)) turn-suits)
+      pub close-starts : Starts (opensText line (take (length ids - 1 - k) (drop (k + 1) ids))) (closeText line ids k)
+      close-starts = record { others = 93 ∷ []; is = close-some }
 
-      pub turn-fits : Fits out pos (opensText line (take (getD (getD params i []) 0 0 - k) (drop (k + 1) ids)) ++ paramText line (getD params i []))
-      turn-fits = midway-fits (m .room) (m .midway) (record { others = _; is = turn-text })
+      pub close-ends : Starts (opensText line (take (length ids - 1 - k) (drop (k + 1) ids)) ++ (93 ∷ [])) (closeText line ids k)
+      close-ends = starts-named _ _ close-some
 
-      pub walk-on : (n : ℕ) (q : List ℕ) → Wrote out pos (opensText line (take (getD (getD params i []) 0 0 - k) (drop (k + 1) ids)) ++ paramText line (getD params i [])) n q
-          → Walk line ids params p o at q n (getD (getD params i []) 0 0) (i + 1)
-      walk-on n q w =
-          record {
-            counted = m .counted;
-            passed = omega arith;
-            opened = number-below line (length ids) k (getD params i []) turn-suits;
-            suited = both (paramSuits line (length ids) k (getD params i [])) _ suits-on .1;
-            room = m .room;
-            midway = midway-on (m .room) (m .midway) w turn-text;
-          }
+  pub first-left : (ps : List (List ℕ)) → firstText line ids ++ leftText 0 ps ≡ elementsText line 0 ids ps
+  unfolding leftText firstText
+  first-left ps = go (decLe (length ids) 0)
+    where
+      go : Dec (length ids ≤ 0) → firstText line ids ++ leftText 0 ps ≡ elementsText line 0 ids ps
+      go (yes l) = let z : length ids ≡ 0 = omega arith in rw (eq-eqb (length ids) 0 z) (empty ps z)
+      go (no l) = rw (ne-eqb (length ids) 0 (λ e. omega arith)) (first-is ps (omega arith))
 
-    module _ (h : p ≤ i) where
-      close-text : opensText line (take (length ids - 1 - k) (drop (k + 1) ids)) ++ (93 ∷ []) ≡ restText line ids k (drop i (take p params))
-      close-text = rw (rows-ended params p (m .counted) i h) (close-is line ids k (m .opened))
+  pub turn-left : (k : ℕ) (row : List ℕ) (ps : List (List ℕ)) → paramSuits line (length ids) k row ≡ true
+      → (opensText line (take (getD row 0 0 - k) (drop (k + 1) ids)) ++ paramText line row) ++ leftText (getD row 0 0) ps ≡ leftText k (row ∷ ps)
+  turn-left k row ps h =
+      let some : length ids ≡ 0 → ⊥ = λ e. omega (arith, number-below line (length ids) k row h) in
+      rw (left-some (getD row 0 0) ps some, left-some k (row ∷ ps) some) (turn-is k row ps h)
 
-      pub close-fits : Fits out pos (opensText line (take (length ids - 1 - k) (drop (k + 1) ids)) ++ (93 ∷ []))
-      close-fits = midway-fits (m .room) (m .midway) (starts-named _ _ close-text)
+  pub close-left : (k : ℕ) → k ≤ length ids - 1 → closeText line ids k ≡ leftText k []
+  unfolding leftText
+  close-left k h = go (decLe (length ids) 0)
+    where
+      nothing : length ids ≡ 0 → [] ≡ leftText k []
+      nothing z = rw (eq-eqb (length ids) 0 z)
 
-      -- with the first write, which opened element 0
-      pub walk-end : (n : ℕ) (q : List ℕ) → Wrote out pos (opensText line (take (length ids - 1 - k) (drop (k + 1) ids)) ++ (93 ∷ [])) n q
-          → (first : List ℕ) (from : ℕ) → Fits first from (elementsText line 0 ids (take p params)) → Wrote first from (openText line (getD ids 0 [])) at o
-          → Wrote first from (elementsText line 0 ids (take p params)) n q
-      walk-end n q w first from f v =
-          two-are f v (midway-last (m .room) (m .midway) (rw close-text at w)) (first-is line ids (take p params) (omega (arith, m .opened)))
+      go : Dec (length ids ≤ 0) → closeText line ids k ≡ leftText k []
+      go (yes l) = let z : length ids ≡ 0 = omega arith in sym (close-none z k) ∙ nothing z
+      go (no l) =
+          let some : length ids ≡ 0 → ⊥ = λ e. omega arith in
+          sym (close-some some k) ∙ close-is k (omega arith) ∙ sym (left-some k [] some)
 
-pub ruleset walk-laws = (ids-suit, walk-nothing, walk-first, first-in, walk-start, turn-suits, turn-fits, walk-on, close-fits, walk-end)
+-- a turn: the parameter's places and number, and its text where its own element is open already
+module _ (line : List ℕ) (elements : List (List ℕ)) (count k : ℕ) (p : Param) where
+  module _ (s : paramSuits line count k (rowOf p) ≡ true) where
+    pub turn-name : p .«name_start» + p .«name_len» ≤ length line
+    turn-name = name-in line count k (rowOf p) s
+
+    pub turn-value : p .«value_start» + p .«value_len» ≤ length line
+    turn-value = value-in line count k (rowOf p) s
+
+    pub turn-from : k ≤ p .element
+    turn-from = number-from line count k (rowOf p) s
+
+    pub turn-below : count ≤ length elements → p .element < length (take count elements)
+    turn-below h = rw (length-take-le count elements h) (number-below line count k (rowOf p) s)
+
+  module _ (h : p .element ≤ k) where
+    same-text : paramText line (rowOf p) ≡ opensText line (take (p .element - k) (drop (k + 1) (take count elements))) ++ paramText line (rowOf p)
+    same-text = rw (opens-none line (take count elements) (p .element) k h)
+
+    pub same-fits : (o : List ℕ) (at : ℕ) → Fits o at (opensText line (take (p .element - k) (drop (k + 1) (take count elements))) ++ paramText line (rowOf p)) → Fits o at (paramText line (rowOf p))
+    same-fits o at f = named-fits _ _ o at f same-text
+
+    pub same-wrote : (o : List ℕ) (at n : ℕ) (q : List ℕ) → Wrote o at (paramText line (rowOf p)) n q → Wrote o at (opensText line (take (p .element - k) (drop (k + 1) (take count elements))) ++ paramText line (rowOf p)) n q
+    same-wrote o at n q w = named _ _ o at n q w same-text
+
+pub opened-in : (elements : List (List ℕ)) (count k : ℕ) → count ≤ length elements → k ≤ count - 1 → k ≤ length (take count elements) - 1
+opened-in elements count k h l = rw (length-take-le count elements h) l
+
+pub ruleset turn-laws = (turn-name, turn-value, turn-from, turn-below, same-fits, same-wrote)

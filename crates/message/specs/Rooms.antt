@@ -1,7 +1,8 @@
 -- What measuring answers. The sizes of many rows may add up to more than any number holds, so each is taken from the room that is left.
 use Prim.Native.Nat.{ℕ, _+_, _-_}
+use mathlib.Core.Bool.{Bool, false}
 use mathlib.Core.List.{List, [], _∷_, _++_}
-use lib.Dec.{ltb}
+use lib.Dec.{leb, ltb}
 use lib.ListN.{length, getD}
 use Rattle.base.specs.Choose.{if_then_else_}
 use Rattle.record.specs.declared.Record.{Record}
@@ -13,6 +14,16 @@ use Rattle.message.specs.declared.Room.the-variants.{Short, Left}
 -- what `n` bytes leave of a room, if they fit
 unfoldable pub roomFor : ℕ → ℕ → Room
 roomFor left n = if ltb left n then Short else Left (left - n)
+
+-- and what they leave of what others left
+abbrev pub roomAfter : Room → ℕ → Room
+roomAfter Short n = Short
+roomAfter (Left left) n = roomFor left n
+
+-- whether they fit into that
+abbrev pub fitsIn : Room → ℕ → Bool
+fitsIn Short n = false
+fitsIn (Left left) n = leb n left
 
 -- bytes of `[id]`
 unfoldable pub elementSize : List ℕ → ℕ

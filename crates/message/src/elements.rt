@@ -1,8 +1,9 @@
-// The elements with their parameters: measured, and written in one walk over both tables.
+// The elements and their parameters: what they leave of a room, and the pieces of their text.
 use crate::Room;
 use crate::fields::put_part;
 use output::put;
 use output::put_text;
+use record::Param;
 ghost use mathlib.Core.Path.{_≡_};
 ghost use mathlib.Core.Bool.{true};
 ghost use mathlib.Core.List.{_++_};
@@ -10,12 +11,21 @@ ghost use Prim.Native.Nat.{_+_, _-_, _≤_, _<_};
 ghost use lib.ListN.{length, getD, take, drop};
 ghost use Rattle.base.specs.Bytes.{bytes};
 ghost use Rattle.base.specs.Texts.{textAt};
-ghost use Rattle.suits.specs.Suits.{elementsSuit, paramSuits, tablesSuit};
+ghost use Rattle.record.specs.Params.{rowOf};
+ghost use Rattle.suits.specs.Suits.{elementsSuit, paramSuits};
 ghost use Rattle.output.specs.Fits.{Fits};
 ghost use Rattle.output.specs.Output.{Wrote};
-ghost use Rattle.message.specs.Message.{openText, paramText, elementsText};
-ghost use Rattle.message.specs.Opens.{opensText};
-ghost use Rattle.message.specs.Rooms.{roomFor, elementSize, paramSize, total};
+ghost use Rattle.message.specs.Message.{openText, paramText};
+ghost use Rattle.message.specs.Opens.{firstText, opensText, closeText};
+ghost use Rattle.message.specs.Rooms.{roomFor, roomAfter, elementSize, paramSize, total};
+
+// The first `count` rows.
+pub fn counted(elements: &[[usize; 2]], count: usize) -> &[[usize; 2]]
+    requires { ⌜ count ≤ length (now elements) ⌝ }
+    ensures { λ ids. ⌜ now ids ≡ take count (now (elements .entry)) ⌝ }
+{
+    &elements[0..count]
+}
 
 pub fn room_for(left: usize, n: usize) -> Room
     ensures { λ r. ⌜ r ≡ roomFor left n ⌝ }
@@ -35,18 +45,6 @@ fn element_room(left: usize, row: [usize; 2]) -> Room
     room_for(a, 2)
 }
 
-fn param_room(left: usize, row: [usize; 5]) -> Room
-    ensures { λ r. ⌜ r ≡ roomFor left (paramSize row) ⌝ }
-{
-    let Room::Left(a) = room_for(left, row[2]) else {
-        return Room::Short;
-    };
-    let Room::Left(b) = room_for(a, row[4]) else {
-        return Room::Short;
-    };
-    room_for(b, 4)
-}
-
 pub fn elements_room(room: usize, ids: &[[usize; 2]]) -> Room
     ensures { λ r. ⌜ r ≡ roomFor room (total elementSize (now (ids .entry))) ⌝ }
 {
@@ -63,21 +61,20 @@ pub fn elements_room(room: usize, ids: &[[usize; 2]]) -> Room
     Room::Left(left)
 }
 
-pub fn params_room(room: usize, count: usize, params: &[[usize; 5]]) -> Room
-    requires { ⌜ count ≤ length (now params) ⌝ }
-    ensures { λ r. ⌜ r ≡ roomFor room (total paramSize (take count (now (params .entry)))) ⌝ }
+pub fn param_room(room: Room, p: Param) -> Room
+    ensures { λ r. ⌜ r ≡ roomAfter room (paramSize (rowOf p)) ⌝ }
 {
-    let mut left = room;
-    let mut i = 0;
-    while i < count {
-        let row = params[i];
-        let Room::Left(a) = param_room(left, row) else {
-            return Room::Short;
-        };
-        left = a;
-        i += 1;
+    let Room::Left(left) = room else {
+        return Room::Short;
+    };
+    if left < p.name_len {
+        return Room::Short;
     }
-    Room::Left(left)
+    let a = left - p.name_len;
+    if a < p.value_len {
+        return Room::Short;
+    }
+    room_for(a - p.value_len, 4)
 }
 
 // `[id`
@@ -88,6 +85,19 @@ fn put_open(out: &mut [u8], at: usize, line: &[u8], row: [usize; 2]) -> usize
 {
     let a = put(out, at, b'[');
     put_part(out, a, line, row[0], row[1])
+}
+
+// That of the first element, if there is one.
+pub fn put_first(out: &mut [u8], at: usize, line: &[u8], ids: &[[usize; 2]]) -> usize
+    requires { ⌜ Fits (now out) at (firstText (now line) (now ids)) ⌝ }
+    requires { ⌜ elementsSuit (now line) (now ids) ≡ true ⌝ }
+    ensures { λ n. ⌜ Wrote (now (out .entry)) at (firstText (now (line .entry)) (now (ids .entry))) n (now (out .exit)) ⌝ }
+{
+    if ids.len() == 0 {
+        return at;
+    }
+    let first = ids[0];
+    put_open(out, at, line, first)
 }
 
 // `][id`
@@ -126,81 +136,61 @@ fn put_opens(
 }
 
 // ` name="`
-fn put_name(out: &mut [u8], at: usize, line: &[u8], row: [usize; 5]) -> usize
-    requires { ⌜ Fits (now out) at (bytes " " ++ textAt (now line) (getD row 1 0) (getD row 2 0) ++ bytes "=\"") ⌝ }
-    requires { ⌜ getD row 1 0 + getD row 2 0 ≤ length (now line) ⌝ }
-    ensures { λ n. ⌜ Wrote (now (out .entry)) at (bytes " " ++ textAt (now (line .entry)) (getD row 1 0) (getD row 2 0) ++ bytes "=\"") n (now (out .exit)) ⌝ }
+fn put_name(out: &mut [u8], at: usize, line: &[u8], p: Param) -> usize
+    requires { ⌜ Fits (now out) at (bytes " " ++ textAt (now line) (p .«name_start») (p .«name_len») ++ bytes "=\"") ⌝ }
+    requires { ⌜ p .«name_start» + p .«name_len» ≤ length (now line) ⌝ }
+    ensures { λ n. ⌜ Wrote (now (out .entry)) at (bytes " " ++ textAt (now (line .entry)) (p .«name_start») (p .«name_len») ++ bytes "=\"") n (now (out .exit)) ⌝ }
 {
     let a = put(out, at, b' ');
-    let b = put_part(out, a, line, row[1], row[2]);
+    let b = put_part(out, a, line, p.name_start, p.name_len);
     put_text(out, b, b"=\"")
 }
 
-fn put_param(out: &mut [u8], at: usize, line: &[u8], row: [usize; 5]) -> usize
-    requires { ⌜ Fits (now out) at (paramText (now line) row) ⌝ }
-    requires { ⌜ getD row 1 0 + getD row 2 0 ≤ length (now line) ⌝ }
-    requires { ⌜ getD row 3 0 + getD row 4 0 ≤ length (now line) ⌝ }
-    ensures { λ n. ⌜ Wrote (now (out .entry)) at (paramText (now (line .entry)) row) n (now (out .exit)) ⌝ }
+fn put_param(out: &mut [u8], at: usize, line: &[u8], p: Param) -> usize
+    requires { ⌜ Fits (now out) at (paramText (now line) (rowOf p)) ⌝ }
+    requires { ⌜ p .«name_start» + p .«name_len» ≤ length (now line) ⌝ }
+    requires { ⌜ p .«value_start» + p .«value_len» ≤ length (now line) ⌝ }
+    ensures { λ n. ⌜ Wrote (now (out .entry)) at (paramText (now (line .entry)) (rowOf p)) n (now (out .exit)) ⌝ }
 {
-    let a = put_name(out, at, line, row);
-    let b = put_part(out, a, line, row[3], row[4]);
+    let a = put_name(out, at, line, p);
+    let b = put_part(out, a, line, p.value_start, p.value_len);
     put(out, b, b'"')
 }
 
 // A parameter, and before it the elements from `k`, which is open, to its own.
-fn put_turn(
+pub fn put_turn(
     out: &mut [u8],
     at: usize,
     line: &[u8],
-    ids: &[[usize; 2]],
-    k: usize,
-    row: [usize; 5],
-) -> usize
-    requires { ⌜ Fits (now out) at (opensText (now line) (take (getD row 0 0 - k) (drop (k + 1) (now ids))) ++ paramText (now line) row) ⌝ }
-    requires { ⌜ elementsSuit (now line) (now ids) ≡ true ⌝ }
-    requires { ⌜ paramSuits (now line) (length (now ids)) k row ≡ true ⌝ }
-    ensures { λ n. ⌜ Wrote (now (out .entry)) at (opensText (now (line .entry)) (take (getD row 0 0 - k) (drop (k + 1) (now (ids .entry)))) ++ paramText (now (line .entry)) row) n (now (out .exit)) ⌝ }
-{
-    let a = put_opens(out, at, line, ids, k, row[0]);
-    put_param(out, a, line, row)
-}
-
-// The elements behind `k`, which is open, and the last one's end.
-fn put_close(out: &mut [u8], at: usize, line: &[u8], ids: &[[usize; 2]], k: usize) -> usize
-    requires { ⌜ Fits (now out) at (opensText (now line) (take (length (now ids) - 1 - k) (drop (k + 1) (now ids))) ++ bytes "]") ⌝ }
-    requires { ⌜ k < length (now ids) ⌝ }
-    requires { ⌜ elementsSuit (now line) (now ids) ≡ true ⌝ }
-    ensures { λ n. ⌜ Wrote (now (out .entry)) at (opensText (now (line .entry)) (take (length (now (ids .entry)) - 1 - k) (drop (k + 1) (now (ids .entry)))) ++ bytes "]") n (now (out .exit)) ⌝ }
-{
-    let a = put_opens(out, at, line, ids, k, ids.len() - 1);
-    put(out, a, b']')
-}
-
-// All elements. The numbers of the parameters' elements never fall, so one walk over the parameters opens each element in its turn.
-pub fn put_elements(
-    out: &mut [u8],
-    at: usize,
-    line: &[u8],
-    ids: &[[usize; 2]],
     count: usize,
-    params: &[[usize; 5]],
+    elements: &[[usize; 2]],
+    k: usize,
+    p: Param,
 ) -> usize
-    requires { ⌜ Fits (now out) at (elementsText (now line) 0 (now ids) (take count (now params))) ⌝ }
-    requires { ⌜ tablesSuit (now line) (length (now ids)) count (now ids) (now params) ≡ true ⌝ }
-    ensures { λ n. ⌜ Wrote (now (out .entry)) at (elementsText (now (line .entry)) 0 (now (ids .entry)) (take count (now (params .entry)))) n (now (out .exit)) ⌝ }
+    requires { ⌜ Fits (now out) at (opensText (now line) (take (p .element - k) (drop (k + 1) (take count (now elements)))) ++ paramText (now line) (rowOf p)) ⌝ }
+    requires { ⌜ count ≤ length (now elements) ⌝ }
+    requires { ⌜ elementsSuit (now line) (take count (now elements)) ≡ true ⌝ }
+    requires { ⌜ paramSuits (now line) count k (rowOf p) ≡ true ⌝ }
+    ensures { λ n. ⌜ Wrote (now (out .entry)) at (opensText (now (line .entry)) (take (p .element - k) (drop (k + 1) (take count (now (elements .entry))))) ++ paramText (now (line .entry)) (rowOf p)) n (now (out .exit)) ⌝ }
+{
+    if k < p.element {
+        let ids = counted(elements, count);
+        let a = put_opens(out, at, line, ids, k, p.element);
+        return put_param(out, a, line, p);
+    }
+    put_param(out, at, line, p)
+}
+
+// The elements behind `k`, which is open, and the last one's end. (Where there is no element, `k` is 0.)
+pub fn put_close(out: &mut [u8], at: usize, line: &[u8], ids: &[[usize; 2]], k: usize) -> usize
+    requires { ⌜ Fits (now out) at (closeText (now line) (now ids) k) ⌝ }
+    requires { ⌜ k ≤ length (now ids) - 1 ⌝ }
+    requires { ⌜ elementsSuit (now line) (now ids) ≡ true ⌝ }
+    ensures { λ n. ⌜ Wrote (now (out .entry)) at (closeText (now (line .entry)) (now (ids .entry)) k) n (now (out .exit)) ⌝ }
 {
     if ids.len() == 0 {
         return at;
     }
-    let first = ids[0];
-    let mut pos = put_open(out, at, line, first);
-    let mut k = 0;
-    let mut i = 0;
-    while i < count {
-        let row = params[i];
-        pos = put_turn(out, pos, line, ids, k, row);
-        k = row[0];
-        i += 1;
-    }
-    put_close(out, pos, line, ids, k)
+    let a = put_opens(out, at, line, ids, k, ids.len() - 1);
+    put(out, a, b']')
 }

@@ -10,12 +10,16 @@ use borrow.Fn.Kinds.{PK, pNum, pSNum, rNum, rUnit}
 use borrow.Fn.Read.{all-models, reads}
 use borrow.Kind.MutSlice.{pMutS}
 use borrow.Kind.ShrSlice.{pShrS}
-use Rattle.rules.specs.Derive.{Contract, plainly, bytes, pair}
+use Rattle.rules.specs.Derive.{Contract, plainly, bytes, pair, rS}
 use Rattle.record.proofs.Param as P
+use Rattle.exports.proofs.Contracts as X
 use Rattle.replayer.proofs.tables.copy_rows as c
 use Rattle.replayer.proofs.tables.exact as x
 use Rattle.replayer.proofs.tables.fallback as f
 use Rattle.replayer.proofs.tables.strict as s
+use Rattle.replayer.proofs.tables.copy_entries as e
+use Rattle.replayer.proofs.tables.print as p
+use Rattle.replayer.proofs.tables.lookup as l
 
 -- a row
 abbrev pub five : RattleType
@@ -39,4 +43,16 @@ fallback = plainly 4 kinds (rNum w32) (λ w. f.clauses (w .𝓤) (w .H) (w .𝓖
 
 abbrev pub strict : Contract
 strict = plainly 4 (pShrS bytes 0 tt ∷ pMutS pair 1 tt ∷ pMutS bytes 2 tt ∷ pMutS five 3 tt ∷ []) (rNum w32) (λ w. s.clauses (w .𝓤) (w .H) (w .𝓖 .A) (w .𝓜 .mem) (w .𝓡 .run)) (λ w κs a. tt)
+    (λ κs a. all-models _ (λ w. search reads) (λ w. refl) (λ w. refl) (λ w. refl)) (λ κs a z e. all-models _ (λ w. search reads) (λ w. refl) (λ w. refl) (λ w. refl)) (λ κs a. tt) (λ κs a z e. tt) (λ w κs a. id⊢ (w .𝓤) _) (λ w κs a z e. id⊢ (w .𝓤) _)
+
+abbrev pub copy-entries : Contract
+copy-entries = plainly 2 (pShrS five 0 tt ∷ pMutS P.the-row 1 tt ∷ []) rUnit (λ w. e.clauses (w .𝓤) (w .H) (w .𝓖 .A) (w .𝓜 .mem) (w .𝓡 .run)) (λ w κs a. tt)
+    (λ κs a. all-models _ (λ w. search reads) (λ w. refl) (λ w. refl) (λ w. refl)) (λ κs a z e. all-models _ (λ w. search reads) (λ w. refl) (λ w. refl) (λ w. refl)) (λ κs a. tt) (λ κs a z e. tt) (λ w κs a. id⊢ (w .𝓤) _) (λ w κs a z e. id⊢ (w .𝓤) _)
+
+abbrev pub print : Contract
+print = plainly 5 (pShrS bytes 0 tt ∷ pShrS bytes 1 tt ∷ pShrS pair 2 tt ∷ pShrS five 3 tt ∷ pMutS bytes 4 tt ∷ []) (rS X.output-answer) (λ w. p.clauses (w .𝓤) (w .H) (w .𝓖 .A) (w .𝓜 .mem) (w .𝓡 .run)) (λ w κs a. tt)
+    (λ κs a. all-models _ (λ w. search reads) (λ w. refl) (λ w. refl) (λ w. refl)) (λ κs a z e. all-models _ (λ w. search reads) (λ w. refl) (λ w. refl) (λ w. refl)) (λ κs a. tt) (λ κs a z e. tt) (λ w κs a. id⊢ (w .𝓤) _) (λ w κs a z e. id⊢ (w .𝓤) _)
+
+abbrev pub lookup : Contract
+lookup = plainly 7 (pShrS bytes 0 tt ∷ pShrS bytes 1 tt ∷ pShrS pair 2 tt ∷ pShrS five 3 tt ∷ pShrS bytes 4 tt ∷ pShrS bytes 5 tt ∷ pNum w32 ∷ pMutS bytes 6 tt ∷ []) (rS X.output-answer) (λ w. l.clauses (w .𝓤) (w .H) (w .𝓖 .A) (w .𝓜 .mem) (w .𝓡 .run)) (λ w κs a. tt)
     (λ κs a. all-models _ (λ w. search reads) (λ w. refl) (λ w. refl) (λ w. refl)) (λ κs a z e. all-models _ (λ w. search reads) (λ w. refl) (λ w. refl) (λ w. refl)) (λ κs a. tt) (λ κs a z e. tt) (λ w κs a. id⊢ (w .𝓤) _) (λ w κs a z e. id⊢ (w .𝓤) _)

@@ -6,7 +6,7 @@ use native.Mathlib.Omega.{arith}
 use lib.ListN.{length, take, drop, length-drop}
 use lib.Seq.{length-take-le}
 use mir.Syntax.{w64}
-use mir.Val.{Val, vint}
+use mir.Val.{vint}
 use borrow.Table.Elements.{length-app}
 
 module _ {X : Type 0} (p : ℕ) (old : List X) (e : length old ≡ 256) (l : p ≤ 256) where

@@ -1,6 +1,8 @@
 // The calls of a case, each over tables of its own, with the answer as plain numbers or bytes.
 use crate::tables::exact;
 use crate::tables::fallback;
+use crate::tables::lookup;
+use crate::tables::print;
 use crate::tables::strict;
 ghost use mathlib.Core.Path.{_≡_};
 ghost use Prim.Native.Nat.{_≤_};
@@ -201,7 +203,7 @@ pub fn printing(line: &[u8], s: Settings, left: usize, out: &mut [u8]) -> record
         return record::OutputAnswer { number: n, len: 0 };
     }
     let end = up_to(left as u64, line.len());
-    exports::khamdoriem_print(&line[0..end], &memory, &elements, &params, out)
+    print(&line[0..end], &memory, &elements, &params, out)
 }
 
 // An exact reading, and a value of it looked up.
@@ -229,5 +231,5 @@ pub fn looking(
     if n != 0 {
         return record::OutputAnswer { number: n, len: 0 };
     }
-    exports::khamdoriem_lookup(line, &memory, &elements, &params, id, name, kind, out)
+    lookup(line, &memory, &elements, &params, id, name, kind, out)
 }

@@ -1,4 +1,5 @@
-// The readings over a parameter table of their own, whose entries are left as rows.
+// The services over a parameter table of their own. Rows go in and come out, so that the other functions see no table of structs.
+use record::OutputAnswer;
 use record::Param;
 ghost use Prim.Native.Nat.{_≤_};
 
@@ -92,4 +93,59 @@ pub fn strict(
     let n = exports::khamdoriem_read_strict(line, elements, &mut params, memory);
     copy_rows(&params, rows);
     n
+}
+
+// A row as an entry; a blank one where there is no row.
+fn entry_at(rows: &[[usize; 5]], at: usize) -> Param {
+    if rows.len() <= at {
+        return record::blank();
+    }
+    let row = rows[at];
+    Param {
+        element: row[0],
+        name_start: row[1],
+        name_len: row[2],
+        value_start: row[3],
+        value_len: row[4],
+    }
+}
+
+// The rows as the entries of a table.
+pub fn copy_entries(rows: &[[usize; 5]], params: &mut [Param]) {
+    let n = params.len();
+    let mut i = 0;
+    while i < n {
+        let p = entry_at(rows, i);
+        params[i] = p;
+        i += 1;
+    }
+}
+
+pub fn print(
+    line: &[u8],
+    memory: &[u8],
+    elements: &[[usize; 2]],
+    rows: &[[usize; 5]],
+    out: &mut [u8],
+) -> OutputAnswer {
+    let blank = record::blank();
+    let mut params = [blank; 256];
+    copy_entries(rows, &mut params);
+    exports::khamdoriem_print(line, memory, elements, &params, out)
+}
+
+pub fn lookup(
+    line: &[u8],
+    memory: &[u8],
+    elements: &[[usize; 2]],
+    rows: &[[usize; 5]],
+    id: &[u8],
+    name: &[u8],
+    kind: u32,
+    out: &mut [u8],
+) -> OutputAnswer {
+    let blank = record::blank();
+    let mut params = [blank; 256];
+    copy_entries(rows, &mut params);
+    exports::khamdoriem_lookup(line, memory, elements, &params, id, name, kind, out)
 }

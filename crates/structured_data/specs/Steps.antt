@@ -1,7 +1,7 @@
 -- Steps of the walk over structured data, by positions of the text `s`. (For private contracts alone.)
 use Prim.Native.Nat.{ℕ, _+_, _-_, _≤_, _<_}
 use mathlib.Core.Path.{_≡_}
-use mathlib.Core.List.{List, [], _∷_}
+use mathlib.Core.List.{List}
 use mathlib.Core.Bool.{Bool, true, false, not, _&&_}
 use lib.Dec.{leb, eqb}
 use lib.ListN.{length, take, drop}

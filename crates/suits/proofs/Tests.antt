@@ -19,7 +19,9 @@ use Rattle.calendar.specs.declared.Shown.{Shown}
 use Rattle.record.specs.declared.Record.{Record}
 use Rattle.record.specs.declared.Timestamp.{Timestamp}
 use Rattle.record.specs.declared.Stamp.the-variants.{Stamped}
-use Rattle.suits.specs.Suits.{placeSuits, stampSuits, recordSuits, elementsSuit, paramSuits, paramsSuit, tablesSuit, suits}
+use Rattle.suits.specs.Suits.{placeSuits, stampSuits, recordSuits, elementsSuit}
+use Rattle.suits.specs.Checks.{headSuits, checkAt}
+use Rattle.suits.specs.declared.Check.{Check}
 use Rattle.suits.proofs.Rows.{row-step, rows-ended}
 
 -- a place whose start is tested first
@@ -89,50 +91,36 @@ module _ (line : List ℕ) (rows : List (List ℕ)) (n i : ℕ) (fits : n ≤ le
 
 pub ruleset elements-laws = (elements-end, element-off, element-on)
 
-module _ (line : List ℕ) (e : ℕ) (rows : List (List ℕ)) (n low i : ℕ) (fits : n ≤ length rows)
-    (inv : paramsSuit line e 0 (take n rows) ≡ paramsSuit line e low (drop i (take n rows))) where
-  pub params-end : n ≤ i → true ≡ paramsSuit line e 0 (take n rows)
-  unfolding paramsSuit
-  params-end h = sym (inv ∙ ap (paramsSuit line e low) (rows-ended rows n fits i h))
-
-  module _ (h : i < n) (t : Bool) (et : t ≡ paramSuits line e low (getD rows i [])) where
-    param-more : paramsSuit line e 0 (take n rows) ≡ (t && paramsSuit line e (getD (getD rows i []) 0 0) (drop (i + 1) (take n rows)))
-    unfolding paramsSuit
-    param-more = inv ∙ ap (paramsSuit line e low) (row-step rows n fits i [] h) ∙ rw et
-
-    pub param-off : not t ≡ true → false ≡ paramsSuit line e 0 (take n rows)
-    param-off k = test-off t _ k ∙ sym param-more
-
-    pub param-on : not t ≡ false → paramsSuit line e 0 (take n rows) ≡ paramsSuit line e (getD (getD rows i []) 0 0) (drop (i + 1) (take n rows))
-    param-on k = param-more ∙ test-on t _ k
-
-pub ruleset params-laws = (params-end, param-off, param-on)
-
--- the whole
-module _ (line : List ℕ) (r : Record) (e p : ℕ) (elements params : List (List ℕ)) (t : Bool) (et : t ≡ recordSuits line r) where
-  pub suits-record : not t ≡ true → false ≡ suits line r e p elements params
-  unfolding suits
-  suits-record h = rw (← et, not-true t h)
+-- all but the parameters
+module _ (line : List ℕ) (r : Record) (e p : ℕ) (elements : List (List ℕ)) (m : ℕ) (t : Bool) (et : t ≡ recordSuits line r) where
+  pub head-record : not t ≡ true → false ≡ headSuits line r e p elements m
+  unfolding headSuits
+  head-record h = rw (← et, not-true t h)
 
   module _ (h : not t ≡ false) where
-    pub suits-elements : length elements < e → false ≡ suits line r e p elements params
-    unfolding suits tablesSuit
-    suits-elements k = rw (← et, not-false t h, lt-leb e (length elements) k)
+    pub head-elements : length elements < e → false ≡ headSuits line r e p elements m
+    unfolding headSuits
+    head-elements k = rw (← et, not-false t h, lt-leb e (length elements) k)
 
     module _ (he : e ≤ length elements) where
-      pub suits-params : length params < p → false ≡ suits line r e p elements params
-      unfolding suits tablesSuit
-      suits-params k = rw (← et, not-false t h, le-leb e (length elements) he, lt-leb p (length params) k)
+      pub head-params : m < p → false ≡ headSuits line r e p elements m
+      unfolding headSuits
+      head-params k = rw (← et, not-false t h, le-leb e (length elements) he, lt-leb p m k)
 
-      module _ (hp : p ≤ length params) (u : Bool) (eu : u ≡ elementsSuit line (take e elements)) where
-        counts : suits line r e p elements params ≡ (u && paramsSuit line e 0 (take p params))
-        unfolding suits tablesSuit
-        counts = rw (← et, not-false t h, le-leb e (length elements) he, le-leb p (length params) hp, ← eu)
+      pub head-ids : p ≤ m → (u : Bool) → u ≡ elementsSuit line (take e elements) → u ≡ headSuits line r e p elements m
+      unfolding headSuits
+      head-ids hp u eu = eu ∙ rw (← et, not-false t h, le-leb e (length elements) he, le-leb p m hp)
 
-        pub suits-ids : not u ≡ true → false ≡ suits line r e p elements params
-        suits-ids k = test-off u _ k ∙ sym counts
+pub ruleset head-laws = (head-record, head-elements, head-params, head-ids)
 
-        pub suits-rest : not u ≡ false → (v : Bool) → v ≡ paramsSuit line e 0 (take p params) → v ≡ suits line r e p elements params
-        suits-rest k v ev = ev ∙ sym (counts ∙ test-on u _ k)
+module _ (b : Bool) (next low count : ℕ) where
+  pub check-on : b ≡ true → record { next = next; low = low; suits = true } ≡ checkAt b next low count
+  check-on h = rw h
 
-pub ruleset suits-laws = (suits-record, suits-elements, suits-params, suits-ids, suits-rest)
+  pub check-off : b ≡ false → record { next = count; low = 0; suits = false } ≡ checkAt b next low count
+  check-off h = rw h
+
+  pub check-same : (a : Bool) → a ≡ b → (c : Check) → c ≡ checkAt a next low count → c ≡ checkAt b next low count
+  check-same a h c e = e ∙ ap (λ (x : Bool). checkAt x next low count) h
+
+pub ruleset check-laws = (check-on, check-off, check-same)

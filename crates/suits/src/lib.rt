@@ -1,15 +1,18 @@
 // Refusal 7: whether a record, counts and tables suit a line. Any numbers may come in.
 use record::Level;
+use record::Param;
 use record::Record;
 use record::Stamp;
 use record::Timestamp;
 ghost use mathlib.Core.Path.{_≡_};
-ghost use Prim.Native.Nat.{_+_, _≤_};
+ghost use Prim.Native.Nat.{_+_, _≤_, _<_};
 ghost use lib.Dec.{leb};
 ghost use lib.IntN.{natAbs};
 ghost use lib.ListN.{length, take};
+ghost use Rattle.record.specs.Params.{rowOf, rows};
 ghost use Rattle.record.specs.declared.Stamp.the-variants as stamp;
-ghost use Rattle.suits.specs.Suits.{levelSuits, stampSuits, recordSuits, elementsSuit, paramSuits, paramsSuit, suits};
+ghost use Rattle.suits.specs.Suits.{levelSuits, stampSuits, recordSuits, elementsSuit, paramSuits, suits};
+ghost use Rattle.suits.specs.Checks.{headSuits, checkAt};
 
 // Does the place end within `n` bytes? (The sum may not fit.)
 fn place_suits(n: usize, start: usize, len: usize) -> bool
@@ -93,32 +96,84 @@ fn elements_suit(line: &[u8], count: usize, elements: &[[usize; 2]]) -> bool
 }
 
 // A parameter whose element is one of `low` to `count` - 1; its places.
-fn param_suits(line: &[u8], count: usize, low: usize, row: [usize; 5]) -> bool
-    ensures { λ b. ⌜ b ≡ paramSuits (now (line .entry)) count low row ⌝ }
+fn param_suits(line: &[u8], count: usize, low: usize, p: Param) -> bool
+    ensures { λ b. ⌜ b ≡ paramSuits (now (line .entry)) count low (rowOf p) ⌝ }
 {
     let n = line.len();
-    (low <= row[0])
-        & (row[0] < count)
-        & place_suits(n, row[1], row[2])
-        & place_suits(n, row[3], row[4])
+    (low <= p.element)
+        & (p.element < count)
+        & place_suits(n, p.name_start, p.name_len)
+        & place_suits(n, p.value_start, p.value_len)
 }
 
-// The first `count` parameters.
-fn params_suit(line: &[u8], element_count: usize, count: usize, params: &[[usize; 5]]) -> bool
-    requires { ⌜ count ≤ length (now params) ⌝ }
-    ensures { λ b. ⌜ b ≡ paramsSuit (now (line .entry)) «element_count» 0 (take count (now (params .entry))) ⌝ }
+// All but the entries of a parameter table of `room` entries.
+fn head_suits(
+    line: &[u8],
+    r: Record,
+    element_count: usize,
+    param_count: usize,
+    elements: &[[usize; 2]],
+    room: usize,
+) -> bool
+    ensures { λ b. ⌜ b ≡ headSuits (now (line .entry)) r «element_count» «param_count» (now (elements .entry)) room ⌝ }
 {
-    let mut low = 0;
-    let mut i = 0;
-    while i < count {
-        let row = params[i];
-        if !param_suits(line, element_count, low, row) {
-            return false;
-        }
-        low = row[0];
-        i += 1;
+    if !record_suits(line, r) {
+        return false;
     }
-    true
+    if elements.len() < element_count {
+        return false;
+    }
+    if room < param_count {
+        return false;
+    }
+    elements_suit(line, element_count, elements)
+}
+
+// How far the check of the parameters is: the next entry, the least number that its element may have, and whether all suits so far. Where it does not,
+// no entry is next.
+struct Check {
+    next: usize,
+    low: usize,
+    suits: bool,
+}
+
+fn check_at(suits: bool, next: usize, low: usize, count: usize) -> Check
+    ensures { λ c. ⌜ c ≡ checkAt suits next low count ⌝ }
+{
+    if suits {
+        return Check {
+            next,
+            low,
+            suits: true,
+        };
+    }
+    Check {
+        next: count,
+        low: 0,
+        suits: false,
+    }
+}
+
+fn check_head(
+    line: &[u8],
+    r: Record,
+    element_count: usize,
+    param_count: usize,
+    elements: &[[usize; 2]],
+    room: usize,
+) -> Check
+    ensures { λ c. ⌜ c ≡ checkAt (headSuits (now (line .entry)) r «element_count» «param_count» (now (elements .entry)) room) 0 0 «param_count» ⌝ }
+{
+    let ok = head_suits(line, r, element_count, param_count, elements, room);
+    check_at(ok, 0, 0, param_count)
+}
+
+fn check_param(line: &[u8], element_count: usize, param_count: usize, c: Check, p: Param) -> Check
+    requires { ⌜ c .next < «param_count» ⌝ }
+    ensures { λ d. ⌜ d ≡ checkAt (paramSuits (now (line .entry)) «element_count» (c .low) (rowOf p)) (c .next + 1) (p .element) «param_count» ⌝ }
+{
+    let ok = param_suits(line, element_count, c.low, p);
+    check_at(ok, c.next + 1, p.element, param_count)
 }
 
 pub fn is_suitable(
@@ -127,21 +182,16 @@ pub fn is_suitable(
     element_count: usize,
     param_count: usize,
     elements: &[[usize; 2]],
-    params: &[[usize; 5]],
+    params: &[Param],
 ) -> bool
-    ensures { λ b. ⌜ b ≡ suits (now (line .entry)) r «element_count» «param_count» (now (elements .entry)) (now (params .entry)) ⌝ }
+    ensures { λ b. ⌜ b ≡ suits (now (line .entry)) r «element_count» «param_count» (now (elements .entry)) (rows (now (params .entry))) ⌝ }
 {
-    if !record_suits(line, r) {
-        return false;
+    let room = params.len();
+    let mut c = check_head(line, r, element_count, param_count, elements, room);
+    while c.next < param_count {
+        let i = c.next;
+        let p = entries::fetch(params, i);
+        c = check_param(line, element_count, param_count, c, p);
     }
-    if elements.len() < element_count {
-        return false;
-    }
-    if params.len() < param_count {
-        return false;
-    }
-    if !elements_suit(line, element_count, elements) {
-        return false;
-    }
-    params_suit(line, element_count, param_count, params)
+    c.suits
 }

@@ -43,6 +43,19 @@ fn read_line(
     loose::read_exact(line, variant, year, offset, elements, &mut params)
 }
 
+// Prints a record that has no parameters.
+fn print_line(
+    line: &[u8],
+    r: Record,
+    e: usize,
+    elements: &[[usize; 2]],
+    out: &mut [u8],
+) -> Written {
+    let blank = record::blank();
+    let params = [blank; 4];
+    message::print(line, r, e, 0, elements, &params, out)
+}
+
 fn main() {
     let line = *b"<13>Feb  5 10:01:02 gate7 reader[42]: tap ok";
     let mut elements = [[0usize; 2]; 4];
@@ -52,8 +65,6 @@ fn main() {
         return;
     };
     write_seconds(r);
-    // The line has no parameters.
-    let params = [[0usize; 5]; 1];
-    let w = message::print(&line, r, e, 0, &elements, &params, &mut out);
+    let w = print_line(&line, r, e, &elements, &mut out);
     write_printed(w, &out);
 }

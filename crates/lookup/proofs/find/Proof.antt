@@ -1,81 +1,50 @@
-use borrow.Author.Needs.{needs}
-use Rattle.lookup.proofs.Finding.{Known, find-laws}
-use mathlib.Core.Path.{_≡_}
-use Prim.Native.Nat.{_≤_, _-_}
-use lib.ListN.{take, drop}
-use Rattle.lookup.specs.Lookup.{found}
-use Rattle.lookup.proofs.find.Statement.{statement}
-use Rattle.lookup.proofs.find.Tie as tie
+-- `lookup::find` meets its contract: a derivation by hand. The invariant: the entries passed do not match, or the one that does is found.
+use Rattle.rules.specs.Derive.{Asked, Cx, Derived, Laid, Learnt, Lfts, Row, R·, Shares, World, [], _-_, _<_, _∙_, _∷_, _≤_, _▸_, _▹_, _◂_, any-gone, ap, arith, at, blocks, branch, by-num, by-shr, by-val, bytes, calls, cites, cx, exits, fld, gone, held, here, i64, join, last, lease, lend, length, loops, lost, lt, ltb-false, ltb-true, nexts, none, num, over, pair, part, proves, put, puts, refl, returns, room, sBool, sc, sc-here, shr, struct, tablesOf, tyBool, tyInt, unsigned, w64, world}
+use Rattle.record.specs.Params.{rowOf, rows}
+use Rattle.record.proofs.Params.{rows-length, rows-get}
+use Rattle.entries.proofs.Contracts as E
+use Rattle.entries.proofs.fetch.Symbol as Es
+use Rattle.entries.proofs.fetch.Met as Em
+use Rattle.lookup.proofs.Contracts as C
+use Rattle.lookup.proofs.find.Key
+use Rattle.lookup.proofs.find.Statement as stated
+use Rattle.lookup.proofs.find.Code as code
+use Rattle.lookup.specs.declared.Search.{Search}
+use Rattle.lookup.proofs.Finding.{Searched, search-starts, search-inside, search-asks, search-further, search-steps, search-ends}
+use Rattle.lookup.proofs.search_from.Kinds as Fk
+use Rattle.lookup.proofs.search_from.Reads as Fr
+use Rattle.lookup.proofs.search_from.Symbol as Fs
+use Rattle.lookup.proofs.search_from.Met as Fm
+use Rattle.lookup.proofs.search_param.Kinds as Pk
+use Rattle.lookup.proofs.search_param.Reads as Pr
+use Rattle.lookup.proofs.search_param.Symbol as Ps
+use Rattle.lookup.proofs.search_param.Met as Pm
+use Rattle.lookup.proofs.value_of.Kinds as Vk
+use Rattle.lookup.proofs.value_of.Reads as Vr
+use Rattle.lookup.proofs.value_of.Symbol as Vs
+use Rattle.lookup.proofs.value_of.Met as Vm
 
-abbrev Inv-loop : tie.InvT-loop
-Inv-loop line element-count param-count elements params id name last₀ same₀ i₀ last same i = (i ≤ param-count) × (found line elements id name (take param-count params) ≡ found line elements id name (drop i (take param-count params))) × Known line elements id element-count last same
+module _ (w : World) where
+  -- the context, by the rows of the search, of `i` and of the entry
+  abbrev head-at : Lfts 5 → Shares 5 → Row → Row → Row → Cx
+  head-at κs qs s i p = cx (lost C.place ∷ shr bytes 0 ∷ sc-here i64 ∷ sc-here i64 ∷ shr pair 1 ∷ shr (R· E.param) 2 ∷ shr bytes 3 ∷ shr bytes 4 ∷ s ∷ i ∷ p ∷ any-gone tyBool ∷ []) ((lease (κs .0) (qs .0)) ∷ (lease (κs .1 .0) (qs .1 .0)) ∷ (lease (κs .1 .1 .0) (qs .1 .1 .0)) ∷ (lease (κs .1 .1 .1 .0) (qs .1 .1 .1 .0)) ∷ (lease (κs .1 .1 .1 .1 .0) (qs .1 .1 .1 .1 .0)) ∷ [])
 
-abbrev μ-loop : tie.MeasureT-loop
-μ-loop line element-count param-count elements params id name last₀ same₀ i₀ last same i = param-count - i
+  abbrev derived : Derived C.find w code.env Key.name 0 code.function
+  derived κs qs bs =
+      calls 0 Fk.ps Fk.r Fr.Asked Fr.Learnt Fs.name (Fr.known w code.env Fs.name Fs.routine code.calls-lookup·search-from (Fm.met (w .𝓤) (w .H) (w .𝓜) (w .𝓖) (w .𝓡))) [] (by-num w64 2 (sc i64) refl none) 8 gone tt refl ▹ at (head-at κs qs (here C.search-state) (any-gone (tyInt w64)) (lost E.param)) ▸ (join (head-at κs qs (here C.search-state) (any-gone (tyInt w64)) (lost E.param)) (
+      blocks (loops {Vs = Search} (λ vs u. (u .0, (u .1 .0, (u .1 .1 .0, (u .1 .1 .1 .0, (u .1 .1 .1 .1 .0, (u .1 .1 .1 .1 .1 .0, (u .1 .1 .1 .1 .1 .1 .0, (u .1 .1 .1 .1 .1 .1 .1 .0, (vs, u .1 .1 .1 .1 .1 .1 .1 .1 .1))))))))))
+      (λ u vs. Searched (u .1 .0 .now) (u .1 .1 .0) (u .1 .1 .1 .0) (u .1 .1 .1 .1 .0 .now) (rows (u .1 .1 .1 .1 .1 .0 .now)) (u .1 .1 .1 .1 .1 .1 .0 .now) (u .1 .1 .1 .1 .1 .1 .1 .0 .now) vs) (λ u vs. u .1 .1 .1 .0 - vs .next) (
+      puts 11 sBool gone (lt unsigned) (fld 8 0 (part C.search-state 0 refl) refl) (num 3 (sc i64) refl) refl (λ u. refl) (λ u. tt) ▹
+      join (head-at κs qs (here C.search-state) (any-gone (tyInt w64)) (lost E.param)) (branch 11 (λ x. x) (sc sBool) refl (room 11 (over sBool) ▸ nexts tt) (room 11 (over sBool) ▸ exits 1 tt)) (
+      put 9 i64 gone (fld 8 0 (part C.search-state 0 refl) refl) refl (λ u. refl) (λ u. tt) ▹
+      calls 1 (E.fetch .ps) (E.fetch .r) (Asked E.fetch) (Learnt E.fetch) Es.name (cites E.fetch w code.env Es.name Es.routine code.calls-entries·fetch (Em.met (w .𝓤) (w .H) (w .𝓜) (w .𝓖) (w .𝓡))) (2 ∷ []) (by-shr (R· E.param) 0 tt 5 2 lend refl (by-num w64 9 (sc i64) refl none)) 10 gone (tt, tt) refl ▹ room 9 (over i64) ▸ at (head-at κs qs (here C.search-state) (any-gone (tyInt w64)) (here E.param)) ▸
+      last tt (calls 4 Pk.ps Pk.r Pr.Asked Pr.Learnt Ps.name (Pr.known w code.env Ps.name Ps.routine code.calls-lookup·search-param (Pm.met (w .𝓤) (w .H) (w .𝓜) (w .𝓖) (w .𝓡))) (0 ∷ 1 ∷ 3 ∷ 4 ∷ []) (by-shr bytes 0 tt 1 0 lend refl (by-shr pair 1 tt 4 1 lend refl (by-shr bytes 2 tt 6 3 lend refl (by-shr bytes 3 tt 7 4 lend refl (by-num w64 3 (sc i64) refl (by-val C.search-state 8 held refl (by-val E.param 10 held refl none))))))) 8 (struct C.search-state refl) (tt, (tt, (tt, (tt, tt)))) refl ◂ room 10 (struct E.param refl)))))) (
+      calls 0 Vk.ps Vk.r Vr.Asked Vr.Learnt Vs.name (Vr.known w code.env Vs.name Vs.routine code.calls-lookup·value-of (Vm.met (w .𝓤) (w .H) (w .𝓜) (w .𝓖) (w .𝓡))) [] (by-val C.search-state 8 held refl none) 0 gone tt refl ▹ room 8 (struct C.search-state refl) ▸ room 2 (over i64) ▸ room 3 (over i64) ▸ returns tt))
 
-loop-holds : tie.Need-loop-holds Inv-loop μ-loop
-loop-holds c = search (find-laws, needs)
+  laid : Laid C.find w code.env Key.name 0 code.function derived
+  laid κs qs a good pre bs =
+      ((λ ls. tt), λ g. ((g .1, refl, search-starts (a .0 .now) (a .1 .0) (a .1 .1 .0) (a .1 .1 .1 .0 .now) (rows (a .1 .1 .1 .1 .0 .now)) pre (a .1 .1 .1 .1 .1 .0 .now) (a .1 .1 .1 .1 .1 .1 .0 .now) (g .1) (g .5)), λ vs inv. (tt, ((λ t. let l : vs .next < a .1 .1 .0 = ltb-true (vs .next) (a .1 .1 .0) t in let b : vs .next < length (a .1 .1 .1 .1 .0 .now) = omega (arith, rows-length (a .1 .1 .1 .1 .0 .now), search-inside (a .0 .now) (a .1 .0) (a .1 .1 .0) (a .1 .1 .1 .0 .now) (rows (a .1 .1 .1 .1 .0 .now)) pre (a .1 .1 .1 .1 .1 .0 .now) (a .1 .1 .1 .1 .1 .1 .0 .now) vs inv l) in ((λ ls. b), λ p. ((λ ls. search-asks (a .0 .now) (a .1 .0) (a .1 .1 .0) (a .1 .1 .1 .0 .now) (rows (a .1 .1 .1 .1 .0 .now)) pre (a .1 .1 .1 .1 .1 .0 .now) (a .1 .1 .1 .1 .1 .1 .0 .now) vs inv l (p .1) (ap rowOf (p .5) ∙ rows-get (a .1 .1 .1 .1 .0 .now) (vs .next) b)), λ d. (a .1 .1 .0 - d .1 .next, (let f = search-further (a .0 .now) (a .1 .0) (a .1 .1 .0) (a .1 .1 .1 .0 .now) (rows (a .1 .1 .1 .1 .0 .now)) pre (a .1 .1 .1 .1 .1 .0 .now) (a .1 .1 .1 .1 .1 .1 .0 .now) vs inv l (p .1) (ap rowOf (p .5) ∙ rows-get (a .1 .1 .1 .1 .0 .now) (vs .next) b) (d .1) (d .5) in omega (arith, f .0, f .1)), (d .1, refl, search-steps (a .0 .now) (a .1 .0) (a .1 .1 .0) (a .1 .1 .1 .0 .now) (rows (a .1 .1 .1 .1 .0 .now)) pre (a .1 .1 .1 .1 .1 .0 .now) (a .1 .1 .1 .1 .1 .1 .0 .now) vs inv l (p .1) (ap rowOf (p .5) ∙ rows-get (a .1 .1 .1 .1 .0 .now) (vs .next) b) (d .1) (d .5), refl))))), (λ f. let l : a .1 .1 .0 ≤ vs .next = ltb-false (vs .next) (a .1 .1 .0) f in ((λ ls. tt), λ v. ((refl, (tt, (tt, (refl, (refl, (refl, (refl, tt))))))), rw (v .5) (search-ends (a .0 .now) (a .1 .0) (a .1 .1 .0) (a .1 .1 .1 .0 .now) (rows (a .1 .1 .1 .1 .0 .now)) pre (a .1 .1 .1 .1 .1 .0 .now) (a .1 .1 .1 .1 .1 .1 .0 .now) vs inv l))))))))
 
-mul-row : tie.Need-mul-row Inv-loop μ-loop
-mul-row c = search (find-laws, needs)
-
-shared-slice-copy-out-row : tie.Need-shared-slice-copy-out-row Inv-loop μ-loop
-shared-slice-copy-out-row c = search (find-laws, needs)
-
-array-read-k : tie.Need-array-read-k Inv-loop μ-loop
-array-read-k c = search (find-laws, needs)
-
-id-is-requires : tie.Need-id-is-requires Inv-loop μ-loop
-id-is-requires c κs = search (find-laws, needs)
-
-matches-requires : tie.Need-matches-requires Inv-loop μ-loop
-matches-requires c κs = search (find-laws, needs)
-
-array-read-place-at : tie.Need-array-read-place-at Inv-loop μ-loop
-array-read-place-at c = search (find-laws, needs)
-
-array-read-place-at-2 : tie.Need-array-read-place-at-2 Inv-loop μ-loop
-array-read-place-at-2 c = search (find-laws, needs)
-
-place-at-requires : tie.Need-place-at-requires Inv-loop μ-loop
-place-at-requires c κs = search (find-laws, needs)
-
-returns : tie.Need-returns Inv-loop μ-loop
-returns c = search (find-laws, needs)
-
-add-i : tie.Need-add-i Inv-loop μ-loop
-add-i c = search (find-laws, needs)
-
-loop-less : tie.Need-loop-less Inv-loop μ-loop
-loop-less c = search (find-laws, needs)
-
-loop-again : tie.Need-loop-again Inv-loop μ-loop
-loop-again c = search (find-laws, needs)
-
-absent-requires : tie.Need-absent-requires Inv-loop μ-loop
-absent-requires c κs = search (find-laws, needs)
-
-returns-2 : tie.Need-returns-2 Inv-loop μ-loop
-returns-2 c = search (find-laws, needs)
-
-pub find-spec : {M : Type 1} → statement M
-find-spec =
-    tie.close
-    (tie.spec
-    Inv-loop
-    μ-loop
-    loop-holds
-    mul-row
-    shared-slice-copy-out-row
-    array-read-k
-    id-is-requires
-    matches-requires
-    array-read-place-at
-    array-read-place-at-2
-    place-at-requires
-    returns
-    add-i
-    loop-less
-    loop-again
-    absent-requires
-    returns-2)
+pub find-spec : {M : Type 1} → stated.statement M
+unfolding code.routine tablesOf
+find-spec 𝓤 H 𝓜 𝓖 𝓡 = proves C.find (world 𝓤 H 𝓜 𝓖 𝓡) code.env Key.name 0 code.function refl (code.unfolded 𝓤 H 𝓜 𝓡) (derived (world 𝓤 H 𝓜 𝓖 𝓡)) (laid (world 𝓤 H 𝓜 𝓖 𝓡))

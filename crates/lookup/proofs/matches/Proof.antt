@@ -6,12 +6,6 @@ use Rattle.lookup.proofs.matches.Tie as tie
 returns : tie.Need-returns
 returns c = search (name-laws, needs)
 
-array-read-text-is : tie.Need-array-read-text-is
-array-read-text-is c = search needs
-
-array-read-text-is-2 : tie.Need-array-read-text-is-2
-array-read-text-is-2 c = search needs
-
 text-is-requires : tie.Need-text-is-requires
 text-is-requires c κs = search needs
 
@@ -19,5 +13,4 @@ returns-2 : tie.Need-returns-2
 returns-2 c = search (name-laws, needs)
 
 pub matches-spec : {M : Type 1} → statement M
-matches-spec =
-    tie.close (tie.spec returns array-read-text-is array-read-text-is-2 text-is-requires returns-2)
+matches-spec = tie.close (tie.spec returns text-is-requires returns-2)

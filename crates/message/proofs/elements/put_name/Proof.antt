@@ -7,12 +7,6 @@ use Rattle.message.proofs.elements.put_name.Tie as tie
 put-requires : tie.Need-put-requires
 put-requires c κs = search needs
 
-array-read-put-part : tie.Need-array-read-put-part
-array-read-put-part c = search needs
-
-array-read-put-part-2 : tie.Need-array-read-put-part-2
-array-read-put-part-2 c = search needs
-
 put-part-requires : tie.Need-put-part-requires
 put-part-requires c κs = (search (next-fits, starts), search needs)
 
@@ -40,8 +34,6 @@ put-name-spec =
     tie.close
     (tie.spec
     put-requires
-    array-read-put-part
-    array-read-put-part-2
     put-part-requires
     slice-aggregate-put-text
     put-text-requires

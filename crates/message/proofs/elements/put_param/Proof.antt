@@ -9,12 +9,6 @@ put-name-requires : tie.Need-put-name-requires
 unfolding paramText
 put-name-requires c κs = (search (first-fits, starts), search needs)
 
-array-read-put-part : tie.Need-array-read-put-part
-array-read-put-part c = search needs
-
-array-read-put-part-2 : tie.Need-array-read-put-part-2
-array-read-put-part-2 c = search needs
-
 put-part-requires : tie.Need-put-part-requires
 unfolding paramText
 put-part-requires c κs = (search (next-fits, starts), search needs)
@@ -42,8 +36,6 @@ put-param-spec =
     tie.close
     (tie.spec
     put-name-requires
-    array-read-put-part
-    array-read-put-part-2
     put-part-requires
     put-requires
     same-length

@@ -1,5 +1,5 @@
 -- `replayer::tables::exact` meets its contract: a derivation by hand. A local table is lent to the reader, then to be read by `copy_rows`.
-use Rattle.rules.specs.Derive.{Asked, Cx, Derived, Laid, Learnt, Lfts, Life, List, Row, R·, Shares, World, [], _∷_, _▸_, _▹_, aT, alive, any-gone, array, arrays, as-array, at, back, begin, borrows-first, by-mut, by-num, by-shr, by-snum, by-view, bytes, calls, cites, cx, eT, finish, first-owed, fix-len, fld, gone, held, i32, i64, lease, leased, lend, lends, lent, lit<, lose, lost, muts, none, num, off, over, owed, owing, packs, packs-first, packs-view, pair, proves, put, read-whole, refl, repeats, returned-first, returns, room, sUnit, same, sc, sc-here, shr, sliceTy, spent, struct, tablesOf, tyInt, tyUnit, unviewed, unviews, vT, view, view-lend, viewed, views, w32, w64, wT, world}
+use Rattle.rules.specs.Derive.{Asked, Cx, Derived, Laid, Learnt, Lfts, Life, List, Row, R·, Shares, World, [], _∷_, _▸_, _▹_, aT, alive, any-gone, array, arrays, as-array, at, back, begin, borrows-first, by-mut, by-num, by-shr, by-snum, by-view, bytes, calls, cites, cx, eT, finish, first-owed, fix-len, fld, gone, held, i32, i64, lease, leased, lend, lends, lent, lit<, lose, lost, muts, none, num, off, over, owed, owing, packs, packs-first, packs-view, pair, proves, put, read-whole, refl, repeats, returned-first, returns, room, sUnit, same, sc, sc-here, shr, sliceTy, spent, struct, tablesOf, tyInt, tyUnit, unviewed, unviews, vT, view, view-lend, viewed, views, w32, wT, world}
 use borrow.Rule.Array.Rows.{arrF}
 use lib.ListN.{replicate, length-replicate}
 use Rattle.entries.proofs.Contracts as E

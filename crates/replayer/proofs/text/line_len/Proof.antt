@@ -1,7 +1,6 @@
 use borrow.Author.Needs.{needs}
 use Prim.Native.Nat.{_-_, _≤_}
 use lib.ListN.{length}
-use mathlib.Core.Path.{_≡_}
 use Rattle.replayer.proofs.text.line_len.Statement.{statement}
 use Rattle.replayer.proofs.text.line_len.Tie as tie
 

@@ -1,7 +1,7 @@
 use borrow.Author.Needs.{needs}
-use Rattle.message.proofs.Answers.{counted-is}
-use Rattle.message.proofs.counted.Statement.{statement}
-use Rattle.message.proofs.counted.Tie as tie
+use Rattle.message.proofs.Walks.{counted-is}
+use Rattle.message.proofs.elements.counted.Statement.{statement}
+use Rattle.message.proofs.elements.counted.Tie as tie
 
 sub-result : tie.Need-sub-result
 sub-result c = search needs
