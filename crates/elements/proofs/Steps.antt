@@ -1,6 +1,6 @@
 -- What a step of the second pass answers.
-use Prim.Native.Nat.{ℕ, _+_, _-_, _*_, _^_, _≤_, _<_}
-use mathlib.Core.Path.{_≡_, sym, ap, _∙_}
+use Prim.Native.Nat.{ℕ, _+_, _-_, _^_, _≤_, _<_}
+use mathlib.Core.Path.{_≡_}
 use mathlib.Core.Bool.{true, false}
 use mathlib.Core.List.{List, [], _∷_}
 use native.Mathlib.Omega.{arith}
@@ -10,7 +10,6 @@ use mir.Val.{Fits}
 use Rattle.record.specs.declared.Param.{Param}
 use Rattle.record.specs.Params.{blank}
 use Rattle.elements.specs.declared.Entry.{Entry}
-use Rattle.elements.specs.declared.Step.{Step}
 use Rattle.elements.specs.Entries.{entryAt}
 use Rattle.elements.specs.Steps.{paramOf, stepOf, idsOf, Stepping}
 

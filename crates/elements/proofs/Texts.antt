@@ -8,26 +8,15 @@ use native.Mathlib.Nat.{add-zero}
 use lib.Dec.{eqb}
 use lib.ListN.{length, getD, drop, length-drop, length-append}
 use lib.Seq.{drop-append-seam, drop-drop, getD-drop}
-use Rattle.base.specs.Choose.{isAt}
 use Rattle.base.specs.Runs.{run}
 use Rattle.base.proofs.Tests.{clash}
 use Rattle.base.proofs.Runs.{run-text, run-no}
 use Rattle.grammar.specs.Abnf.{sdNameByte, Repeat}
-use Rattle.grammar.specs.Line.{Param, paramThen, Escaped, ParamOk}
-use Rattle.grammar.specs.Parse.{stop, untilQuote}
-use Rattle.grammar.proofs.Readers.{if-found}
-use Rattle.grammar.proofs.Bytes.{quote-reads}
+use Rattle.grammar.specs.Line.{Param, paramThen, ParamOk}
+use Rattle.grammar.specs.Parse.{stop}
+use Rattle.grammar.proofs.Bytes.{stop-text}
 use Rattle.elements.specs.declared.Entry.{Entry}
 use Rattle.elements.specs.Entries.{opening, holding, passing, nameAt, valueAt, entryAt, Lies}
-
--- where an escaped value stops
-stop-text : (t r : List ℕ) → Escaped t → stop false (t ++ 34 ∷ r) ≡ length t
-unfolding untilQuote
-stop-text t r h =
-    let s = t ++ 34 ∷ r in
-    let u = if-found (isAt s (stop false s) 34) (quote-reads .complete t r h tt) in
-    let e : stop false s + 1 ≡ length (t ++ 34 ∷ []) = cc (u .1) in
-    omega (arith, e, length-append t (34 ∷ []))
 
 -- what is found at the place, and that it lies within the line
 pub record Found (line : List ℕ) (at : ℕ) (r : Entry) : Type 0 where
@@ -82,7 +71,7 @@ module _ (line : List ℕ) (at : ℕ) where
     name-is = ap (run sdNameByte) name-text ∙ run-text sdNameByte (p .name) _ (h .name-ok .all) (run-no sdNameByte 61 _ refl)
 
     value-is : valueAt line at ≡ length (p .value)
-    value-is = ap (λ (k : ℕ). stop false (drop (at + k + 3) line)) name-is ∙ ap (stop false) value-text ∙ stop-text (p .value) r (h .value-escaped)
+    value-is = ap (λ (k : ℕ). stop false (drop (at + k + 3) line)) name-is ∙ ap (stop false) value-text ∙ stop-text r (h .value-escaped)
 
     param-ends : at + length (p .name) + length (p .value) + 4 ≤ length line
     param-ends = let l = simp length-append at (within-line 32 _ e) in omega arith

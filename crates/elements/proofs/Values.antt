@@ -19,6 +19,7 @@ use Rattle.utf8.proofs.Walk.{Walked, walk-start, walk-end, ascii-next, no-lead,
 use Rattle.grammar.specs.Line.{bare}
 use Rattle.grammar.specs.Parse.{onFound, only, stop, untilQuote, value}
 use Rattle.grammar.specs.Parse.Parsed.{failed, found}
+use Rattle.grammar.proofs.Bytes.{stop-le}
 use Rattle.elements.specs.Sizes.{sizeOf}
 use Rattle.elements.specs.declared.Size.the-variants.{Missing, Bytes}
 
@@ -55,12 +56,6 @@ module _ (s : List ℕ) (paired : Bool) (i : ℕ) (w : Stopping s paired i) wher
         record { passed = omega arith; whole = omega (arith, w .whole) }
 
 pub ruleset stop-laws = (stop-start, stop-out, stop-here, stop-on)
-
-stop-le : (paired : Bool) (s : List ℕ) → stop paired s ≤ length s
-stop-le paired [] = omega (arith, stop-none paired)
-stop-le paired (b ∷ s) =
-    let l = stop-le (not paired && eqb b 92) s in
-    rw stop-cons (by-test (λ t. (if t then 0 else suc (stop (not paired && eqb b 92) s)) ≤ suc (length s)) (not paired && bare b) (λ e. omega arith) (λ e. omega arith))
 
 -- ---- a value
 

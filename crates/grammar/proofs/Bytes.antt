@@ -87,7 +87,7 @@ fixed-reads k =
 
 -- ---- a value
 
-stop-le : (paired : Bool) (s : List ℕ) → stop paired s ≤ length s
+pub stop-le : (paired : Bool) (s : List ℕ) → stop paired s ≤ length s
 unfolding stop
 stop-le paired [] = omega arith
 stop-le true (b ∷ s) = let l = stop-le false s in omega arith
@@ -95,7 +95,7 @@ stop-le false (b ∷ s) =
     let l = stop-le (eqb b 92) s in
     by-test (λ t. (if t then 0 else suc (stop (eqb b 92) s)) ≤ suc (length s)) (bare b) (λ e. omega arith) (λ e. omega arith)
 
-stop-text : {t : List ℕ} (r : List ℕ) → Escaped t → stop false (t ++ 34 ∷ r) ≡ length t
+pub stop-text : {t : List ℕ} (r : List ℕ) → Escaped t → stop false (t ++ 34 ∷ r) ≡ length t
 unfolding stop
 stop-text r nothing = refl
 stop-text r (plain b e h) = rw (b, e) (ap suc (stop-text r h))

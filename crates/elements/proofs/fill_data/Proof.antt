@@ -1,5 +1,5 @@
 -- `elements::fill_data` meets its contract: a derivation by hand, a line for each statement of its MIR. The invariant: the rows that are stored and the rows of what is left are all the rows.
-use Rattle.rules.specs.Derive.{ℕ, _≤_, _<_, _+_, _-_, arith, _≡_, refl, sym, subst, ap, _∙_, List, [], _∷_, length, set, length-set, tyUnit, tyBool, tyInt, sliceTy, w64, lt, add, unsigned, Lfts, Shares, tablesOf, ltb-true, ltb-false, fix-len, World, world, Cx, Row, lease, off, sc-here, any-gone, sBool, sUnit, i64, bytes, pair, here, lost, shr, muts, slots₃, R·, eT, cx, Derived, Laid, proves, cites, Asked, Learnt, _▹_, _▸_, _◂_, at, join, put, puts, calls, lends, packs, back, begin, finish, lose, branch, room, blocks, loops, nexts, exits, returns, last, gone, over, struct, sc, num, fld, lit, unit, part, owed, same, held, lent, lend, none, by-num, by-val, by-mut, by-shr}
+use Rattle.rules.specs.Derive.{ℕ, _≤_, _<_, _+_, _-_, arith, _≡_, refl, sym, subst, ap, _∙_, List, [], _∷_, length, set, tyUnit, tyBool, sliceTy, w64, lt, add, unsigned, Lfts, Shares, tablesOf, ltb-true, ltb-false, fix-len, World, world, Cx, Row, lease, off, sc-here, any-gone, sBool, sUnit, i64, bytes, pair, here, lost, shr, muts, slots₃, R·, eT, cx, Derived, Laid, proves, cites, Asked, Learnt, _▹_, _▸_, _◂_, at, join, put, puts, calls, lends, packs, back, begin, finish, lose, branch, room, blocks, loops, nexts, exits, returns, last, gone, over, struct, sc, num, fld, lit, unit, part, owed, same, held, lent, lend, none, by-num, by-val, by-mut, by-shr}
 use mathlib.Core.Bool.{true}
 use Rattle.record.specs.declared.Param.{Param}
 use Rattle.record.specs.Params.{rowOf, rows}
