@@ -5,19 +5,21 @@ use mathlib.Core.Bool.{Bool, true, false, _&&_}
 use mathlib.Core.List.{List, [], _∷_, _++_}
 use native.Mathlib.Omega.{arith}
 use lib.Dec.{leb}
-use lib.ListN.{length, take}
+use lib.ListN.{length, getD, take}
 use lib.Seq.{length-take-le}
 use borrow.Author.Tests.{le-leb, lt-leb, lt-ltb, le-ltb, leb-true, leb-false, eq-eqb, ne-eqb}
 use mir.Syntax.{w64}
 use mir.Val
 use Rattle.base.proofs.Tests.{both}
+use Rattle.record.specs.Params.{rowOf}
+use Rattle.record.specs.declared.Param.{Param}
 use Rattle.record.specs.declared.Protocol.{Protocol}
 use Rattle.record.specs.declared.Protocol.the-variants.{Rfc3164, Rfc5424}
 use Rattle.record.specs.declared.Record.{Record}
 use Rattle.record.specs.declared.Written.the-variants.{Done, Refused}
 use Rattle.record.specs.declared.Refusal.the-variants.{LineTooLong, Unsuitable, OutputShort}
 use Rattle.suits.specs.Suits.{recordSuits, elementsSuit, paramsSuit, tablesSuit, suits}
-use Rattle.suits.proofs.Suited.{tables-suited, elements-fit, params-fit}
+use Rattle.suits.proofs.Suited.{ParamIn, least, tables-suited, elements-fit, params-fit, param-suited}
 use Rattle.output.specs.Fits.{Fits, Sized}
 use Rattle.output.specs.Output.{Wrote}
 use Rattle.output.proofs.Writes.{written-front}
@@ -118,6 +120,10 @@ module _ (line : List ℕ) (r : Record) (e p : ℕ) (elements params : List (Lis
 
   size : length (printed line r (take e elements) (take p params)) ≡ otherSize line r (take e elements) + total paramSize (take p params)
   size = printed-size line r (take e elements) (take p params) (message-in line r record-suits) ids-suit (rw ids-length params-suit)
+
+  -- a parameter's texts are short
+  pub param-short : length line ≤ 8192 → (i : ℕ) → i < p → (x : Param) → rowOf x ≡ getD params i [] → x .«name_len» + x .«value_len» ≤ 16384
+  param-short l i h x ex = let q : ParamIn line e (least 0 params i) (rowOf x) = rw ex (param-suited line e p elements params tables i h) in omega (arith, q .name-in, q .value-in)
 
   -- what is measured
   pub fits-is : (room : ℕ) (m : Room) → m ≡ roomFor room (total paramSize (take p params)) → (b : Bool) → b ≡ fitsIn m (otherSize line r (take e elements))

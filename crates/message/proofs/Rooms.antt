@@ -62,23 +62,6 @@ module _ (left a b : ℕ) (r : Room) (e : r ≡ roomFor left a) where
 
 pub ruleset room-laws = (room-out, room-then)
 
--- the pieces of a parameter: name, value and four bytes more
-module _ (room : Room) (a b : ℕ) where
-  module _ (left : ℕ) (e : room ≡ Left left) where
-    pub param-name : left < a → Short ≡ roomAfter room (a + b + 4)
-    param-name h = rw e (room-short left (a + b + 4) (omega arith))
-
-    module _ (h : a ≤ left) where
-      pub param-value : left - a < b → Short ≡ roomAfter room (a + b + 4)
-      param-value k = rw e (room-short left (a + b + 4) (omega arith))
-
-      pub param-rest : b ≤ left - a → (s : Room) → s ≡ roomFor (left - a - b) 4 → s ≡ roomAfter room (a + b + 4)
-      param-rest k s f =
-          let q : left - a - b ≡ left - (a + b) = omega arith in
-          rw e (room-then left (a + b) 4 (Left (left - a - b)) (ap Left q ∙ room-left left (a + b) (omega arith)) (left - a - b) refl s f)
-
-pub ruleset param-laws = (param-name, param-value, param-rest)
-
 -- the rows: `i` of them passed
 module _ (size : List ℕ → ℕ) (rows : List (List ℕ)) (room left i : ℕ) (inv : roomFor room (total size rows) ≡ roomFor left (total size (drop i rows))) where
   pub rows-end : drop i rows ≡ [] → Left left ≡ roomFor room (total size rows)
@@ -114,6 +97,9 @@ after-then (Left left) a b = go (roomFor left a) refl
     go : (q : Room) → q ≡ roomFor left a → roomAfter q b ≡ roomFor left (a + b)
     go Short e = room-out left a b Short e refl
     go (Left x) e = room-then left a b (Left x) e x refl (roomFor x b) refl
+
+pub after-left : (room : Room) (left n : ℕ) → room ≡ Left left → (s : Room) → s ≡ roomFor left n → s ≡ roomAfter room n
+after-left room left n e s f = rw e f
 
 after-none : (r : Room) → roomAfter r 0 ≡ r
 after-none Short = refl

@@ -62,19 +62,13 @@ pub fn elements_room(room: usize, ids: &[[usize; 2]]) -> Room
 }
 
 pub fn param_room(room: Room, p: Param) -> Room
+    requires { ⌜ p .«name_len» + p .«value_len» ≤ 16384 ⌝ }
     ensures { λ r. ⌜ r ≡ roomAfter room (paramSize (rowOf p)) ⌝ }
 {
     let Room::Left(left) = room else {
         return Room::Short;
     };
-    if left < p.name_len {
-        return Room::Short;
-    }
-    let a = left - p.name_len;
-    if a < p.value_len {
-        return Room::Short;
-    }
-    room_for(a - p.value_len, 4)
+    room_for(left, p.name_len + p.value_len + 4)
 }
 
 // `[id`

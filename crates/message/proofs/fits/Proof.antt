@@ -12,7 +12,7 @@ use Rattle.message.proofs.fits.Statement as stated
 use Rattle.message.proofs.fits.Code as code
 use Rattle.message.specs.declared.Room.{Room}
 use Rattle.message.proofs.Rooms.{Measured, measured-none, measured-on, measured-all}
-use Rattle.message.proofs.Answers.{record-suits, elements-counted, params-counted, fits-is}
+use Rattle.message.proofs.Answers.{record-suits, elements-counted, params-counted, param-short, fits-is}
 use Rattle.message.proofs.room_of.Kinds as Ok
 use Rattle.message.proofs.room_of.Reads as Or
 use Rattle.message.proofs.room_of.Symbol as Os
@@ -54,7 +54,7 @@ module _ (w : World) where
       let params = a .1 .1 .1 .1 .1 .0 .now in
       let n = a .1 .1 .1 .1 .1 .1 .0 in
       let most : p ≤ length (rows params) = params-counted line r e p elements (rows params) (pre .1) in
-      ((λ ls. tt), λ g. (((g .1, 0), refl, measured-none n p (rows params) (g .1) (g .5)), λ vs inv. (tt, ((λ t. let l : vs .1 < p = ltb-true (vs .1) p t in let b : vs .1 < length params = omega (arith, rows-length params, most) in ((λ ls. b), λ x. ((λ ls. tt), λ d. (record { fits = omega (arith, good .1 .1 .1 .0) }, (p - (vs .1 + 1), omega arith, ((d .1, vs .1 + 1), refl, measured-on n p (rows params) (vs .0) most (vs .1) inv l (rowOf (x .1)) (ap rowOf (x .5) ∙ rows-get params (vs .1) b) (d .1) (d .5), refl)))))), (λ f. let l : p ≤ vs .1 = ltb-false (vs .1) p f in ((λ ls. (pre .0, (record-suits line r e p elements (rows params) (pre .1), elements-counted line r e p elements (rows params) (pre .1)))), λ v. ((refl, (tt, (tt, (tt, (refl, (refl, (tt, tt))))))), fits-is line r e p elements (rows params) (pre .1) n (vs .0) (measured-all n p (rows params) (vs .0) most (vs .1) inv l) (v .1) (v .5))))))))
+      ((λ ls. tt), λ g. (((g .1, 0), refl, measured-none n p (rows params) (g .1) (g .5)), λ vs inv. (tt, ((λ t. let l : vs .1 < p = ltb-true (vs .1) p t in let b : vs .1 < length params = omega (arith, rows-length params, most) in ((λ ls. b), λ x. let ex = ap rowOf (x .5) ∙ rows-get params (vs .1) b in ((λ ls. param-short line r e p elements (rows params) (pre .1) (pre .0) (vs .1) l (x .1) ex), λ d. (record { fits = omega (arith, good .1 .1 .1 .0) }, (p - (vs .1 + 1), omega arith, ((d .1, vs .1 + 1), refl, measured-on n p (rows params) (vs .0) most (vs .1) inv l (rowOf (x .1)) ex (d .1) (d .5), refl)))))), (λ f. let l : p ≤ vs .1 = ltb-false (vs .1) p f in ((λ ls. (pre .0, (record-suits line r e p elements (rows params) (pre .1), elements-counted line r e p elements (rows params) (pre .1)))), λ v. ((refl, (tt, (tt, (tt, (refl, (refl, (tt, tt))))))), fits-is line r e p elements (rows params) (pre .1) n (vs .0) (measured-all n p (rows params) (vs .0) most (vs .1) inv l) (v .1) (v .5))))))))
 
 pub fits-spec : {M : Type 1} → stated.statement M
 unfolding code.routine tablesOf
