@@ -10,16 +10,18 @@ use lib.IntN.{ℤ, pos, negsuc, natAbs}
 use mir.Syntax.{w32, w64}
 use mir.Val.{SFits, toZ, ofZ}
 use mir.ValLaws.{toZ-ofZ}
-use borrow.Author.Tests.{le-leb, lt-leb, leb-true, leb-false, not-true, not-false}
+use borrow.Author.Tests.{le-leb, lt-leb, le-ltb, lt-ltb, leb-true, leb-false, not-true, not-false}
 use Rattle.base.specs.Diff.{up, down, diffOf}
 use Rattle.base.specs.declared.Diff.{Diff}
 use Rattle.base.proofs.Tests.{by-test}
 use Rattle.calendar.specs.Instant.{shown, isShown}
 use Rattle.calendar.specs.declared.Shown.{Shown}
+use Rattle.record.specs.Params.{rowOf}
+use Rattle.record.specs.declared.Param.{Param}
 use Rattle.record.specs.declared.Record.{Record}
 use Rattle.record.specs.declared.Timestamp.{Timestamp}
 use Rattle.record.specs.declared.Stamp.the-variants.{Stamped}
-use Rattle.suits.specs.Suits.{placeSuits, stampSuits, recordSuits, elementsSuit}
+use Rattle.suits.specs.Suits.{placeSuits, stampSuits, recordSuits, elementsSuit, paramSuits}
 use Rattle.suits.specs.Checks.{headSuits, checkAt}
 use Rattle.suits.specs.declared.Check.{Check}
 use Rattle.suits.proofs.Rows.{row-step, rows-ended}
@@ -90,6 +92,24 @@ module _ (line : List ℕ) (rows : List (List ℕ)) (n i : ℕ) (fits : n ≤ le
     element-on k = element-more ∙ test-on t _ k
 
 pub ruleset elements-laws = (elements-end, element-off, element-on)
+
+-- a parameter, test by test
+module _ (line : List ℕ) (count low : ℕ) (p : Param) where
+  pub param-before : p .element < low → false ≡ paramSuits line count low (rowOf p)
+  param-before h = rw (lt-leb low (p .element) h)
+
+  module _ (from : low ≤ p .element) where
+    pub param-behind : count ≤ p .element → false ≡ paramSuits line count low (rowOf p)
+    param-behind h = rw (le-leb low (p .element) from, le-ltb (p .element) count h)
+
+    module _ (below : p .element < count) (a : Bool) (ea : a ≡ placeSuits line (p .«name_start») (p .«name_len»)) where
+      pub param-unnamed : not a ≡ true → false ≡ paramSuits line count low (rowOf p)
+      param-unnamed h = rw (le-leb low (p .element) from, lt-ltb (p .element) count below, ← ea, not-true a h)
+
+      pub param-named : not a ≡ false → (b : Bool) → b ≡ placeSuits line (p .«value_start») (p .«value_len») → b ≡ paramSuits line count low (rowOf p)
+      param-named h b eb = eb ∙ rw (le-leb low (p .element) from, lt-ltb (p .element) count below, ← ea, not-false a h)
+
+pub ruleset param-laws = (param-before, param-behind, param-unnamed, param-named)
 
 -- all but the parameters
 module _ (line : List ℕ) (r : Record) (e p : ℕ) (elements : List (List ℕ)) (m : ℕ) (t : Bool) (et : t ≡ recordSuits line r) where

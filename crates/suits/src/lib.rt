@@ -100,10 +100,16 @@ fn param_suits(line: &[u8], count: usize, low: usize, p: Param) -> bool
     ensures { λ b. ⌜ b ≡ paramSuits (now (line .entry)) count low (rowOf p) ⌝ }
 {
     let n = line.len();
-    (low <= p.element)
-        & (p.element < count)
-        & place_suits(n, p.name_start, p.name_len)
-        & place_suits(n, p.value_start, p.value_len)
+    if p.element < low {
+        return false;
+    }
+    if count <= p.element {
+        return false;
+    }
+    if !place_suits(n, p.name_start, p.name_len) {
+        return false;
+    }
+    place_suits(n, p.value_start, p.value_len)
 }
 
 // All but the entries of a parameter table of `room` entries.
