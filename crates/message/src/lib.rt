@@ -109,6 +109,7 @@ fn rest_fits(room: Room, line: &[u8], r: Record, count: usize, elements: &[[usiz
     others_fit(left, line, r, counted(elements, count))
 }
 
+// All of `n` bytes.
 fn room_of(n: usize) -> Room
     ensures { λ r. ⌜ r ≡ Left n ⌝ }
 {
@@ -204,6 +205,7 @@ fn put_record(
     put_behind(out, at, line, r, element_count, elements, k)
 }
 
+// The tests and the answers of `print`, which names the table and so only calls.
 fn is_long(n: usize) -> bool
     ensures { λ b. ⌜ b ≡ ltb 8192 n ⌝ }
 {
