@@ -1,5 +1,9 @@
 // UTF-8: what a lead byte asks for, the character at the front of a part, and whether a text is UTF-8.
 ghost use mathlib.Core.Path.{_≡_};
+ghost use mathlib.Core.Bool.{_&&_};
+ghost use Prim.Native.Nat.{_+_, _≤_};
+ghost use lib.Dec.{ltb};
+ghost use lib.ListN.{length, getD, drop};
 ghost use Rattle.utf8.specs.Lead.{leadOf, charLen, isUtf8};
 
 // What a lead byte asks for: the length of its character in bytes (0: it begins none), and the range of the byte after it.
@@ -69,14 +73,45 @@ pub fn char_len(s: &[u8]) -> usize
     n
 }
 
-// Is the text UTF-8? One walk, a byte at a time; a byte of ASCII between characters asks for nothing more.
+// Are the eight bytes from `i` on ASCII? All are asked, so that the compiler makes one test of them.
+fn eight_ascii(s: &[u8], i: usize) -> bool
+    requires { ⌜ i + 8 ≤ length (now s) ⌝ }
+    ensures { λ r. ⌜ r ≡ (ltb (getD (now (s .entry)) i 0) 128 && ltb (getD (now (s .entry)) (i + 1) 0) 128 && ltb (getD (now (s .entry)) (i + 2) 0) 128 && ltb (getD (now (s .entry)) (i + 3) 0) 128 && ltb (getD (now (s .entry)) (i + 4) 0) 128 && ltb (getD (now (s .entry)) (i + 5) 0) 128 && ltb (getD (now (s .entry)) (i + 6) 0) 128 && ltb (getD (now (s .entry)) (i + 7) 0) 128) ⌝ }
+{
+    (s[i] < 0x80)
+        & (s[i + 1] < 0x80)
+        & (s[i + 2] < 0x80)
+        & (s[i + 3] < 0x80)
+        & (s[i + 4] < 0x80)
+        & (s[i + 5] < 0x80)
+        & (s[i + 6] < 0x80)
+        & (s[i + 7] < 0x80)
+}
+
+// How many bytes in front are ASCII, by eights.
+fn ascii_front(s: &[u8]) -> usize
+    ensures { λ n. ⌜ n ≤ length (now (s .entry)) ⌝ }
+    ensures { λ n. ⌜ isUtf8 (now (s .entry)) ≡ isUtf8 (drop n (now (s .entry))) ⌝ }
+{
+    let n = s.len();
+    let mut i = 0;
+    while 8 <= n - i {
+        if !eight_ascii(s, i) {
+            return i;
+        }
+        i += 8;
+    }
+    i
+}
+
+// Is the text UTF-8? The front of ASCII, then a byte at a time; a byte of ASCII between characters asks for nothing more.
 pub fn is_utf8(s: &[u8]) -> bool
     ensures { λ r. ⌜ r ≡ isUtf8 (now (s .entry)) ⌝ }
 {
     let mut more: usize = 0;
     let mut low: u8 = 0x80;
     let mut high: u8 = 0xBF;
-    let mut i = 0;
+    let mut i = ascii_front(s);
     while i < s.len() {
         let b = s[i];
         if more == 0 {

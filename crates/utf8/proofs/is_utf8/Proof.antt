@@ -12,6 +12,9 @@ Inv-loop s more₀ low₀ high₀ i₀ more low high i = Walked s more low high 
 abbrev μ-loop : tie.MeasureT-loop
 μ-loop s more₀ low₀ high₀ i₀ more low high i = length s - i
 
+ascii-front-requires : tie.Need-ascii-front-requires Inv-loop μ-loop
+ascii-front-requires c κs = search (walk-laws, needs)
+
 loop-holds : tie.Need-loop-holds Inv-loop μ-loop
 loop-holds c = search (walk-laws, needs)
 
@@ -72,6 +75,7 @@ is-utf8-spec =
     (tie.spec
     Inv-loop
     μ-loop
+    ascii-front-requires
     loop-holds
     shared-slice-read-b
     add-i
