@@ -1,0 +1,78 @@
+-- A loose reading that was done: the settings were right, the outcome is the record, and the tables hold its rows.
+use Prim.Native.Nat.{ℕ}
+use mathlib.Core.Path.{_≡_, refl, sym, ap}
+use mathlib.Core.List.{List, []}
+use mathlib.Core.Bool.{Bool, true, false, not}
+use native.Mathlib.Omega.{arith}
+use lib.Dec.{ltb}
+use lib.ListN.{length}
+use lib.IntN.{ℤ}
+use borrow.Author.Tests.{not-false}
+use Rattle.base.specs.Choose.{if_then_else_}
+use Rattle.base.specs.Fills.{filled}
+use Rattle.base.proofs.Tests.{clash}
+use Rattle.utf8.specs.Lead.{isUtf8}
+use Rattle.record.specs.declared.Record.{Record}
+use Rattle.record.specs.declared.Reading.{Reading}
+use Rattle.record.specs.declared.Reading.the-variants.{Read, Refused}
+use Rattle.record.specs.declared.Refusal.{Refusal}
+use Rattle.structured_data.specs.Data.{Rows}
+use Rattle.structured_data.specs.Outcome.{Outcome}
+use Rattle.structured_data.specs.Outcome.Outcome.{noReading, isReading}
+use Rattle.suits.specs.Suits.{elementsSuit, paramsSuit, suits}
+use Rattle.loose.specs.Loose.{settingsOk, judged, rowsOf, whole, orWhole, Reads}
+use Rattle.suited.proofs.Tests.{Suited, suits-filled}
+
+abbrev pub OutcomeSuits : List ℕ → Outcome → Type 0
+OutcomeSuits line noReading = Unit {0}
+OutcomeSuits line (isReading r at rows) = Suited line r (rows .elements) (rows .params)
+
+-- a line that is the message whole
+pub whole-suits : (line : List ℕ) (o : Outcome) → OutcomeSuits line o → OutcomeSuits line (orWhole line o)
+unfolding elementsSuit paramsSuit
+whole-suits line noReading h =
+    record {
+      of-record = record {
+        facility-in = refl;
+        severity-in = refl;
+        timestamp-in = refl;
+        host-in = omega arith;
+        app-in = omega arith;
+        procid-in = omega arith;
+        msgid-in = omega arith;
+        message-in = omega arith;
+      };
+      of-elements = refl;
+      of-params = refl;
+    }
+whole-suits line (isReading r at rows) h = h
+
+-- an answer behind a test that refuses is an answer, where the test fails
+module _ {r : Record} {e p : ℕ} where
+  never : {A : Type 0} (f : Refusal) → Refused f ≡ Read r e p → A
+  never f h = let z : true ≡ false = cc in clash z
+
+  past : (b : Bool) (f : Refusal) (x : Reading) → (if b then Refused f else x) ≡ Read r e p → (b ≡ false) × (x ≡ Read r e p)
+  past true f x h = never f h
+  past false f x h = (refl, h)
+
+  module _ (line : List ℕ) (e₀ p₀ e₁ p₁ : List (List ℕ)) where
+    judged-suits : (o : Outcome) → OutcomeSuits line o → judged o (length e₀) (length p₀) ≡ Read r e p
+        → e₁ ≡ filled (rowsOf o .elements) e₀ → p₁ ≡ filled (rowsOf o .params) p₀ → suits line r e p e₁ p₁ ≡ true
+    judged-suits noReading s h a b = never _ h
+    judged-suits (isReading x at rows) s h a b =
+        let u = past (ltb (length e₀) (length (rows .elements))) _ _ h in
+        let v = past (ltb (length p₀) (length (rows .params))) _ _ (u .1) in
+        let w = v .1 in
+        let er : r ≡ x = cc in
+        let ee : e ≡ length (rows .elements) = cc in
+        let ep : p ≡ length (rows .params) = cc in
+        rw (er, ee, ep, a, b) (suits-filled line x (rows .elements) (rows .params) e₀ p₀ s)
+
+    pub reading-suits : (variant year : ℕ) (offset : ℤ) (o : Outcome) → (settingsOk variant year offset ≡ true → OutcomeSuits line o)
+        → Reads line variant year offset o e₀ p₀ (Read r e p) e₁ p₁ → suits line r e p e₁ p₁ ≡ true
+    reading-suits variant year offset o k h =
+        let long = past (ltb 8192 (length line)) _ _ (sym (h .answer)) in
+        let bad = past (not (settingsOk variant year offset)) _ _ (long .1) in
+        let text = past (not (isUtf8 line)) _ _ (bad .1) in
+        judged-suits o (k (not-false _ (bad .0))) (text .1) (h .elements) (h .params)
