@@ -52,3 +52,21 @@ suits-filled line r elements params e₀ p₀ h =
   where
     room : (rows old : List (List ℕ)) → leb (length rows) (length (filled rows old)) ≡ true
     room rows old = le-leb (length rows) (length (filled rows old)) (simp length-append (omega arith))
+
+-- the row of a parameter
+param-suits : (line : List ℕ) (e low : ℕ) (row : List ℕ) → ParamIn line e low row → paramSuits line e low row ≡ true
+param-suits line e low row h = rw (le-leb _ _ (h .from), lt-ltb _ _ (h .below), le-leb _ _ (h .name-in), le-leb _ _ (h .value-in))
+
+-- the rows of the parameters of element `e`
+abbrev pub RowsOf : List ℕ → ℕ → List (List ℕ) → Type 0
+RowsOf line e rows = Each (ParamIn line (e + 1) e) rows
+
+-- and others behind them
+pub params-suit : (line : List ℕ) (f low e : ℕ) (rows more : List (List ℕ)) → low ≤ e → e < f → RowsOf line e rows
+    → ((low : ℕ) → low ≤ e → paramsSuit line f low more ≡ true) → paramsSuit line f low (rows ++ more) ≡ true
+unfolding paramsSuit
+params-suit line f low e [] more l b h k = k low l
+params-suit line f low e (row ∷ rows) more l b h k =
+    let r = h .0 in
+    let i : ParamIn line f low row = record { from = omega (arith, r .from); below = omega (arith, r .below); name-in = r .name-in; value-in = r .value-in } in
+    rw (param-suits line f low row i) (params-suit line f (getD row 0 0) e rows more (omega (arith, r .below)) b (h .1) k)
