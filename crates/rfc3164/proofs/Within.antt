@@ -78,7 +78,7 @@ abbrev pub DraftIn : ℕ → Draft → Type 0
 DraftIn n NoDraft = Unit {0}
 DraftIn n (IsDraft r at e p) = RecordIn n r at
 
-body-in : (pri : Pri) (stamp : Stamp) (s : List ℕ) (at : ℕ) → at ≤ length s → DraftIn (length s) (draftOf (bodyFrom pri stamp s at))
+pub body-in : (pri : Pri) (stamp : Stamp) (s : List ℕ) (at : ℕ) → at ≤ length s → DraftIn (length s) (draftOf (bodyFrom pri stamp s at))
 unfolding bodyFrom
 body-in pri stamp s at h =
     let host = spacedHost s at in

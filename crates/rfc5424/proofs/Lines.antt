@@ -110,16 +110,17 @@ FoundIn s noReading = Unit {0}
 FoundIn s (isReading r at rows) = Found s at rows
 
 module _ (P : Outcome → Type 0) where
-  on-start : (x : Start) (r : Outcome) (k : ℕ → Stamp → ℕ → Outcome) → P r → ((v : ℕ) (t : Stamp) (n : ℕ) → P (k v t n)) → P (onStart x r k)
+  pub on-start : (x : Start) (r : Outcome) (k : ℕ → Stamp → ℕ → Outcome) → P r
+      → ((v : ℕ) (t : Stamp) (n : ℕ) → x ≡ IsStart v t n → P (k v t n)) → P (onStart x r k)
   on-start NoStart r k a b = a
-  on-start (IsStart v t n) r k a b = b v t n
+  on-start (IsStart v t n) r k a b = b v t n refl
 
-  on-four : (x : Four) (r : Outcome) (k : Place → Place → Place → Place → ℕ → Outcome) → P r
+  pub on-four : (x : Four) (r : Outcome) (k : Place → Place → Place → Place → ℕ → Outcome) → P r
       → ((h a p m : Place) (n : ℕ) → x ≡ IsFour h a p m n → P (k h a p m n)) → P (onFour x r k)
   on-four NoFour r k a b = a
   on-four (IsFour h i p m n) r k a b = b h i p m n refl
 
-  on-data : (x : Data) (r : Outcome) (k : Rows → Outcome) → P r → ((rows : Rows) → x ≡ isData rows → P (k rows)) → P (onData x r k)
+  pub on-data : (x : Data) (r : Outcome) (k : Rows → Outcome) → P r → ((rows : Rows) → x ≡ isData rows → P (k rows)) → P (onData x r k)
   on-data noData r k a b = a
   on-data (isData rows) r k a b = b rows refl
 
@@ -133,7 +134,7 @@ body-found pri version stamp s at =
 module _ (s : List ℕ) (start : ℕ) where
   line-found : FoundIn s (rfc5424 s start)
   unfolding rfc5424
-  line-found = on-start (FoundIn s) (startFrom s (start + priAt (drop start s) .next)) _ _ tt λ version stamp a. body-found _ version stamp s a
+  line-found = on-start (FoundIn s) (startFrom s (start + priAt (drop start s) .next)) _ _ tt λ version stamp a e. body-found _ version stamp s a
 
   pub found : (r : Record) (at : ℕ) (rows : Rows) → rfc5424 s start ≡ isReading r at rows → Found s at rows
   found r at rows e = rw e at line-found
