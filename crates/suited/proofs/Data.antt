@@ -2,11 +2,10 @@
 use Prim.Native.Nat.{ℕ, zero, suc, _+_, _-_, _≤_}
 use mathlib.Core.Path.{_≡_, refl}
 use mathlib.Core.List.{List, [], _∷_}
-use mathlib.Core.Bool.{true, _&&_}
+use mathlib.Core.Bool.{_&&_}
 use native.Mathlib.Omega.{arith}
 use lib.Dec.{leb, eqb}
 use lib.ListN.{length, drop, length-drop}
-use borrow.Author.Tests.{le-leb}
 use Rattle.base.specs.Choose.{isAt}
 use Rattle.base.specs.Runs.{run}
 use Rattle.base.proofs.Parts.{at-below}
@@ -26,14 +25,8 @@ use Rattle.structured_data.specs.declared.Rules.{Rules}
 use Rattle.structured_data.specs.declared.Rules.the-variants.{Rfc3164Rules, Rfc5424Rules}
 use Rattle.structured_data.proofs.Ids.{id-le}
 use Rattle.structured_data.proofs.Params.{param-lies}
-use Rattle.suits.specs.Suits.{elementsSuit, paramsSuit}
 use Rattle.suits.proofs.Suited.{IdIn}
-use Rattle.suited.proofs.Tests.{RowsOf, params-suit}
-
--- where the first element has the number `e`
-pub record RowsIn (line : List ℕ) (e : ℕ) (rows : Rows) : Type 0 where
-  pub of-elements : elementsSuit line (rows .elements) ≡ true
-  pub of-params : (low : ℕ) → low ≤ e → paramsSuit line (e + length (rows .elements)) low (rows .params) ≡ true
+use Rattle.suited.proofs.Tests.{RowsOf, RowsIn, rows-none, rows-more}
 
 -- all in a part `t` of the line, which stands at `at` or behind
 module _ (line : List ℕ) where
@@ -91,33 +84,27 @@ module _ (line : List ℕ) where
   item-in Rfc3164Rules e at t (isElement row params next) h = by-if (ItemIn e) (leb 1 (length params)) _ _ (λ q. h) (λ q. tt)
   item-in Rfc3164Rules e at t noElement h = tt
 
-  item-and : (e at : ℕ) (i : Item) (more : ℕ → ℕ → Rows) → ItemIn e i → ((f next : ℕ) → RowsIn line f (more f next)) → RowsIn line e (itemAnd e at i more)
-  unfolding elementsSuit paramsSuit
-  item-and e at (taken row params next) more h k =
-      let m = k (e + 1) next in
-      let f : e + suc (length (more (e + 1) next .elements)) ≡ e + 1 + length (more (e + 1) next .elements) = omega arith in
-      record {
-        of-elements = rw (le-leb _ _ (h .0)) (m .of-elements);
-        of-params = λ low l. rw f (params-suit line _ low e params _ l (omega arith) (h .1) (λ low l. m .of-params low (omega arith)));
-      }
-  item-and e at (skipped next) more h k = k e next
-  item-and e at ended more h k = record { of-elements = refl; of-params = λ low l. refl }
+  -- rows of which the first element has the number `e`
+  abbrev Suit : ℕ → Rows → Type 0
+  Suit e rows = RowsIn line e (rows .elements) (rows .params)
 
-  elements-in : (rules : Rules) (e k at : ℕ) (t : List ℕ) → at + length t ≤ length line → RowsIn line e (elementsFrom rules e k at t)
-  unfolding elementsFrom itemFrom elementsSuit paramsSuit
-  elements-in rules e k at [] h = record { of-elements = refl; of-params = λ low l. refl }
+  item-and : (e at : ℕ) (i : Item) (more : ℕ → ℕ → Rows) → ItemIn e i → ((f next : ℕ) → Suit f (more f next)) → Suit e (itemAnd e at i more)
+  item-and e at (taken row params next) more h k = rows-more row params _ _ (h .0) (h .1) (k (e + 1) next)
+  item-and e at (skipped next) more h k = k e next
+  item-and e at ended more h k = rows-none
+
+  elements-in : (rules : Rules) (e k at : ℕ) (t : List ℕ) → at + length t ≤ length line → Suit e (elementsFrom rules e k at t)
+  unfolding elementsFrom itemFrom
+  elements-in rules e k at [] h = rows-none
   elements-in rules e (suc k) at (b ∷ t) h = elements-in rules e k (at + 1) t (omega arith)
   elements-in rules e zero at (b ∷ t) h =
       item-and e at (itemFrom rules e at (b ∷ t)) _ (item-in rules e at (b ∷ t) _ (element-in e at (b ∷ t) h))
       (λ f next. elements-in rules f (next - at - 1) (at + 1) t (omega arith))
 
   -- in a text that is no longer than the line
-  pub data-in : (rules : Rules) (s : List ℕ) (at : ℕ) → at ≤ length s → length s ≤ length line → RowsIn line 0 (rowsOr at (dataFrom rules s at))
-  unfolding dataFrom elementsSuit paramsSuit
+  pub data-in : (rules : Rules) (s : List ℕ) (at : ℕ) → at ≤ length s → length s ≤ length line → Suit 0 (rowsOr at (dataFrom rules s at))
+  unfolding dataFrom
   data-in rules s at h l =
-      by-if (λ (d : Data). RowsIn line 0 (rowsOr at d)) (isAt s at 45) _ _ (λ q. none) (λ q.
-      by-if (λ (d : Data). RowsIn line 0 (rowsOr at d)) (eqb (elementsFrom rules 0 0 at (drop at s) .next) at) _ _ (λ q. none)
+      by-if (λ (d : Data). Suit 0 (rowsOr at d)) (isAt s at 45) _ _ (λ q. rows-none) (λ q.
+      by-if (λ (d : Data). Suit 0 (rowsOr at d)) (eqb (elementsFrom rules 0 0 at (drop at s) .next) at) _ _ (λ q. rows-none)
       (λ q. elements-in rules 0 0 at (drop at s) (omega (arith, length-drop at s))))
-    where
-      none : {n : ℕ} → RowsIn line 0 (record { elements = []; params = []; next = n })
-      none = record { of-elements = refl; of-params = λ low l. refl }

@@ -19,9 +19,9 @@ use Rattle.record.specs.declared.Refusal.{Refusal}
 use Rattle.structured_data.specs.Data.{Rows}
 use Rattle.structured_data.specs.Outcome.{Outcome}
 use Rattle.structured_data.specs.Outcome.Outcome.{noReading, isReading}
-use Rattle.suits.specs.Suits.{elementsSuit, paramsSuit, suits}
+use Rattle.suits.specs.Suits.{suits}
 use Rattle.loose.specs.Loose.{settingsOk, judged, rowsOf, whole, orWhole, Reads}
-use Rattle.suited.proofs.Tests.{Suited, suits-filled}
+use Rattle.suited.proofs.Tests.{Suited, rows-none, suits-filled}
 
 abbrev pub OutcomeSuits : List ℕ → Outcome → Type 0
 OutcomeSuits line noReading = Unit {0}
@@ -29,7 +29,6 @@ OutcomeSuits line (isReading r at rows) = Suited line r (rows .elements) (rows .
 
 -- a line that is the message whole
 pub whole-suits : (line : List ℕ) (o : Outcome) → OutcomeSuits line o → OutcomeSuits line (orWhole line o)
-unfolding elementsSuit paramsSuit
 whole-suits line noReading h =
     record {
       of-record = record {
@@ -42,8 +41,7 @@ whole-suits line noReading h =
         msgid-in = omega arith;
         message-in = omega arith;
       };
-      of-elements = refl;
-      of-params = refl;
+      of-tables = rows-none;
     }
 whole-suits line (isReading r at rows) h = h
 

@@ -1,3 +1,5 @@
 pub mod Tests
 pub mod Frame
 pub mod Data
+pub mod Records
+pub mod Suited

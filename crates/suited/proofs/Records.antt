@@ -1,0 +1,143 @@
+-- The records of both protocols: levels, timestamps and places that suit the line.
+use Prim.Native.Nat.{ℕ, _+_, _-_, _/_, _%_, _≤_}
+use mathlib.Core.Path.{_≡_, refl, ap}
+use mathlib.Core.List.{List}
+use mathlib.Core.Bool.{true, _&&_}
+use native.Mathlib.Omega.{arith}
+use lib.Dec.{leb, eqb}
+use lib.ListN.{length, take, drop, length-take}
+use lib.IntN.{ℤ, natAbs}
+use borrow.Author.Tests.{le-leb, leb-true}
+use Rattle.base.specs.Choose.{isAt}
+use Rattle.base.proofs.Tests.{both, by-if}
+use Rattle.white.specs.Trim.{trimmed}
+use Rattle.digits.specs.declared.Number.{Number}
+use Rattle.digits.specs.declared.Number.the-variants.{Nothing, Value}
+use Rattle.digits.specs.Digits.{numberAt}
+use Rattle.record.specs.declared.Level.{Level}
+use Rattle.record.specs.declared.Record.{Record}
+use Rattle.record.specs.declared.Stamp.{Stamp}
+use Rattle.record.specs.declared.Stamp.the-variants.{Unstamped, Stamped}
+use Rattle.pri.specs.Pri.{facilityOf, priAfter, priAt}
+use Rattle.pri.specs.declared.Pri.{Pri}
+use Rattle.parsers.specs.Steps.{blanksFrom}
+use Rattle.parsers.proofs.Steps.{blanks-within}
+use Rattle.timestamp.specs.Timestamp.{rfc3164From}
+use Rattle.timestamp.specs.declared.Stamping.{Stamping}
+use Rattle.timestamp.specs.declared.Stamping.the-variants.{NoStamp, IsStamp}
+use Rattle.timestamp.proofs.Answers.{StampIn, StampingIn, rfc3164-in}
+use Rattle.structured_data.specs.Data.{Rows, dataFrom}
+use Rattle.structured_data.specs.Data.Data.{isData}
+use Rattle.structured_data.specs.Outcome.{Outcome}
+use Rattle.structured_data.specs.Outcome.Outcome.{noReading, isReading}
+use Rattle.structured_data.specs.declared.Rules.the-variants.{Rfc3164Rules, Rfc5424Rules}
+use Rattle.structured_data.proofs.Within.{rows-within}
+use Rattle.rfc3164.specs.Rfc3164 as rfc3164
+use Rattle.rfc3164.proofs.Within.{body-in}
+use Rattle.rfc5424.specs.Rfc5424 as rfc5424
+use Rattle.rfc5424.proofs.Headers.{start-stamp, four-places}
+use Rattle.rfc5424.proofs.Lines.{on-start, on-four, on-data}
+use Rattle.suits.specs.Suits.{levelSuits, stampSuits}
+use Rattle.loose.specs.Loose.{orElse, byVariant, outcomeOf, settingsOk}
+use Rattle.suited.proofs.Tests.{Suited}
+use Rattle.suited.proofs.Frame.{OutcomeSuits}
+use Rattle.suited.proofs.Data.{data-in}
+
+-- the priority
+record PriSuits (p : Pri) : Type 0 where
+  facility : levelSuits 23 (p .facility) ≡ true
+  severity : levelSuits 7 (p .severity) ≡ true
+
+pri-suits : (s : List ℕ) → PriSuits (priAt s)
+unfolding priAt
+pri-suits s = by-if PriSuits (isAt s 0 60) _ _ (λ h. after (numberAt 255 (drop 1 s))) (λ h. record { facility = refl; severity = refl })
+  where
+    after : (r : Number) → PriSuits (priAfter s r)
+    after Nothing = record { facility = refl; severity = refl }
+    after (Value v n) =
+        by-if PriSuits (isAt s (n + 1) 62) _ _
+        (λ h.
+        record {
+          facility = by-if (λ (l : Level). levelSuits 23 l ≡ true) (leb (v / 8) 23) _ _ (λ q. q) (λ q. refl);
+          severity = le-leb (v % 8) 7 (omega arith);
+        })
+        (λ h. record { facility = refl; severity = refl })
+
+-- the timestamp
+pub stamp-suits : (t : Stamp) → StampIn 1439 t → stampSuits t ≡ true
+stamp-suits Unstamped h = refl
+stamp-suits (Stamped t) h = rw (le-leb _ _ (h .nanos-to), le-leb _ _ (h .offset-to), h .year-in)
+
+-- a line whose text `s`, from `start` on, is read
+module _ (line s : List ℕ) (inside : length s ≤ length line) (start : ℕ) where
+  pub rfc5424-suits : OutcomeSuits line (rfc5424.rfc5424 s start)
+  unfolding rfc5424.rfc5424 rfc5424.bodyFrom
+  rfc5424-suits =
+      let pri = priAt (drop start s) in
+      on-start (OutcomeSuits line) (rfc5424.startFrom s (start + pri .next)) _ _ tt λ version stamp a e1.
+      on-four (OutcomeSuits line) (rfc5424.fourFrom s a) _ _ tt λ host app procid msgid b e2.
+      on-data (OutcomeSuits line) (dataFrom Rfc5424Rules s (blanksFrom s b)) _ _ tt λ rows e3.
+      let p = pri-suits (drop start s) in
+      let four = four-places s a _ refl host app procid msgid b e2 in
+      let from = blanks-within s b _ refl (four .within-line) in
+      let message = blanks-within s (rows .next) _ refl (rows-within Rfc5424Rules s _ rows e3 from) in
+      record {
+        of-record = record {
+          facility-in = p .facility;
+          severity-in = p .severity;
+          timestamp-in = stamp-suits stamp (start-stamp s _ _ refl version stamp a e1);
+          host-in = omega (arith, four);
+          app-in = omega (arith, four);
+          procid-in = omega (arith, four);
+          msgid-in = omega (arith, four);
+          message-in = omega arith;
+        };
+        of-tables = rw e3 at (data-in line Rfc5424Rules s _ from inside);
+      }
+
+  module _ (year : ℕ) (offset : ℤ) (range : natAbs offset ≤ 1439) where
+    pub rfc3164-suits : OutcomeSuits line (rfc3164.rfc3164 year offset s start)
+    unfolding rfc3164.rfc3164 rfc3164.bodyFrom
+    rfc3164-suits = go (rfc3164From year offset s _) (rfc3164-in 1439 s (omega arith) offset range year _)
+      where
+        pri : Pri
+        pri = priAt (drop start s)
+
+        go : (g : Stamping) → StampingIn 1439 (length s) g → OutcomeSuits line (rfc3164.onStamping g noReading (λ stamp a. rfc3164.bodyFrom pri stamp s a))
+        go NoStamp i = tt
+        go (IsStamp t a) i =
+            let p = pri-suits (drop start s) in
+            let places = body-in pri t s a (i .1) in
+            record {
+              of-record = record {
+                facility-in = p .facility;
+                severity-in = p .severity;
+                timestamp-in = stamp-suits t (i .0);
+                host-in = omega (arith, places);
+                app-in = omega (arith, places);
+                procid-in = omega (arith, places);
+                msgid-in = omega (arith, places);
+                message-in = omega (arith, places);
+              };
+              of-tables = data-in line Rfc3164Rules s _ (places .data-in) inside;
+            }
+
+    -- by the variant
+    first-suits : (x y : Outcome) → OutcomeSuits line x → OutcomeSuits line y → OutcomeSuits line (orElse x y)
+    first-suits noReading y h k = k
+    first-suits (isReading r at rows) y h k = h
+
+    pub variant-suits : (variant : ℕ) → OutcomeSuits line (byVariant variant year offset s start)
+    unfolding byVariant
+    variant-suits variant =
+        by-if (OutcomeSuits line) (eqb variant 0) _ _ (λ e. first-suits (rfc5424.rfc5424 s start) (rfc3164.rfc3164 year offset s start) rfc5424-suits rfc3164-suits) (λ e.
+        by-if (OutcomeSuits line) (eqb variant 1) _ _ (λ e. rfc3164-suits) (λ e. rfc5424-suits))
+
+-- the text of a line is its trimmed part
+pub outcome-suits : (line : List ℕ) (variant year : ℕ) (offset : ℤ) → settingsOk variant year offset ≡ true
+    → OutcomeSuits line (outcomeOf line variant year offset)
+unfolding outcomeOf
+outcome-suits line variant year offset h =
+    let ends = trimmed line in
+    let range = leb-true (natAbs offset) 1439 (both (leb variant 2 && leb year 9999) _ h .1) in
+    variant-suits line (take (ends .end) line) (omega (arith, length-take (ends .end) line)) (ends .start) year offset range variant

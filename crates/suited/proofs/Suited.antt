@@ -1,0 +1,22 @@
+-- What a reader leaves suits its line, so that printing and lookup never refuse it with 7.
+use Prim.Native.Nat.{ℕ}
+use mathlib.Core.Path.{_≡_}
+use mathlib.Core.List.{List}
+use mathlib.Core.Bool.{true}
+use lib.IntN.{ℤ}
+use Rattle.record.specs.declared.Record.{Record}
+use Rattle.record.specs.declared.Reading.the-variants as loose
+use Rattle.suits.specs.Suits.{suits}
+use Rattle.loose.specs.Loose.{outcomeOf, ReadsExact, ReadsFallback}
+use Rattle.suited.proofs.Frame.{whole-suits, reading-suits}
+use Rattle.suited.proofs.Records.{outcome-suits}
+
+module _ {line : List ℕ} {e₀ p₀ e₁ p₁ : List (List ℕ)} {e p : ℕ} where
+  module _ {r : Record} {variant year : ℕ} {offset : ℤ} where
+    pub exact-suits : ReadsExact line variant year offset e₀ p₀ (loose.Read r e p) e₁ p₁ → suits line r e p e₁ p₁ ≡ true
+    exact-suits h = reading-suits line e₀ p₀ e₁ p₁ variant year offset _ (outcome-suits line variant year offset) h
+
+    pub fallback-suits : ReadsFallback line variant year offset e₀ p₀ (loose.Read r e p) e₁ p₁ → suits line r e p e₁ p₁ ≡ true
+    fallback-suits h =
+        reading-suits line e₀ p₀ e₁ p₁ variant year offset _
+        (λ s. whole-suits line (outcomeOf line variant year offset) (outcome-suits line variant year offset s)) h
