@@ -84,10 +84,10 @@ no-name : (ps : List Param) (r : List ℕ) → run sdNameByte (eachThen paramThe
 no-name [] r = run-no sdNameByte 93 r refl
 no-name (p ∷ ps) r = run-no sdNameByte 32 _ refl
 
-params-length : (ps : List Param) (r : List ℕ) → Each ParamOk ps → length (eachThen paramThen ps r) ≡ length (eachThen paramThen ps []) + length r
+pub params-length : (ps : List Param) (r : List ℕ) → Each ParamOk ps → length (eachThen paramThen ps r) ≡ length (eachThen paramThen ps []) + length r
 params-length ps r h = text-length (many-reads 31 param-reads) ps r h
 
-param-length : (p : Param) → length (paramThen p []) ≡ length (p .name) + length (p .value) + 4
+pub param-length : (p : Param) → length (paramThen p []) ≡ length (p .name) + length (p .value) + 4
 param-length p = simp length-append (omega arith)
 
 module _ (line r : List ℕ) (at end k : ℕ) where
@@ -153,7 +153,7 @@ pub record Walk (line : List ℕ) (at end : ℕ) (e₀ p₀ e p : List (List ℕ
   elements-in : Rows (elementRows at (elementsAt line at)) (elementsLeft i left) e₀ e n
   params-in : Rows (paramRows 0 at (elementsAt line at)) (paramsLeft n i left) p₀ p m
 
-elements-many : (at : ℕ) (es : List Element) → length (elementRows at es) ≡ length es
+pub elements-many : (at : ℕ) (es : List Element) → length (elementRows at es) ≡ length es
 elements-many at [] = refl
 elements-many at (e ∷ es) = ap suc (elements-many (at + length (elementThen e [])) es)
 
@@ -161,7 +161,7 @@ params-many : (k at : ℕ) (ps : List Param) → length (rowsOfParams k at ps) �
 params-many k at [] = refl
 params-many k at (p ∷ ps) = ap suc (params-many k (at + length (paramThen p [])) ps)
 
-all-many : (k at : ℕ) (es : List Element) → length (paramRows k at es) ≡ paramCount es
+pub all-many : (k at : ℕ) (es : List Element) → length (paramRows k at es) ≡ paramCount es
 all-many k at [] = refl
 all-many k at (e ∷ es) =
     length-append (rowsOfParams k (at + length (e .id) + 1) (e .params)) (paramRows (k + 1) (at + length (elementThen e [])) es)

@@ -28,6 +28,11 @@ abs-neg : (n : ℕ) → natAbs (negℤ (pos n)) ≡ n
 abs-neg zero = refl
 abs-neg (suc n) = refl
 
+pub offset-small : (o : Offset) → OffsetOk o → natAbs (offsetOf o) ≤ 1439
+offset-small Offset.utc r = omega arith
+offset-small (Offset.east a b) r = omega (arith, r .hour-range, r .minute-range)
+offset-small (Offset.west a b) r = rw (abs-neg (decimal a * 60 + decimal b)) (omega (arith, r .hour-range, r .minute-range))
+
 module _ (s : List ℕ) (f : Heading) (e : f ≡ heading (header s)) where
   pub header-none : f ≡ NoHeader → Fails header s
   header-none h = none-found heading e (λ a n q. let z : true ≡ false = cc in clash z)
@@ -65,11 +70,6 @@ module _ (s : List ℕ) (f : Heading) (e : f ≡ heading (header s)) where
         let w = finds-ok header-some header-reads in
         go (w .value .1 .0) (w .has .1 .1 .0) (ap (λ (y : HeaderAt). y .timestamp) (w .has .0) ∙ k)
       where
-        small : (o : Offset) → OffsetOk o → natAbs (offsetOf o) ≤ 1439
-        small Offset.utc r = omega arith
-        small (Offset.east a b) r = omega (arith, r .hour-range, r .minute-range)
-        small (Offset.west a b) r = rw (abs-neg (decimal a * 60 + decimal b)) (omega (arith, r .hour-range, r .minute-range))
-
         go : (o : Option Timestamp) → TimestampOk o → stampOf o ≡ Stamped t → natAbs (t .offset) ≤ 1439
         go none r q = let z : true ≡ false = cc in clash z
-        go (some u) r q = let z : offsetOf (u .offset) ≡ t .offset = cc in rw (← z) (small (u .offset) (r .offset-ok))
+        go (some u) r q = let z : offsetOf (u .offset) ≡ t .offset = cc in rw (← z) (offset-small (u .offset) (r .offset-ok))

@@ -82,7 +82,7 @@ pub stamp-is : (t : DateTime) (v : ℕ) (z x : ℤ) → SFits w32 z → SFits w6
     → Stamped (record { seconds = toZ w64 (ofZ w64 x); nanos = v; offset = toZ w32 (ofZ w32 z) }) ≡ Stamped (record { seconds = secondsOf t z; nanos = v; offset = z })
 stamp-is t v z x fz fx e = rw (toZ-ofZ w64 x fx, e, toZ-ofZ w32 z fz)
 
-four-digits : (t : List ℕ) (y : ℕ) → Repeat 4 4 isDigit t → decimal t ≡ y → y ≤ 9999
+pub four-digits : (t : List ℕ) (y : ℕ) → Repeat 4 4 isDigit t → decimal t ≡ y → y ≤ 9999
 four-digits t y r e =
     let l : 10 ^ length t ≤ 10 ^ 4 = pow-le-pow-right (omega arith) {i = length t} {j = 4} (r .at-most) in
     omega (arith, decimal-lt t (r .all))

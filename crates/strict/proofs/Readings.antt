@@ -68,7 +68,7 @@ no-bracket : (m : Option (List ℕ)) → isAt (messageText m) 0 91 ≡ false
 no-bracket none = refl
 no-bracket (some m) = refl
 
-header-ok : (line : List ℕ) (d : Division) → Derives line d → HeaderOk (headerOf d)
+pub header-ok : (line : List ℕ) (d : Division) → Derives line d → HeaderOk (headerOf d)
 header-ok line d h =
     ((h .prival-ok, h .version-ok), (h .timestamp-ok, (h .hostname-ok, (h .app-name-ok, (h .procid-ok, h .msgid-ok)))))
 

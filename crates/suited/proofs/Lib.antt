@@ -2,4 +2,5 @@ pub mod Tests
 pub mod Frame
 pub mod Data
 pub mod Records
+pub mod Strict
 pub mod Suited

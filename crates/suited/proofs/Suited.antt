@@ -6,10 +6,14 @@ use mathlib.Core.Bool.{true}
 use lib.IntN.{ℤ}
 use Rattle.record.specs.declared.Record.{Record}
 use Rattle.record.specs.declared.Reading.the-variants as loose
+use Rattle.record.specs.declared.StrictRecord.{StrictRecord}
+use Rattle.record.specs.declared.StrictReading.the-variants as strict
 use Rattle.suits.specs.Suits.{suits}
+use Rattle.grammar.specs.Reading.{StrictReads}
 use Rattle.loose.specs.Loose.{outcomeOf, ReadsExact, ReadsFallback}
 use Rattle.suited.proofs.Frame.{whole-suits, reading-suits}
 use Rattle.suited.proofs.Records.{outcome-suits}
+use Rattle.suited.proofs.Strict.{reading-suits as strict-reading-suits}
 
 module _ {line : List ℕ} {e₀ p₀ e₁ p₁ : List (List ℕ)} {e p : ℕ} where
   module _ {r : Record} {variant year : ℕ} {offset : ℤ} where
@@ -20,3 +24,6 @@ module _ {line : List ℕ} {e₀ p₀ e₁ p₁ : List (List ℕ)} {e p : ℕ} w
     fallback-suits h =
         reading-suits line e₀ p₀ e₁ p₁ variant year offset _
         (λ s. whole-suits line (outcomeOf line variant year offset) (outcome-suits line variant year offset s)) h
+
+  pub strict-suits : {s : StrictRecord} → StrictReads line e₀ p₀ (strict.Read s e p) e₁ p₁ → suits line (s .common) e p e₁ p₁ ≡ true
+  strict-suits h = strict-reading-suits h
