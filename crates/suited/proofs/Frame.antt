@@ -45,6 +45,12 @@ whole-suits line noReading h =
     }
 whole-suits line (isReading r at rows) h = h
 
+-- what a reading that is done has passed, and what is left to say
+record Passed (line : List ℕ) (variant year : ℕ) (offset : ℤ) (A : Type 0) : Type 0 where
+  short : ltb 8192 (length line) ≡ false
+  settings : settingsOk variant year offset ≡ true
+  is : A
+
 -- an answer behind a test that refuses is an answer, where the test fails
 module _ {r : Record} {e p : ℕ} where
   never : {A : Type 0} (f : Refusal) → Refused f ≡ Read r e p → A
@@ -67,10 +73,16 @@ module _ {r : Record} {e p : ℕ} where
         let ep : p ≡ length (rows .params) = cc in
         rw (er, ee, ep, a, b) (suits-filled line x (rows .elements) (rows .params) e₀ p₀ s)
 
-    pub reading-suits : (variant year : ℕ) (offset : ℤ) (o : Outcome) → (settingsOk variant year offset ≡ true → OutcomeSuits line o)
-        → Reads line variant year offset o e₀ p₀ (Read r e p) e₁ p₁ → suits line r e p e₁ p₁ ≡ true
-    reading-suits variant year offset o k h =
-        let long = past (ltb 8192 (length line)) _ _ (sym (h .answer)) in
-        let bad = past (not (settingsOk variant year offset)) _ _ (long .1) in
-        let text = past (not (isUtf8 line)) _ _ (bad .1) in
-        judged-suits o (k (not-false _ (bad .0))) (text .1) (h .elements) (h .params)
+    module _ (variant year : ℕ) (offset : ℤ) (o : Outcome) (h : Reads line variant year offset o e₀ p₀ (Read r e p) e₁ p₁) where
+      passes : Passed line variant year offset (judged o (length e₀) (length p₀) ≡ Read r e p)
+      passes =
+          let long = past (ltb 8192 (length line)) _ _ (sym (h .answer)) in
+          let bad = past (not (settingsOk variant year offset)) _ _ (long .1) in
+          let text = past (not (isUtf8 line)) _ _ (bad .1) in
+          record { short = long .0; settings = not-false _ (bad .0); is = text .1 }
+
+      pub reading-short : ltb 8192 (length line) ≡ false
+      reading-short = passes .short
+
+      pub reading-suits : (settingsOk variant year offset ≡ true → OutcomeSuits line o) → suits line r e p e₁ p₁ ≡ true
+      reading-suits k = judged-suits o (k (passes .settings)) (passes .is) (h .elements) (h .params)

@@ -5,9 +5,9 @@ use mathlib.Core.Bool.{true, false, _&&_}
 use mathlib.Core.List.{List, [], _∷_, _++_}
 use mathlib.Core.Option.{Option, none, some}
 use native.Mathlib.Omega.{arith}
-use lib.Dec.{eqb}
+use lib.Dec.{ltb, eqb}
 use lib.ListN.{length, length-append}
-use borrow.Author.Tests.{le-leb}
+use borrow.Author.Tests.{le-leb, le-ltb}
 use Rattle.base.specs.Choose.{isAt}
 use Rattle.base.specs.Fills.{filled}
 use Rattle.base.proofs.Runs.{run-none}
@@ -140,6 +140,13 @@ never : {A : Type 0} {s : StrictRecord} {e p : ℕ} (f : Refusal) → Read s e p
 never f h = let z : true ≡ false = cc in clash z
 
 module _ {line : List ℕ} {e₀ p₀ e₁ p₁ : List (List ℕ)} {s : StrictRecord} {e p : ℕ} where
+  pub reading-short : StrictReads line e₀ p₀ (Read s e p) e₁ p₁ → ltb 8192 (length line) ≡ false
+  reading-short (too-long l a b c) = never _ a
+  reading-short (underivable l h a b c) = never _ a
+  reading-short (elements-over d l h m a b c) = never _ a
+  reading-short (params-over d l h k m a b c) = never _ a
+  reading-short (accepted d l h k m a b c) = le-ltb 8192 (length line) l
+
   pub reading-suits : StrictReads line e₀ p₀ (Read s e p) e₁ p₁ → suits line (s .common) e p e₁ p₁ ≡ true
   reading-suits (too-long l a b c) = never _ a
   reading-suits (underivable l h a b c) = never _ a
