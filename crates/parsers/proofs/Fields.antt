@@ -103,13 +103,4 @@ module _ (s : List ℕ) (at : ℕ) where
     unfolding tagFrom
     tag-place e = text-place tagAt tag-in s at p n (sym e ∙ z)
 
-    pub plain-within : g ≡ plainFrom s at → n ≤ length s
-    plain-within e = plain-place e .within-line
-
-    pub host-within : g ≡ hostFrom s at → n ≤ length s
-    host-within e = host-place e .within-line
-
-    pub tag-within : g ≡ tagFrom s at → n ≤ length s
-    tag-within e = tag-place e .within-line
-
 pub ruleset field-laws = (plain-fits, host-fits, tag-fits, plain-placed, host-placed, tag-placed)

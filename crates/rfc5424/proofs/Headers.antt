@@ -19,7 +19,7 @@ use Rattle.timestamp.specs.Rfc3339.{rfc3339From}
 use Rattle.timestamp.specs.declared.Stamping.{Stamping}
 use Rattle.timestamp.specs.declared.Stamping.the-variants.{NoStamp, IsStamp}
 use Rattle.timestamp.proofs.Onward.{on-num, on-pos}
-use Rattle.timestamp.proofs.Answers.{StampIn, StampingIn, rfc3339-in}
+use Rattle.timestamp.proofs.Answers.{StampIn, rfc3339-within, rfc3339-stamp}
 use Rattle.rfc5424.specs.Rfc5424.{blankHost, blankPlain, startOf, startFrom, fourFrom}
 use Rattle.rfc5424.specs.declared.Start.{Start}
 use Rattle.rfc5424.specs.declared.Start.the-variants.{NoStart, IsStart}
@@ -108,11 +108,11 @@ module _ (s : List ℕ) (at : ℕ) where
   start-in =
       on-num (StartWithin (length s)) (numberFrom s at) _ _ tt λ v a e.
       on-pos (StartWithin (length s)) (someBlanksFrom s a) _ _ tt λ b f.
-      go v (rfc3339From s b) (rfc3339-in 1439 s (omega arith) b)
+      go v (rfc3339From s b) (λ t n z. (rfc3339-stamp s b _ t n z refl, rfc3339-within s b _ t n z refl))
     where
-      go : (v : ℕ) (r : Stamping) → StampingIn 1439 (length s) r → StartWithin (length s) (startOf v r)
+      go : (v : ℕ) (r : Stamping) → ((t : Stamp) (n : ℕ) → r ≡ IsStamp t n → StampIn 1439 t × (n ≤ length s)) → StartWithin (length s) (startOf v r)
       go v NoStamp h = tt
-      go v (IsStamp t n) h = h
+      go v (IsStamp t n) h = h t n refl
 
   module _ (g : Start) (e : g ≡ startFrom s at) (v : ℕ) (t : Stamp) (n : ℕ) (z : g ≡ IsStart v t n) where
     pub start-stamp : StampIn 1439 t

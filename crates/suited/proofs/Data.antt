@@ -17,7 +17,6 @@ use Rattle.structured_data.specs.Element.{Params, Element, idLen, paramAnd, mor
 use Rattle.structured_data.specs.Element.Element.{noElement, isElement}
 use Rattle.structured_data.specs.Data.{Rows, Item, itemOf, itemFrom, itemAnd, elementsFrom, Data, dataFrom, rowsOr}
 use Rattle.structured_data.specs.Data.Item.{taken, skipped, ended}
-use Rattle.structured_data.specs.Data.Data.{noData, isData}
 use Rattle.structured_data.specs.Steps.{isInside}
 use Rattle.structured_data.specs.declared.Param.{Param}
 use Rattle.structured_data.specs.declared.Param.the-variants.{NoParam, IsParam}

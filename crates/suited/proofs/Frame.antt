@@ -1,7 +1,7 @@
 -- A loose reading that was done: the settings were right, the outcome is the record, and the tables hold its rows.
 use Prim.Native.Nat.{ℕ}
-use mathlib.Core.Path.{_≡_, refl, sym, ap}
-use mathlib.Core.List.{List, []}
+use mathlib.Core.Path.{_≡_, refl, sym}
+use mathlib.Core.List.{List}
 use mathlib.Core.Bool.{Bool, true, false, not}
 use native.Mathlib.Omega.{arith}
 use lib.Dec.{ltb}
@@ -16,11 +16,10 @@ use Rattle.record.specs.declared.Record.{Record}
 use Rattle.record.specs.declared.Reading.{Reading}
 use Rattle.record.specs.declared.Reading.the-variants.{Read, Refused}
 use Rattle.record.specs.declared.Refusal.{Refusal}
-use Rattle.structured_data.specs.Data.{Rows}
 use Rattle.structured_data.specs.Outcome.{Outcome}
 use Rattle.structured_data.specs.Outcome.Outcome.{noReading, isReading}
 use Rattle.suits.specs.Suits.{suits}
-use Rattle.loose.specs.Loose.{settingsOk, judged, rowsOf, whole, orWhole, Reads}
+use Rattle.loose.specs.Loose.{settingsOk, judged, rowsOf, orWhole, Reads}
 use Rattle.suited.proofs.Tests.{Suited, rows-none, suits-filled}
 
 abbrev pub OutcomeSuits : List ℕ → Outcome → Type 0

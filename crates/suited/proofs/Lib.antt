@@ -4,3 +4,4 @@ pub mod Data
 pub mod Records
 pub mod Strict
 pub mod Suited
+pub mod AfterReading

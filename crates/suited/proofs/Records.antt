@@ -1,6 +1,6 @@
 -- The records of both protocols: levels, timestamps and places that suit the line.
 use Prim.Native.Nat.{ℕ, _+_, _-_, _/_, _%_, _≤_}
-use mathlib.Core.Path.{_≡_, refl, ap}
+use mathlib.Core.Path.{_≡_, refl}
 use mathlib.Core.List.{List}
 use mathlib.Core.Bool.{true, _&&_}
 use native.Mathlib.Omega.{arith}
@@ -15,19 +15,17 @@ use Rattle.digits.specs.declared.Number.{Number}
 use Rattle.digits.specs.declared.Number.the-variants.{Nothing, Value}
 use Rattle.digits.specs.Digits.{numberAt}
 use Rattle.record.specs.declared.Level.{Level}
-use Rattle.record.specs.declared.Record.{Record}
 use Rattle.record.specs.declared.Stamp.{Stamp}
 use Rattle.record.specs.declared.Stamp.the-variants.{Unstamped, Stamped}
-use Rattle.pri.specs.Pri.{facilityOf, priAfter, priAt}
+use Rattle.pri.specs.Pri.{priAfter, priAt}
 use Rattle.pri.specs.declared.Pri.{Pri}
 use Rattle.parsers.specs.Steps.{blanksFrom}
 use Rattle.parsers.proofs.Steps.{blanks-within}
 use Rattle.timestamp.specs.Timestamp.{rfc3164From}
 use Rattle.timestamp.specs.declared.Stamping.{Stamping}
 use Rattle.timestamp.specs.declared.Stamping.the-variants.{NoStamp, IsStamp}
-use Rattle.timestamp.proofs.Answers.{StampIn, StampingIn, rfc3164-in}
-use Rattle.structured_data.specs.Data.{Rows, dataFrom}
-use Rattle.structured_data.specs.Data.Data.{isData}
+use Rattle.timestamp.proofs.Answers.{StampIn, rfc3164-within, rfc3164-stamp}
+use Rattle.structured_data.specs.Data.{dataFrom}
 use Rattle.structured_data.specs.Outcome.{Outcome}
 use Rattle.structured_data.specs.Outcome.Outcome.{noReading, isReading}
 use Rattle.structured_data.specs.declared.Rules.the-variants.{Rfc3164Rules, Rfc5424Rules}
@@ -39,7 +37,6 @@ use Rattle.rfc5424.proofs.Headers.{start-stamp, four-places}
 use Rattle.rfc5424.proofs.Lines.{on-start, on-four, on-data}
 use Rattle.suits.specs.Suits.{levelSuits, stampSuits}
 use Rattle.loose.specs.Loose.{orElse, byVariant, outcomeOf, settingsOk}
-use Rattle.suited.proofs.Tests.{Suited}
 use Rattle.suited.proofs.Frame.{OutcomeSuits}
 use Rattle.suited.proofs.Data.{data-in}
 
@@ -98,21 +95,24 @@ module _ (line s : List ℕ) (inside : length s ≤ length line) (start : ℕ) w
   module _ (year : ℕ) (offset : ℤ) (range : natAbs offset ≤ 1439) where
     pub rfc3164-suits : OutcomeSuits line (rfc3164.rfc3164 year offset s start)
     unfolding rfc3164.rfc3164 rfc3164.bodyFrom
-    rfc3164-suits = go (rfc3164From year offset s _) (rfc3164-in 1439 s (omega arith) offset range year _)
+    rfc3164-suits = go (rfc3164From year offset s from) refl
       where
         pri : Pri
         pri = priAt (drop start s)
 
-        go : (g : Stamping) → StampingIn 1439 (length s) g → OutcomeSuits line (rfc3164.onStamping g noReading (λ stamp a. rfc3164.bodyFrom pri stamp s a))
-        go NoStamp i = tt
-        go (IsStamp t a) i =
+        from : ℕ
+        from = blanksFrom s (start + pri .next)
+
+        go : (g : Stamping) → g ≡ rfc3164From year offset s from → OutcomeSuits line (rfc3164.onStamping g noReading (λ stamp a. rfc3164.bodyFrom pri stamp s a))
+        go NoStamp q = tt
+        go (IsStamp t a) q =
             let p = pri-suits (drop start s) in
-            let places = body-in pri t s a (i .1) in
+            let places = body-in pri t s a (rfc3164-within s from _ t a refl year offset q) in
             record {
               of-record = record {
                 facility-in = p .facility;
                 severity-in = p .severity;
-                timestamp-in = stamp-suits t (i .0);
+                timestamp-in = stamp-suits t (rfc3164-stamp s from _ t a refl year offset q range);
                 host-in = omega (arith, places);
                 app-in = omega (arith, places);
                 procid-in = omega (arith, places);

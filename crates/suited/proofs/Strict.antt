@@ -1,5 +1,5 @@
 -- The division of a line: its fields and its elements lie in the line, and its timestamp can be shown.
-use Prim.Native.Nat.{ℕ, _+_, _-_, _*_, _/_, _%_, _^_, _≤_}
+use Prim.Native.Nat.{ℕ, _+_, _-_, _/_, _%_, _≤_}
 use mathlib.Core.Path.{_≡_, refl, sym, ap, _∙_}
 use mathlib.Core.Bool.{true, false, _&&_}
 use mathlib.Core.List.{List, [], _∷_, _++_}
@@ -9,7 +9,6 @@ use lib.Dec.{ltb, eqb}
 use lib.ListN.{length, length-append}
 use borrow.Author.Tests.{le-leb, le-ltb}
 use Rattle.base.specs.Choose.{isAt}
-use Rattle.base.specs.Fills.{filled}
 use Rattle.base.proofs.Runs.{run-none}
 use Rattle.base.proofs.Tests.{by-if, clash}
 use Rattle.digits.specs.Digits.{decimal}
@@ -20,11 +19,10 @@ use Rattle.calendar.specs.declared.DateTime.{DateTime}
 use Rattle.calendar.proofs.ThereAndBack.{back}
 use Rattle.record.specs.declared.Place.{Place}
 use Rattle.record.specs.declared.StrictRecord.{StrictRecord}
-use Rattle.record.specs.declared.StrictReading.{StrictReading}
 use Rattle.record.specs.declared.StrictReading.the-variants.{Read, Refused}
 use Rattle.record.specs.declared.Refusal.{Refusal}
 use Rattle.grammar.specs.Abnf.{isDigit}
-use Rattle.grammar.specs.Line.{Param, Element, Timestamp, Division, Each, eachThen, paramThen, elementThen, dataThen, messageText, SecfracOk, FullOk, TimestampOk, ParamOk, ElementOk, Derives}
+use Rattle.grammar.specs.Line.{Param, Element, Timestamp, Division, Each, eachThen, paramThen, elementThen, dataThen, messageText, SecfracOk, TimestampOk, ParamOk, ElementOk, Derives}
 use Rattle.grammar.specs.Reading.{hostnameAt, appNameAt, procidAt, msgidAt, dataAt, dataEnd, placeOf, nanosOf, offsetOf, stampOf, messageSpan, recordOf, paramCount, elementRows, rowsOfParams, paramRows, StrictReads}
 use Rattle.grammar.specs.Reading.StrictReads.{too-long, underivable, elements-over, params-over, accepted}
 use Rattle.grammar.proofs.Readers.{text-length}
@@ -37,8 +35,7 @@ use Rattle.elements.proofs.Filling.{params-length, param-length, elements-many,
 use Rattle.strict.proofs.Scans.{header-size}
 use Rattle.strict.proofs.Readings.{header-ok}
 use Rattle.timestamp.proofs.Answers.{StampIn}
-use Rattle.suits.specs.Suits.{stampSuits, suits}
-use Rattle.suits.proofs.Suited.{RecordIn}
+use Rattle.suits.specs.Suits.{suits}
 use Rattle.suited.proofs.Tests.{RowsOf, RowsIn, rows-none, rows-more, Suited, suits-filled}
 use Rattle.suited.proofs.Records.{stamp-suits}
 
