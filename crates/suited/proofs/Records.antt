@@ -17,7 +17,7 @@ use Rattle.digits.specs.Digits.{numberAt}
 use Rattle.record.specs.declared.Level.{Level}
 use Rattle.record.specs.declared.Stamp.{Stamp}
 use Rattle.record.specs.declared.Stamp.the-variants.{Unstamped, Stamped}
-use Rattle.pri.specs.Pri.{priAfter, priAt}
+use Rattle.pri.specs.Pri.{noPri, priAfter, priAt}
 use Rattle.pri.specs.declared.Pri.{Pri}
 use Rattle.parsers.specs.Steps.{blanksFrom}
 use Rattle.parsers.proofs.Steps.{blanks-within}
@@ -47,10 +47,13 @@ record PriSuits (p : Pri) : Type 0 where
 
 pri-suits : (s : List ℕ) → PriSuits (priAt s)
 unfolding priAt
-pri-suits s = by-if PriSuits (isAt s 0 60) _ _ (λ h. after (numberAt 255 (drop 1 s))) (λ h. record { facility = refl; severity = refl })
+pri-suits s = by-if PriSuits (isAt s 0 60) _ _ (λ h. after (numberAt 255 (drop 1 s))) (λ h. none)
   where
+    none : PriSuits noPri
+    none = record { facility = refl; severity = refl }
+
     after : (r : Number) → PriSuits (priAfter s r)
-    after Nothing = record { facility = refl; severity = refl }
+    after Nothing = none
     after (Value v n) =
         by-if PriSuits (isAt s (n + 1) 62) _ _
         (λ h.
@@ -58,7 +61,7 @@ pri-suits s = by-if PriSuits (isAt s 0 60) _ _ (λ h. after (numberAt 255 (drop 
           facility = by-if (λ (l : Level). levelSuits 23 l ≡ true) (leb (v / 8) 23) _ _ (λ q. q) (λ q. refl);
           severity = le-leb (v % 8) 7 (omega arith);
         })
-        (λ h. record { facility = refl; severity = refl })
+        (λ h. none)
 
 -- the timestamp
 pub stamp-suits : (t : Stamp) → StampIn 1439 t → stampSuits t ≡ true
@@ -67,7 +70,7 @@ stamp-suits (Stamped t) h = rw (le-leb _ _ (h .nanos-to), le-leb _ _ (h .offset-
 
 -- a line whose text `s`, from `start` on, is read
 module _ (line s : List ℕ) (inside : length s ≤ length line) (start : ℕ) where
-  pub rfc5424-suits : OutcomeSuits line (rfc5424.rfc5424 s start)
+  rfc5424-suits : OutcomeSuits line (rfc5424.rfc5424 s start)
   unfolding rfc5424.rfc5424 rfc5424.bodyFrom
   rfc5424-suits =
       let pri = priAt (drop start s) in
@@ -93,7 +96,7 @@ module _ (line s : List ℕ) (inside : length s ≤ length line) (start : ℕ) w
       }
 
   module _ (year : ℕ) (offset : ℤ) (range : natAbs offset ≤ 1439) where
-    pub rfc3164-suits : OutcomeSuits line (rfc3164.rfc3164 year offset s start)
+    rfc3164-suits : OutcomeSuits line (rfc3164.rfc3164 year offset s start)
     unfolding rfc3164.rfc3164 rfc3164.bodyFrom
     rfc3164-suits = go (rfc3164From year offset s from) refl
       where
@@ -127,7 +130,7 @@ module _ (line s : List ℕ) (inside : length s ≤ length line) (start : ℕ) w
     first-suits noReading y h k = k
     first-suits (isReading r at rows) y h k = h
 
-    pub variant-suits : (variant : ℕ) → OutcomeSuits line (byVariant variant year offset s start)
+    variant-suits : (variant : ℕ) → OutcomeSuits line (byVariant variant year offset s start)
     unfolding byVariant
     variant-suits variant =
         by-if (OutcomeSuits line) (eqb variant 0) _ _ (λ e. first-suits (rfc5424.rfc5424 s start) (rfc3164.rfc3164 year offset s start) rfc5424-suits rfc3164-suits) (λ e.
