@@ -1,4 +1,4 @@
--- Lookup of what a reader left: it is refused neither with 1 nor with 7.
+-- Printing and lookup of what a reader left: neither refuses it with 1 or with 7.
 use Prim.Native.Nat.{ℕ}
 use mathlib.Core.Path.{_≡_, refl, _∙_}
 use mathlib.Core.List.{List}
@@ -22,6 +22,8 @@ use Rattle.grammar.specs.Reading.{StrictReads}
 use Rattle.suits.specs.Suits.{suits}
 use Rattle.lookup.specs.Unescape.{unescaped}
 use Rattle.lookup.specs.Lookup.{Found, found, valueAnswer, Looks}
+use Rattle.message.specs.Message.{printed}
+use Rattle.message.specs.Prints.{Prints}
 use Rattle.suited.proofs.Frame.{reading-short}
 use Rattle.suited.proofs.Strict as division
 use Rattle.suited.proofs.Suited.{exact-suits, fallback-suits, strict-suits}
@@ -58,6 +60,17 @@ module _ {line : List ℕ} {r : Record} {e p : ℕ} {elements params : List (Lis
   left-suits (Left.by-strict h q) = rw q (strict-suits h)
 
   module _ (left : Left line r e p elements params) {before after : List ℕ} {w : Written} where
+    -- Printing answers 8, or it is done.
+    module _ (h : Prints line r e p elements params before w after) where
+      pub print-answers : let text = printed line r (take e elements) (take p params) in
+          w ≡ (if ltb (length before) (length text) then Refused OutputShort else Done (length text))
+      print-answers = h .answer ∙ rw (left-short left, left-suits left)
+
+      pub print-not-7 : outputAnswerOf w .number ≡ 7 → ⊥
+      print-not-7 =
+          let n = length (printed line r (take e elements) (take p params)) in
+          eqb-false _ _ (rw print-answers (short-other (ltb (length before) n) n))
+
     -- Lookup answers 2, 9 or 8, or it is done.
     module _ {id name : List ℕ} {kind : ℕ} (h : Looks line r e p elements params id name kind before w after) where
       pub lookup-answers : w ≡ (if ltb 1 kind then Refused BadSetting else valueAnswer (eqb kind 0) (found line elements id name (take p params)) (length before))
