@@ -13,8 +13,6 @@ use Rattle.base.proofs.Tests.{clash}
 use Rattle.base.proofs.Runs.{run-no}
 use Rattle.grammar.specs.Abnf.{sdNameByte}
 use Rattle.grammar.specs.Line.{Param, Element, eachThen, paramThen, elementThen, dataThen, Each, ParamOk, ElementOk}
-use Rattle.grammar.specs.Parse.{structured}
-use Rattle.grammar.specs.Parse.Parsed.{found}
 use Rattle.grammar.specs.Reading.{paramCount, elementRows, rowsOfParams, paramRows}
 use Rattle.grammar.proofs.Readers.{Front, text-length, found-within, many-reads}
 use Rattle.grammar.proofs.Data.{param-reads, data-reads}
@@ -23,11 +21,7 @@ use Rattle.record.specs.Params.{rowOf, blank}
 use Rattle.elements.specs.declared.Step.{Step}
 use Rattle.elements.specs.Entries.{opening, holding, passing, entryAt}
 use Rattle.elements.specs.Steps.{paramOf, stepOf, idsOf, Stepping}
-use Rattle.elements.specs.Counts.{countsOf}
-use Rattle.elements.specs.declared.Counts.{Counts}
-use Rattle.elements.specs.declared.Counts.the-variants.{IsData}
-use Rattle.elements.specs.Filling.{elementsOf, elementsAt, Fillable}
-use Rattle.elements.proofs.Answers.{finds-data}
+use Rattle.elements.specs.Filling.{elementsAt, Fillable}
 use Rattle.elements.proofs.Texts.{Found, over, finds-other, finds-id, finds-param}
 use Rattle.elements.proofs.Tables.{Rows, rows-none, rows-length, rows-all, rows-room, rows-more, rows-same}
 
@@ -192,19 +186,6 @@ walk-start line at len e p w =
       ahead = start-ahead line at len es (data-reads .sound (drop at line) es len (w .data-found));
       elements-in = rows-same (start-elements at es) (rows-none (elementRows at es) e (rw elements-many (w .elements-room)));
       params-in = rows-same (start-params at es) (rows-none (paramRows 0 at es) p (rw all-many (w .params-room)));
-    }
-
--- what was counted can be filled in, where both tables have room
-pub fillable : (line u : List ℕ) (at : ℕ) (g : Counts) (len n k : ℕ) (e p : List (List ℕ)) → u ≡ drop at line → g ≡ countsOf (structured u) → g ≡ IsData len n k
-    → n ≤ length e → k ≤ length p → Fillable line at len e p
-fillable line u at g len n k e p eu eg h a b =
-    let f = finds-data (structured u) g eg h in
-    let q : structured (drop at line) ≡ found (f .value) len = ap structured (sym eu) ∙ f .is in
-    let es : elementsAt line at ≡ f .value = ap elementsOf q in
-    record {
-      data-found = q ∙ ap (λ (l : List Element). found l len) (sym es);
-      elements-room = rw es (omega (arith, f .counted));
-      params-room = rw es (omega (arith, f .params-counted));
     }
 
 pub data-fits : (line : List ℕ) (at len : ℕ) (e p : List (List ℕ)) → Fillable line at len e p → length line < 2 ^ 64 → Fits w64 at → Fits w64 (at + len)

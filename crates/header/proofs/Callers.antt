@@ -1,16 +1,14 @@
 -- For callers: what an answer of `read_header` says of what the parser finds, and how large its numbers are.
-use Prim.Native.Nat.{ℕ, zero, suc, _+_, _*_, _^_, _≤_}
+use Prim.Native.Nat.{ℕ, zero, suc, _+_, _*_, _≤_}
 use mathlib.Core.Path.{_≡_, refl, sym, ap, _∙_}
 use mathlib.Core.Bool.{true, false}
 use mathlib.Core.List.{List}
 use mathlib.Core.Option.{Option, none, some}
-use native.Mathlib.Nat.{pow-le-pow-right}
 use native.Mathlib.Omega.{arith}
 use lib.IntN.{pos, natAbs, negℤ}
 use lib.ListN.{length}
 use Rattle.base.proofs.Tests.{clash}
 use Rattle.digits.specs.Digits.{decimal}
-use Rattle.digits.proofs.Decimals.{decimal-lt}
 use Rattle.grammar.specs.Line.{Offset, Timestamp, OffsetOk, TimestampOk}
 use Rattle.grammar.specs.Parse.{header}
 use Rattle.grammar.specs.Reading.{offsetOf, stampOf}
@@ -53,16 +51,6 @@ module _ (s : List ℕ) (f : Heading) (e : f ≡ heading (header s)) where
         let w = finds-ok header-some header-reads in
         let q : decimal (w .value .0 .0) ≡ x .prival = ap (λ (y : HeaderAt). y .prival) (w .has .0) in
         omega (arith, w .has .1 .0 .0 .range)
-
-    pub version-to : x .version ≤ 999
-    unfolding headerAt
-    version-to =
-        let w = finds-ok header-some header-reads in
-        let t = w .value .0 .1 in
-        let r = w .has .1 .0 .1 .digits in
-        let q : decimal t ≡ x .version = ap (λ (y : HeaderAt). y .version) (w .has .0) in
-        let l : 10 ^ length t ≤ 10 ^ 3 = pow-le-pow-right (omega arith) {i = length t} {j = 3} (r .at-most) in
-        omega (arith, decimal-lt t (r .all))
 
     pub offset-to : (t : instant.Timestamp) → x .timestamp ≡ Stamped t → natAbs (t .offset) ≤ 1439
     unfolding headerAt

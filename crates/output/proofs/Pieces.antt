@@ -3,8 +3,7 @@ use Prim.Native.Nat.{ℕ, _+_, _-_, _≤_}
 use mathlib.Core.Path.{_≡_, refl, sym, ap, _∙_}
 use mathlib.Core.List.{List, [], _∷_, _++_, append-assoc, append-nil}
 use native.Mathlib.Omega.{arith}
-use lib.ListN.{length, take, drop, length-append, length-drop}
-use Rattle.base.proofs.Parts.{rest}
+use lib.ListN.{length, length-append}
 use Rattle.output.specs.Output.{written, Wrote}
 use Rattle.output.specs.Fits.{Fits, Sized}
 use Rattle.output.proofs.Writes.{written-none, written-more, wrote-none, wrote-then, wrote-length}
@@ -74,10 +73,6 @@ module _ (s t o : List ℕ) (at : ℕ) where
 -- a text that is empty is written by nothing
 pub unwritten : (t o : List ℕ) (at : ℕ) → [] ≡ t → Wrote o at t at o
 unwritten t o at e = named [] t o at at o (wrote-none o at) e
-
--- the part from `at` on has room for what fits there
-pub part-fits : (o : List ℕ) (at : ℕ) (t : List ℕ) → Fits o at t → Fits (take (length o - at) (drop at o)) 0 t
-part-fits o at t f = rw (rest o at) (record { fits = omega (arith, f .fits, length-drop at o) })
 
 -- the length of two pieces
 pub sized-append : (x y : List ℕ) (a b k l m : ℕ) → Sized x k a → Sized y l b → k + l ≡ m → Sized (x ++ y) m (a + b)

@@ -8,9 +8,6 @@ use lib.IntN.{ℤ}
 use mir.Syntax.{w32, w64}
 use mir.Val.{Fits, SFits, toZ, ofZ}
 use mir.ValLaws.{toZ-ofZ}
-use Rattle.base.specs.Choose.{isAt}
-use Rattle.base.proofs.Tests.{by-if}
-use Rattle.base.proofs.Parts.{at-below}
 use Rattle.record.specs.Places.{absent}
 use Rattle.record.specs.declared.Place.{Place}
 use Rattle.record.specs.declared.Stamp.{Stamp}
@@ -27,6 +24,7 @@ use Rattle.timestamp.specs.Timestamp.{colonFrom, rfc3164From}
 use Rattle.timestamp.specs.declared.Stamping.{Stamping}
 use Rattle.timestamp.specs.declared.Stamping.the-variants.{NoStamp, IsStamp}
 use Rattle.timestamp.proofs.Answers.{rfc3164-within}
+use Rattle.timestamp.proofs.Within as within
 use Rattle.structured_data.specs.Data.{Data, dataFrom, rowsOr}
 use Rattle.structured_data.specs.Data.Data.{noData, isData}
 use Rattle.structured_data.specs.Outcome.{countsOf, draftOf}
@@ -47,9 +45,7 @@ use Rattle.structured_data.proofs.Within.{data-within}
 -- behind the tag
 module _ (s : List ℕ) (at a b : ℕ) (ea : a ≡ blanksFrom s at) (eb : b ≡ colonFrom s a) where
   pub colon-within : at ≤ length s → b ≤ length s
-  colon-within h =
-      let l = blanks-within s at a ea h in
-      rw eb (by-if (λ n. n ≤ length s) (isAt s a 58) _ _ (λ t. omega (arith, at-below s a 57 t)) (λ t. l))
+  colon-within h = rw eb (within.colon-within s a (blanks-within s at a ea h))
 
   pub tag-end-is : (n : ℕ) → n ≡ blanksFrom s b → n ≡ tagEnd s at
   unfolding tagEnd

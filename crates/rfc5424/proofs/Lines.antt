@@ -138,10 +138,3 @@ module _ (s : List ℕ) (start : ℕ) where
 
   pub found : (r : Record) (at : ℕ) (rows : Rows) → rfc5424 s start ≡ isReading r at rows → Found s at rows
   found r at rows e = rw e at line-found
-
-  pub draft-within : (d : Draft) → d ≡ draftOf (rfc5424 s start) → (r : Record) (at n m : ℕ) → d ≡ IsDraft r at n m → at ≤ length s
-  draft-within d e r at n m z = go (rfc5424 s start) line-found (sym z ∙ e)
-    where
-      go : (o : Outcome) → FoundIn s o → IsDraft r at n m ≡ draftOf o → at ≤ length s
-      go noReading f q = let k : _≡_ {A = ℕ} 0 1 = cc in absurd (omega arith)
-      go (isReading x b rows) f q = let k : at ≡ b = cc in rw k (f .within-line)

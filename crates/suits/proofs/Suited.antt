@@ -15,14 +15,10 @@ use Rattle.calendar.specs.Instant.{shown, isShown}
 use Rattle.calendar.specs.declared.DateTime.{DateTime}
 use Rattle.calendar.specs.declared.Shown.{Shown}
 use Rattle.calendar.specs.declared.Shown.the-variants.{Outside, At}
-use Rattle.record.specs.declared.Level.the-variants.{Set}
 use Rattle.record.specs.declared.Record.{Record}
 use Rattle.record.specs.declared.Stamp.the-variants.{Stamped}
 use Rattle.record.specs.declared.Timestamp.{Timestamp}
 use Rattle.suits.specs.Suits.{placeSuits, levelSuits, stampSuits, recordSuits, elementsSuit, paramSuits, paramsSuit, tablesSuit, suits}
-
-pub level-in : (most n : ℕ) → levelSuits most (Set n) ≡ true → n ≤ most
-level-in most n h = leb-true n most h
 
 -- a timestamp that is there
 pub record StampIn (t : Timestamp) : Type 0 where
@@ -155,10 +151,6 @@ module _ (line : List ℕ) (e p : ℕ) (elements params : List (List ℕ)) (h : 
 
 -- the whole
 module _ (line : List ℕ) (r : Record) (e p : ℕ) (elements params : List (List ℕ)) (h : suits line r e p elements params ≡ true) where
-  pub record-suited : RecordIn line r
-  unfolding suits
-  record-suited = record-in line r (both _ _ h .0)
-
   pub tables-suited : tablesSuit line e p elements params ≡ true
   unfolding suits
   tables-suited = both (recordSuits line r) _ h .1

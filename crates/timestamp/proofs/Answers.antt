@@ -19,12 +19,12 @@ use Rattle.parsers.specs.Steps.{someBlanksFrom, numberFrom}
 use Rattle.parsers.proofs.Steps.{at-there}
 use Rattle.timestamp.specs.Clock.{clockFrom}
 use Rattle.timestamp.specs.Rfc3339.{eitherFrom, dateFrom, timeFrom, nanosFrom, zoneFrom, stampIf, endFrom, fullFrom, rfc3339From}
-use Rattle.timestamp.specs.Timestamp.{dayFrom, colonFrom, withoutYear, utcIf, withYear, orElse, rfc3164From}
+use Rattle.timestamp.specs.Timestamp.{dayFrom, withoutYear, utcIf, withYear, orElse, rfc3164From}
 use Rattle.timestamp.specs.declared.Stamping.{Stamping}
 use Rattle.timestamp.specs.declared.Stamping.the-variants.{NoStamp, IsStamp}
 use Rattle.timestamp.proofs.Onward.{on-num, on-pos, on-clock, on-date, on-day, on-zone}
 use Rattle.timestamp.proofs.Zones.{zone-in}
-use Rattle.timestamp.proofs.Within.{nanos-in, clock-within, time-within}
+use Rattle.timestamp.proofs.Within.{nanos-in, clock-within, time-within, colon-within}
 
 -- an offset of at most `most` minutes either way
 pub record InRange (most : ℕ) (t : Timestamp) : Type 0 where
@@ -52,9 +52,6 @@ module _ (most : ℕ) where
       (λ v. tt)
 
   module _ (s : List ℕ) where
-    colon-in : (at : ℕ) → at ≤ length s → colonFrom s at ≤ length s
-    colon-in at h = by-if (λ n. n ≤ length s) (isAt s at 58) _ _ (λ t. let l = at-there s at 58 (omega arith) t in omega arith) (λ t. h)
-
     -- form (c)
     module _ (room : 1439 ≤ most) where
       end-in : (t : DateTime) (at : ℕ) → at ≤ length s → StampingIn most (length s) (endFrom s t at)
@@ -88,7 +85,7 @@ module _ (most : ℕ) where
         without-in year at =
             on-day (StampingIn most (length s)) (dayFrom s at) _ _ tt λ month day a e1.
             on-clock (StampingIn most (length s)) (clockFrom s a) _ _ tt λ hour minute second b e2.
-            stamp-in (length s) _ 0 o _ (omega arith) most-o (colon-in b (clock-within s a _ hour minute second b e2 refl))
+            stamp-in (length s) _ 0 o _ (omega arith) most-o (colon-within s b (clock-within s a _ hour minute second b e2 refl))
 
         with-in : (at : ℕ) → StampingIn most (length s) (withYear o s at)
         unfolding withYear
@@ -97,7 +94,7 @@ module _ (most : ℕ) where
             on-num (StampingIn most (length s)) (numberFrom s a) _ _ tt λ year b e2.
             on-pos (StampingIn most (length s)) (someBlanksFrom s b) _ _ tt λ c e3.
             on-clock (StampingIn most (length s)) (clockFrom s c) _ _ tt λ hour minute second d e4.
-            utc-in (length s) _ o _ most-o (colon-in d (clock-within s c _ hour minute second d e4 refl))
+            utc-in (length s) _ o _ most-o (colon-within s d (clock-within s c _ hour minute second d e4 refl))
 
         or-in : (x y : Stamping) → StampingIn most (length s) x → StampingIn most (length s) y → StampingIn most (length s) (orElse x y)
         or-in NoStamp y a b = b
