@@ -13,8 +13,8 @@ use Rattle.record.proofs.Reading as R
 use Rattle.record.proofs.Reading.Laws as R′
 use Rattle.loose.proofs.Judged as J
 use Rattle.loose.proofs.Judged.Laws as J′
-use Rattle.loose.proofs.Plan as Pl
-use Rattle.loose.proofs.Plan.Laws as Pl′
+use Rattle.loose.proofs.Data as D
+use Rattle.loose.proofs.Data.Laws as D′
 use Rattle.loose.proofs.read_exact as x
 use Rattle.loose.proofs.read_fallback as f
 
@@ -24,8 +24,8 @@ reading = record { type = R.the-type; laws = R′.the-laws; copy = R′.the-copy
 abbrev pub judged : Choice
 judged = record { type = J.the-type; laws = J′.the-laws; copy = J′.the-copy; plain = J′.the-plain; few = tt }
 
-abbrev pub plan : Struct
-plan = record { type = Pl.the-type; laws = Pl′.the-laws; copy = Pl′.the-copy; plain = Pl′.the-plain }
+abbrev pub the-data : Struct
+the-data = record { type = D.the-type; laws = D′.the-laws; copy = D′.the-copy; plain = D′.the-plain }
 
 -- the parameters of both
 abbrev kinds : List (PK 3)

@@ -26,31 +26,64 @@ use Rattle.structured_data.specs.Outcome.Outcome.{noReading, isReading}
 use Rattle.structured_data.specs.declared.Rules.{Rules}
 use Rattle.structured_data.specs.declared.Rules.the-variants.{Rfc3164Rules}
 use Rattle.loose.specs.Loose.{outcomeOf, whole, orWhole, settingsOk, judged, answered, tableAfter, rowsOf, ReadsExact, ReadsFallback}
-use Rattle.loose.specs.Judging.{Fits, Judges, planOf, orMessage}
-use Rattle.loose.specs.declared.Plan.{Plan}
+use Rattle.loose.specs.Judging.{Fits, Judges, isFitting, dataOf, rulesOf, readingOf, orMessage}
+use Rattle.loose.specs.declared.Data.{Data}
 use Rattle.loose.specs.declared.Judged.{Judged}
 use Rattle.loose.specs.declared.Judged.the-variants.{Refuse, Fitting}
 use Rattle.loose.proofs.Judging.{passed}
+
+-- what was judged, and what is asked of it
+module _ (j : Judged) where
+  module _ (x : Refusal) (z : j ≡ Refuse x) where
+    pub fitting-refused : false ≡ isFitting j
+    fitting-refused = rw z
+
+    pub rules-refused : Rfc3164Rules ≡ rulesOf j
+    rules-refused = rw z
+
+    pub data-refused : record { end = 0; at = 0; ids = 0; params = 0 } ≡ dataOf j
+    data-refused = rw z
+
+    pub reading-refused : Refused x ≡ readingOf j
+    reading-refused = rw z
+
+  module _ (rules : Rules) (r : Record) (end at n m : ℕ) (z : j ≡ Fitting rules r end at n m) where
+    pub fitting-read : true ≡ isFitting j
+    fitting-read = rw z
+
+    pub rules-read : rules ≡ rulesOf j
+    rules-read = rw z
+
+    pub data-read : record { end = end; at = at; ids = n; params = m } ≡ dataOf j
+    data-read = rw z
+
+    pub reading-read : Read r n m ≡ readingOf j
+    reading-read = rw z
+
+pub ruleset asked-laws = (fitting-refused, rules-refused, data-refused, reading-refused, fitting-read, rules-read, data-read, reading-read)
 
 -- what was judged of tables of `e` and `p` entries, no table at hand
 module _ (line : List ℕ) (variant year : ℕ) (o : ℤ) (f : SFits w32 o) (e p : ℕ) (j : Judged) (c : Judges line variant year (toZ w32 (ofZ w32 o)) e p j) where
   here : Judges line variant year o e p j
   here = rw (toZ-ofZ w32 o f) at c
 
-  pub answer-refused : (x : Refusal) → j ≡ Refuse x → Refused x ≡ answered line variant year o (outcomeOf line variant year o) e p
+  answer-refused : (x : Refusal) → j ≡ Refuse x → Refused x ≡ answered line variant year o (outcomeOf line variant year o) e p
   answer-refused x z = sym (rw z at (here .is))
 
   module _ (rules : Rules) (r : Record) (end at n m : ℕ) (z : j ≡ Fitting rules r end at n m) where
     fits : Fits line variant year o e p rules r end at n m
     fits = rw z at (here .is)
 
-    pub answer-read : Read r n m ≡ answered line variant year o (outcomeOf line variant year o) e p
+    answer-read : Read r n m ≡ answered line variant year o (outcomeOf line variant year o) e p
     answer-read =
         let d = fits .drafts in
         sym (passed line variant year o (fits .passes) (outcomeOf line variant year o) e p _
         (rw (d .is, ← d .elements-are, le-ltb e n (fits .elements-fit), ← d .params-are, le-ltb p m (fits .params-fit))))
 
-pub ruleset answer-laws = (answer-refused, answer-read)
+pub answer-is : (line : List ℕ) (variant year : ℕ) (o : ℤ) → SFits w32 o → (e p : ℕ) (j : Judged) → Judges line variant year (toZ w32 (ofZ w32 o)) e p j
+    → (x : Reading) → x ≡ readingOf j → x ≡ answered line variant year o (outcomeOf line variant year o) e p
+answer-is line variant year o f e p (Refuse a) c x h = h ∙ answer-refused line variant year o f e p (Refuse a) c a refl
+answer-is line variant year o f e p (Fitting rules r end at n m) c x h = h ∙ answer-read line variant year o f e p (Fitting rules r end at n m) c rules r end at n m refl
 
 -- and of the tables
 module _ (line : List ℕ) (variant year : ℕ) (o : ℤ) (f : SFits w32 o) (e₀ p₀ : List (List ℕ)) (j : Judged)
@@ -83,38 +116,24 @@ module _ (line : List ℕ) (variant year : ℕ) (o : ℤ) (f : SFits w32 o) (e�
           params = k .params ∙ rw (d .is);
         }
 
--- what was judged, as a plan
-module _ (j : Judged) where
-  pub plan-refused : (x : Refusal) → j ≡ Refuse x → record { reading = Refused x; reads = false; rules = Rfc3164Rules; end = 0; from = 0; ids = 0; params = 0 } ≡ planOf j
-  plan-refused x z = rw z
-
-  pub plan-read : (rules : Rules) (r : Record) (end at n m : ℕ) → j ≡ Fitting rules r end at n m
-      → record { reading = Read r n m; reads = true; rules = rules; end = end; from = at; ids = n; params = m } ≡ planOf j
-  plan-read rules r end at n m z = rw z
-
-pub ruleset plan-laws = (plan-refused, plan-read)
-
--- The plan is right for the tables: as they are where the line is refused, and filled where it is read.
-pub record Planned (line : List ℕ) (variant year : ℕ) (o : ℤ) (e₀ p₀ : List (List ℕ)) (q : Plan) : Type 0 where
-  pub as-they-are : q .reads ≡ false → ReadsExact line variant year o e₀ p₀ (q .reading) e₀ p₀
-  pub inside : q .reads ≡ true → q .end ≤ length line
-  pub room : q .reads ≡ true → Room (q .rules) (take (q .end - 0) line) (q .from) (q .ids) (q .params) e₀ p₀
-  pub filled-in : q .reads ≡ true → (e₁ p₁ : List (List ℕ)) → Fills (q .rules) (take (q .end - 0) line) (q .from) e₀ p₀ e₁ p₁ → ReadsExact line variant year o e₀ p₀ (q .reading) e₁ p₁
+-- What is asked of a judgement is right for the tables: as they are where the line is refused, and filled where it is read.
+pub record Served (line : List ℕ) (variant year : ℕ) (o : ℤ) (e₀ p₀ : List (List ℕ)) (reads : Bool) (rules : Rules) (d : Data) (x : Reading) : Type 0 where
+  pub as-they-are : reads ≡ false → ReadsExact line variant year o e₀ p₀ x e₀ p₀
+  pub inside : reads ≡ true → d .end ≤ length line
+  pub room : reads ≡ true → Room rules (take (d .end - 0) line) (d .at) (d .ids) (d .params) e₀ p₀
+  pub filled-in : reads ≡ true → (e₁ p₁ : List (List ℕ)) → Fills rules (take (d .end - 0) line) (d .at) e₀ p₀ e₁ p₁ → ReadsExact line variant year o e₀ p₀ x e₁ p₁
 
 module _ (line : List ℕ) (variant year : ℕ) (o : ℤ) (f : SFits w32 o) (e₀ p₀ : List (List ℕ)) where
-  planned : (j : Judged) → Judges line variant year (toZ w32 (ofZ w32 o)) (length e₀) (length p₀) j → Planned line variant year o e₀ p₀ (planOf j)
-  planned (Refuse x) c =
+  pub served : (j : Judged) → Judges line variant year (toZ w32 (ofZ w32 o)) (length e₀) (length p₀) j → Served line variant year o e₀ p₀ (isFitting j) (rulesOf j) (dataOf j) (readingOf j)
+  served (Refuse x) c =
       record { as-they-are = λ t. exact-refused line variant year o f e₀ p₀ (Refuse x) c x refl; inside = λ t. clash (sym t); room = λ t. clash (sym t); filled-in = λ t. clash (sym t) }
-  planned (Fitting rules r end at n m) c =
+  served (Fitting rules r end at n m) c =
       record {
         as-they-are = λ t. clash t;
         inside = λ t. part-ends line variant year o f e₀ p₀ (Fitting rules r end at n m) c rules r end at n m refl;
         room = λ t. tables-room line variant year o f e₀ p₀ (Fitting rules r end at n m) c rules r end at n m refl;
         filled-in = λ t. exact-read line variant year o f e₀ p₀ (Fitting rules r end at n m) c rules r end at n m refl;
       }
-
-  pub plan-for : (j : Judged) → Judges line variant year (toZ w32 (ofZ w32 o)) (length e₀) (length p₀) j → (q : Plan) → q ≡ planOf j → Planned line variant year o e₀ p₀ q
-  plan-for j c q e = rw e (planned j c)
 
 -- The message whole in place of refusal 4
 module _ (len : ℕ) (r : Reading) (f : Refusal) (z : r ≡ Refused f) (k : ℕ) (e : k ≡ refusalNumber f) where

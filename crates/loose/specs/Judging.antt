@@ -2,7 +2,7 @@
 use Prim.Native.Nat.{ℕ, _≤_}
 use mathlib.Core.Path.{_≡_}
 use mathlib.Core.List.{List}
-use mathlib.Core.Bool.{true, false}
+use mathlib.Core.Bool.{Bool, true, false}
 use lib.Dec.{eqb}
 use lib.ListN.{length, take}
 use lib.IntN.{ℤ}
@@ -22,7 +22,7 @@ use Rattle.loose.specs.declared.Found.{Found}
 use Rattle.loose.specs.declared.Found.the-variants.{NotFound, IsFound}
 use Rattle.loose.specs.declared.Judged.{Judged}
 use Rattle.loose.specs.declared.Judged.the-variants.{Refuse, Fitting}
-use Rattle.loose.specs.declared.Plan.{Plan}
+use Rattle.loose.specs.declared.Data.{Data}
 
 -- a reading of the text `s` whose rows are those of its structured data by the rules
 pub record Drafts (s : List ℕ) (o : Outcome) (rules : Rules) (r : Record) (at e p : ℕ) : Type 0 where
@@ -58,10 +58,22 @@ judgesOf line variant year offset e p (Fitting rules r end at n m) = Fits line v
 pub record Judges (line : List ℕ) (variant year : ℕ) (offset : ℤ) (e p : ℕ) (j : Judged) : Type 0 where
   pub is : judgesOf line variant year offset e p j
 
--- the answer, and what the rows are stored by
-abbrev pub planOf : Judged → Plan
-planOf (Refuse f) = record { reading = Refused f; reads = false; rules = Rfc3164Rules; end = 0; from = 0; ids = 0; params = 0 }
-planOf (Fitting rules r end at n m) = record { reading = Read r n m; reads = true; rules = rules; end = end; from = at; ids = n; params = m }
+abbrev pub isFitting : Judged → Bool
+isFitting (Refuse f) = false
+isFitting (Fitting rules r end at n m) = true
+
+-- what the rows are stored by
+abbrev pub rulesOf : Judged → Rules
+rulesOf (Refuse f) = Rfc3164Rules
+rulesOf (Fitting rules r end at n m) = rules
+
+abbrev pub dataOf : Judged → Data
+dataOf (Refuse f) = record { end = 0; at = 0; ids = 0; params = 0 }
+dataOf (Fitting rules r end at n m) = record { end = end; at = at; ids = n; params = m }
+
+abbrev pub readingOf : Judged → Reading
+readingOf (Refuse f) = Refused f
+readingOf (Fitting rules r end at n m) = Read r n m
 
 -- the answer to a line of `len` bytes with the message whole in place of refusal 4
 abbrev pub orMessage : ℕ → Reading → Reading

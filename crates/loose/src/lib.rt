@@ -18,7 +18,7 @@ ghost use Rattle.record.specs.Params.{rows};
 ghost use Rattle.rfc3164.specs.Rfc3164.{rfc3164};
 ghost use Rattle.rfc5424.specs.Rfc5424.{rfc5424};
 ghost use Rattle.loose.specs.Loose.{byVariant, outcomeOf, whole, orWhole, settingsOk, answered, ReadsExact, ReadsFallback};
-ghost use Rattle.loose.specs.Judging.{Finds, Passes, Judges, planOf, orMessage};
+ghost use Rattle.loose.specs.Judging.{Finds, Passes, Judges, isFitting, dataOf, rulesOf, readingOf, orMessage};
 
 // What a reader of lines found: the rules that its structured data is read by, the record, where the structured data stands, and the
 // counts of elements and parameters.
@@ -158,11 +158,77 @@ fn judge(line: &[u8], variant: u32, year: u32, offset: i32, e: usize, p: usize) 
     judge_text(line, variant, year, offset, e, p)
 }
 
-// What exact reading answers to tables of `e` and `p` entries, with no table at hand.
-pub fn answer(line: &[u8], variant: u32, year: u32, offset: i32, e: usize, p: usize) -> Reading
-    ensures { λ r. ⌜ r ≡ answered (now (line .entry)) variant year offset (outcomeOf (now (line .entry)) variant year offset) e p ⌝ }
+// Whether a line is read.
+fn is_fitting(judged: Judged) -> bool
+    ensures { λ r. ⌜ r ≡ isFitting judged ⌝ }
 {
-    match judge(line, variant, year, offset, e, p) {
+    match judged {
+        Judged::Refuse(_) => false,
+        Judged::Fitting {
+            rules: _,
+            read: _,
+            end: _,
+            at: _,
+            elements: _,
+            params: _,
+        } => true,
+    }
+}
+
+// What the rows of a line that is read are stored by, but for the rules: where the trimmed line ends, where the structured data stands, and the counts.
+struct Data {
+    end: usize,
+    at: usize,
+    ids: usize,
+    params: usize,
+}
+
+fn data_of(judged: Judged) -> Data
+    ensures { λ r. ⌜ r ≡ dataOf judged ⌝ }
+{
+    match judged {
+        Judged::Refuse(_) => Data {
+            end: 0,
+            at: 0,
+            ids: 0,
+            params: 0,
+        },
+        Judged::Fitting {
+            rules: _,
+            read: _,
+            end,
+            at,
+            elements: n,
+            params,
+        } => Data {
+            end,
+            at,
+            ids: n,
+            params,
+        },
+    }
+}
+
+fn rules_of(judged: Judged) -> Rules
+    ensures { λ r. ⌜ r ≡ rulesOf judged ⌝ }
+{
+    match judged {
+        Judged::Refuse(_) => Rules::Rfc3164Rules,
+        Judged::Fitting {
+            rules,
+            read: _,
+            end: _,
+            at: _,
+            elements: _,
+            params: _,
+        } => rules,
+    }
+}
+
+fn reading_of(judged: Judged) -> Reading
+    ensures { λ r. ⌜ r ≡ readingOf judged ⌝ }
+{
+    match judged {
         Judged::Refuse(refusal) => Reading::Refused(refusal),
         Judged::Fitting {
             rules: _,
@@ -175,62 +241,11 @@ pub fn answer(line: &[u8], variant: u32, year: u32, offset: i32, e: usize, p: us
     }
 }
 
-// The answer, and, where the line is read, what its rows are stored by: the rules, where the trimmed line ends, where the structured data stands, and the
-// counts.
-struct Plan {
-    reading: Reading,
-    reads: bool,
-    rules: Rules,
-    end: usize,
-    from: usize,
-    ids: usize,
-    params: usize,
-}
-
-fn planned(judged: Judged) -> Plan
-    ensures { λ r. ⌜ r ≡ planOf judged ⌝ }
+// What exact reading answers to tables of `e` and `p` entries, with no table at hand.
+pub fn answer(line: &[u8], variant: u32, year: u32, offset: i32, e: usize, p: usize) -> Reading
+    ensures { λ r. ⌜ r ≡ answered (now (line .entry)) variant year offset (outcomeOf (now (line .entry)) variant year offset) e p ⌝ }
 {
-    match judged {
-        Judged::Refuse(refusal) => Plan {
-            reading: Reading::Refused(refusal),
-            reads: false,
-            rules: Rules::Rfc3164Rules,
-            end: 0,
-            from: 0,
-            ids: 0,
-            params: 0,
-        },
-        Judged::Fitting {
-            rules,
-            read,
-            end,
-            at,
-            elements: n,
-            params: m,
-        } => Plan {
-            reading: Reading::Read(read, n, m),
-            reads: true,
-            rules,
-            end,
-            from: at,
-            ids: n,
-            params: m,
-        },
-    }
-}
-
-fn rules_of(plan: Plan) -> Rules
-    ensures { λ r. ⌜ r ≡ plan .rules ⌝ }
-{
-    let rules = plan.rules;
-    rules
-}
-
-fn reading_of(plan: Plan) -> Reading
-    ensures { λ r. ⌜ r ≡ plan .reading ⌝ }
-{
-    let reading = plan.reading;
-    reading
+    reading_of(judge(line, variant, year, offset, e, p))
 }
 
 // Loose exact reading: a line with no reading is refused.
@@ -246,16 +261,17 @@ pub fn read_exact(
 {
     let e = elements.len();
     let p = params.len();
-    let plan = planned(judge(line, variant, year, offset, e, p));
-    if plan.reads {
-        let rules = rules_of(plan);
-        let end = plan.end;
-        let at = plan.from;
-        let n = plan.ids;
-        let m = plan.params;
+    let judged = judge(line, variant, year, offset, e, p);
+    if is_fitting(judged) {
+        let rules = rules_of(judged);
+        let data = data_of(judged);
+        let end = data.end;
+        let at = data.at;
+        let n = data.ids;
+        let m = data.params;
         structured_data::fill_data(rules, &line[0..end], at, n, m, elements, params);
     }
-    reading_of(plan)
+    reading_of(judged)
 }
 
 // The line whole and untrimmed as the message.

@@ -11,12 +11,12 @@ use Rattle.record.proofs.StrictReading as R
 use Rattle.record.proofs.StrictReading.Laws as R′
 use Rattle.strict.proofs.Judged as J
 use Rattle.strict.proofs.Judged.Laws as J′
-use Rattle.strict.proofs.Plan as Pl
-use Rattle.strict.proofs.Plan.Laws as Pl′
+use Rattle.strict.proofs.Data as D
+use Rattle.strict.proofs.Data.Laws as D′
 use Rattle.strict.proofs.read as r
 
-abbrev pub plan : Struct
-plan = record { type = Pl.the-type; laws = Pl′.the-laws; copy = Pl′.the-copy; plain = Pl′.the-plain }
+abbrev pub the-data : Struct
+the-data = record { type = D.the-type; laws = D′.the-laws; copy = D′.the-copy; plain = D′.the-plain }
 
 abbrev pub judged : Choice
 judged = record { type = J.the-type; laws = J′.the-laws; copy = J′.the-copy; plain = J′.the-plain; few = tt }

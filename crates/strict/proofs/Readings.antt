@@ -26,8 +26,8 @@ use Rattle.record.specs.declared.StrictReading.the-variants.{Read, Refused}
 use Rattle.record.specs.declared.StrictRecord.{StrictRecord}
 use Rattle.record.specs.declared.Refusal.{Refusal}
 use Rattle.record.specs.declared.Refusal.the-variants.{LineTooLong, NoReading, TooManyElements, TooManyParams}
-use Rattle.strict.specs.Scan.{scanOf, fitting, judged, readingOf, answered, planOf}
-use Rattle.strict.specs.declared.Plan.{Plan}
+use Rattle.strict.specs.Scan.{scanOf, fitting, judged, isFitting, dataOf, readingOf, answered}
+use Rattle.strict.specs.declared.Data.{Data}
 use Rattle.strict.specs.declared.Judged.{Judged}
 use Rattle.strict.specs.declared.Judged.the-variants.{Refuse, Fitting}
 use Rattle.strict.specs.declared.Scan.{Scan}
@@ -109,17 +109,34 @@ module _ (line : List ℕ) (e p : ℕ) where
 
 pub ruleset judge-laws = (judge-long, judge-none, judge-elements, judge-params, judge-fits)
 
+-- what was judged, and what is asked of it
+module _ (j : Judged) where
+  module _ (x : Refusal) (z : j ≡ Refuse x) where
+    pub fitting-refused : false ≡ isFitting j
+    fitting-refused = rw z
+
+    pub data-refused : record { from = 0; len = 0 } ≡ dataOf j
+    data-refused = rw z
+
+    pub reading-refused : Refused x ≡ readingOf j
+    reading-refused = rw z
+
+  module _ (r : StrictRecord) (at len n k : ℕ) (z : j ≡ Fitting r at len n k) where
+    pub fitting-read : true ≡ isFitting j
+    fitting-read = rw z
+
+    pub data-read : record { from = at; len = len } ≡ dataOf j
+    data-read = rw z
+
+    pub reading-read : Read r n k ≡ readingOf j
+    reading-read = rw z
+
+pub ruleset asked-laws = (fitting-refused, data-refused, reading-refused, fitting-read, data-read, reading-read)
+
 -- no table at hand
-module _ (line : List ℕ) (e p : ℕ) (j : Judged) (q : j ≡ judged line e p) where
-  pub answer-refused : (x : Refusal) → j ≡ Refuse x → Refused x ≡ answered line e p
-  unfolding answered
-  answer-refused x z = rw (← q, z)
-
-  pub answer-read : (r : StrictRecord) (at len n k : ℕ) → j ≡ Fitting r at len n k → Read r n k ≡ answered line e p
-  unfolding answered
-  answer-read r at len n k z = rw (← q, z)
-
-pub ruleset answer-laws = (answer-refused, answer-read)
+pub answer-is : (line : List ℕ) (e p : ℕ) (j : Judged) → j ≡ judged line e p → (x : StrictReading) → x ≡ readingOf j → x ≡ answered line e p
+unfolding answered
+answer-is line e p j q x h = h ∙ ap readingOf q
 
 -- what a judgement says of the line
 record Fits (line : List ℕ) (e p : ℕ) (r : StrictRecord) (at len n k : ℕ) : Type 0 where
@@ -236,34 +253,21 @@ module _ (line : List ℕ) (e₀ p₀ : List (List ℕ)) where
           → StrictReads line e₀ p₀ (Read r n k) e₁ p₁
       read-done = fits-read r at len n k (fits r at len n k (sym q ∙ z))
 
--- what was judged, as a plan
-module _ (j : Judged) where
-  pub plan-refused : (x : Refusal) → j ≡ Refuse x → record { reading = Refused x; reads = false; from = 0; len = 0 } ≡ planOf j
-  plan-refused x z = rw z
+-- What is asked of a judgement is right for the tables: as they are where the line is refused, and filled where it is read.
+pub record Served (line : List ℕ) (e₀ p₀ : List (List ℕ)) (reads : Bool) (d : Data) (x : StrictReading) : Type 0 where
+  pub as-they-are : reads ≡ false → StrictReads line e₀ p₀ x e₀ p₀
+  pub room : reads ≡ true → Fillable line (d .from) (d .len) e₀ p₀
+  pub filled-in : reads ≡ true → (e₁ p₁ : List (List ℕ)) → e₁ ≡ filled (elementRows (d .from) (elementsAt line (d .from))) e₀ → p₁ ≡ filled (paramRows 0 (d .from) (elementsAt line (d .from))) p₀
+      → StrictReads line e₀ p₀ x e₁ p₁
 
-  pub plan-read : (r : StrictRecord) (at len n k : ℕ) → j ≡ Fitting r at len n k → record { reading = Read r n k; reads = true; from = at; len = len } ≡ planOf j
-  plan-read r at len n k z = rw z
-
-pub ruleset plan-laws = (plan-refused, plan-read)
-
--- The plan is right for the tables: as they are where the line is refused, and filled where it is read.
-pub record Planned (line : List ℕ) (e₀ p₀ : List (List ℕ)) (q : Plan) : Type 0 where
-  pub as-they-are : q .reads ≡ false → StrictReads line e₀ p₀ (q .reading) e₀ p₀
-  pub room : q .reads ≡ true → Fillable line (q .from) (q .len) e₀ p₀
-  pub filled-in : q .reads ≡ true → (e₁ p₁ : List (List ℕ)) → e₁ ≡ filled (elementRows (q .from) (elementsAt line (q .from))) e₀ → p₁ ≡ filled (paramRows 0 (q .from) (elementsAt line (q .from))) p₀
-      → StrictReads line e₀ p₀ (q .reading) e₁ p₁
-
-planned : (line : List ℕ) (e₀ p₀ : List (List ℕ)) (j : Judged) → j ≡ judged line (length e₀) (length p₀) → Planned line e₀ p₀ (planOf j)
-planned line e₀ p₀ (Refuse x) c = record { as-they-are = λ t. read-refused line e₀ p₀ (Refuse x) c x refl; room = λ t. clash (sym t); filled-in = λ t. clash (sym t) }
-planned line e₀ p₀ (Fitting r at len n k) c =
+pub served : (line : List ℕ) (e₀ p₀ : List (List ℕ)) (j : Judged) → j ≡ judged line (length e₀) (length p₀) → Served line e₀ p₀ (isFitting j) (dataOf j) (readingOf j)
+served line e₀ p₀ (Refuse x) c = record { as-they-are = λ t. read-refused line e₀ p₀ (Refuse x) c x refl; room = λ t. clash (sym t); filled-in = λ t. clash (sym t) }
+served line e₀ p₀ (Fitting r at len n k) c =
     record {
       as-they-are = λ t. clash t;
       room = λ t. fill-there line e₀ p₀ (Fitting r at len n k) c r at len n k refl;
       filled-in = λ t. read-done line e₀ p₀ (Fitting r at len n k) c r at len n k refl;
     }
-
-pub plan-for : (line : List ℕ) (e₀ p₀ : List (List ℕ)) (j : Judged) → j ≡ judged line (length e₀) (length p₀) → (q : Plan) → q ≡ planOf j → Planned line e₀ p₀ q
-plan-for line e₀ p₀ j c q e = rw e (planned line e₀ p₀ j c)
 
 -- What is answered with no table at hand is what a reading into tables of those sizes answers.
 pub record Answers (line : List ℕ) (e₀ p₀ : List (List ℕ)) (r : StrictReading) : Type 0 where

@@ -20,7 +20,7 @@ use Rattle.record.specs.declared.StrictReading.the-variants.{Read, Refused}
 use Rattle.record.specs.declared.Refusal.the-variants.{LineTooLong, NoReading, TooManyElements, TooManyParams}
 use Rattle.strict.specs.declared.Judged.{Judged}
 use Rattle.strict.specs.declared.Judged.the-variants.{Refuse, Fitting}
-use Rattle.strict.specs.declared.Plan.{Plan}
+use Rattle.strict.specs.declared.Data.{Data}
 use Rattle.strict.specs.declared.Scan.{Scan}
 use Rattle.strict.specs.declared.Scan.the-variants.{NoScan, IsScan}
 
@@ -58,6 +58,15 @@ fitting (IsScan r at len n k) e p =
 unfoldable pub judged : List ℕ → ℕ → ℕ → Judged
 judged line e p = if ltb 8192 (length line) then Refuse LineTooLong else fitting (scanOf (parse line)) e p
 
+abbrev pub isFitting : Judged → Bool
+isFitting (Refuse f) = false
+isFitting (Fitting r at len n k) = true
+
+-- where the structured data stands that is to be stored
+abbrev pub dataOf : Judged → Data
+dataOf (Refuse f) = record { from = 0; len = 0 }
+dataOf (Fitting r at len n k) = record { from = at; len = len }
+
 abbrev pub readingOf : Judged → StrictReading
 readingOf (Refuse f) = Refused f
 readingOf (Fitting r at len n k) = Read r n k
@@ -65,8 +74,3 @@ readingOf (Fitting r at len n k) = Read r n k
 -- what reading answers to tables of `e` and `p` entries
 unfoldable pub answered : List ℕ → ℕ → ℕ → StrictReading
 answered line e p = readingOf (judged line e p)
-
--- the answer, and where the structured data stands that is to be stored
-abbrev pub planOf : Judged → Plan
-planOf (Refuse f) = record { reading = Refused f; reads = false; from = 0; len = 0 }
-planOf (Fitting r at len n k) = record { reading = Read r n k; reads = true; from = at; len = len }

@@ -16,7 +16,7 @@ ghost use Prim.Native.Nat.{_≤_};
 ghost use Rattle.grammar.specs.Parse as parse;
 ghost use Rattle.grammar.specs.Reading.{StrictReads};
 ghost use Rattle.record.specs.Params.{rows};
-ghost use Rattle.strict.specs.Scan.{recordWith, scanOf, judged, planOf, answered};
+ghost use Rattle.strict.specs.Scan.{recordWith, scanOf, judged, isFitting, dataOf, readingOf, answered};
 
 // What a line holds before its rows are stored: the record, where the structured data stands and how many bytes it takes, and both counts.
 enum Scan {
@@ -116,48 +116,45 @@ fn judge(line: &[u8], e: usize, p: usize) -> Judged
     Judged::Fitting(r, at, len, n, k)
 }
 
-// What reading answers to tables of `e` and `p` entries, with no table at hand.
-pub fn answer(line: &[u8], e: usize, p: usize) -> StrictReading
-    ensures { λ r. ⌜ r ≡ answered (now (line .entry)) e p ⌝ }
+// Whether a line is read.
+fn is_fitting(judged: Judged) -> bool
+    ensures { λ r. ⌜ r ≡ isFitting judged ⌝ }
 {
-    match judge(line, e, p) {
-        Judged::Refuse(refusal) => StrictReading::Refused(refusal),
-        Judged::Fitting(r, _, _, n, k) => StrictReading::Read(r, n, k),
+    match judged {
+        Judged::Refuse(_) => false,
+        Judged::Fitting(_, _, _, _, _) => true,
     }
 }
 
-// The answer, and, where the line is read, where its structured data stands and how many bytes it takes.
-struct Plan {
-    reading: StrictReading,
-    reads: bool,
+// Where the structured data of a line that is read stands, and how many bytes it takes.
+struct Data {
     from: usize,
     len: usize,
 }
 
-fn planned(judged: Judged) -> Plan
-    ensures { λ r. ⌜ r ≡ planOf judged ⌝ }
+fn data_of(judged: Judged) -> Data
+    ensures { λ r. ⌜ r ≡ dataOf judged ⌝ }
 {
     match judged {
-        Judged::Refuse(refusal) => Plan {
-            reading: StrictReading::Refused(refusal),
-            reads: false,
-            from: 0,
-            len: 0,
-        },
-        Judged::Fitting(r, at, len, e, p) => Plan {
-            reading: StrictReading::Read(r, e, p),
-            reads: true,
-            from: at,
-            len,
-        },
+        Judged::Refuse(_) => Data { from: 0, len: 0 },
+        Judged::Fitting(_, from, len, _, _) => Data { from, len },
     }
 }
 
-fn reading_of(plan: Plan) -> StrictReading
-    ensures { λ r. ⌜ r ≡ plan .reading ⌝ }
+fn reading_of(judged: Judged) -> StrictReading
+    ensures { λ r. ⌜ r ≡ readingOf judged ⌝ }
 {
-    let reading = plan.reading;
-    reading
+    match judged {
+        Judged::Refuse(refusal) => StrictReading::Refused(refusal),
+        Judged::Fitting(r, _, _, e, p) => StrictReading::Read(r, e, p),
+    }
+}
+
+// What reading answers to tables of `e` and `p` entries, with no table at hand.
+pub fn answer(line: &[u8], e: usize, p: usize) -> StrictReading
+    ensures { λ r. ⌜ r ≡ answered (now (line .entry)) e p ⌝ }
+{
+    reading_of(judge(line, e, p))
 }
 
 // Reads a line strictly. On a refusal the tables keep their entries, and entries past the counts are kept always.
@@ -166,11 +163,12 @@ pub fn read(line: &[u8], elements: &mut [[usize; 2]], params: &mut [Param]) -> S
 {
     let e = elements.len();
     let p = params.len();
-    let plan = planned(judge(line, e, p));
-    if plan.reads {
-        let at = plan.from;
-        let len = plan.len;
-        elements::fill_data(line, at, len, elements, params);
+    let judged = judge(line, e, p);
+    if is_fitting(judged) {
+        let data = data_of(judged);
+        let from = data.from;
+        let len = data.len;
+        elements::fill_data(line, from, len, elements, params);
     }
-    reading_of(plan)
+    reading_of(judged)
 }
