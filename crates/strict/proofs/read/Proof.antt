@@ -1,5 +1,5 @@
 -- `strict::read` meets its contract: a derivation by hand. What was judged is asked by covered calls, and both tables are lent on where the line is read.
-use Rattle.rules.specs.Derive.{Asked, Cx, Derived, Laid, Learnt, Lfts, Life, List, Row, R·, Shares, World, [], _∙_, _∷_, _▸_, _▹_, _◂_, alive, any-gone, at, back, begin, branch, by-choice, by-mut, by-num, by-shr, bytes, calls, choice, chosen-held, cites, cx, eT, finish, fix-len, fld, gone, here, i64, join, last, lease, leased, len, lend, lends, lent, lose, lost, made, muts, nexts, none, off, over, owed, owing, packs, pair, part, proves, put, refl, returns, room, sBool, sUnit, same, sc, sc-here, shr, sliceTy, slots₃, spent, struct, sym, tablesOf, tyBool, tyInt, tyUnit, unmade, w64, world}
+use Rattle.rules.specs.Derive.{Asked, Cx, Derived, Laid, Learnt, Lfts, Life, List, Row, R·, Shares, World, [], _∙_, _∷_, _▸_, _▹_, _◂_, alive, any-gone, at, back, begin, branch, by-choice, by-mut, by-num, by-shr, bytes, calls, choice, chosen-held, cites, cx, eT, finish, fix-len, fld, gone, i64, join, last, lease, leased, len, lend, lends, lent, lose, lost, made, muts, nexts, none, off, over, owed, owing, packs, pair, part, proves, put, refl, returns, room, sBool, sUnit, same, sc, sc-here, shr, sliceTy, slots₃, spent, struct, sym, tablesOf, tyBool, tyInt, tyUnit, unmade, w64, world}
 use Rattle.record.specs.Params.{rows}
 use Rattle.record.proofs.Params.{rows-length}
 use Rattle.entries.proofs.Contracts as E
