@@ -108,11 +108,18 @@ pub ruleset record-laws = (front-room, names-room, end-room, fields-put)
 pub record-filled : (o : List ℕ) (r : Record) (e p n : ℕ) (q : List ℕ) → Puts o 0 (recordWords r e p) n q → q ≡ filled (recordBytes r e p) o
 record-filled o r e p n q w = w .wrote .holds ∙ written-front o (recordBytes r e p)
 
+pub has-room : (o : List ℕ) → 240 ≤ length o → 208 ≤ length o
+has-room o h = omega (arith, h)
+
 module _ (o : List ℕ) (r : StrictRecord) (e p : ℕ) (h : 240 ≤ length o) where
   strict-room : Room o 0 (strictWords r e p)
   strict-room = record { fits = record { fits = omega (arith, words-length (strictWords r e p), strict-length r e p) } }
 
-  module _ (n : ℕ) (q : List ℕ) (w : Puts o 0 (recordWords (r .common) e p) n q) where
+  module _ (i : ℕ) (x : List ℕ) (front : Puts o 0 (frontWords (r .common)) i x) (j : ℕ) (y : List ℕ) (names : Puts x i (nameWords (r .common)) j y)
+      (n : ℕ) (q : List ℕ) (end : Puts y j (endWords (r .common) e p) n q) where
+    w : Puts o 0 (recordWords (r .common) e p) n q
+    w = fields-put o (r .common) e p (has-room o h) i x front j y names n q end
+
     pub text-room : Room q n (placeWords (r .«timestamp_text»))
     unfolding strictWords
     text-room = words-next strict-room w (starts-front (recordWords (r .common) e p ++ placeWords (r .«timestamp_text»)) (mark (r .«has_message») ∷ []))
@@ -125,5 +132,3 @@ module _ (o : List ℕ) (r : StrictRecord) (e p : ℕ) (h : 240 ≤ length o) wh
       pub strict-filled : (k : ℕ) (t : List ℕ) → Puts s m (b ∷ []) k t → t ≡ filled (strictBytes r e p) o
       unfolding strictWords
       strict-filled k t u = words-three strict-room w v (rw eb at u) refl .wrote .holds ∙ written-front o (strictBytes r e p)
-
-pub ruleset strict-laws = (text-room, mark-room, strict-filled)

@@ -199,16 +199,19 @@ pub fn put_record(out: &mut [u8], r: Record, e: usize, p: usize)
     put_fields(out, r, e, p);
 }
 
-// The record of the strict reader, at the front of the memory.
+// The record of the strict reader, at the front of the memory. The common fields are put here too and not by put_fields, so that no record is
+// copied for a call.
 pub fn put_strict(out: &mut [u8], r: StrictRecord, e: usize, p: usize)
     requires { ⌜ 240 ≤ length (now out) ⌝ }
     ensures { λ _. ⌜ now (out .exit) ≡ filled (strictBytes r e p) (now (out .entry)) ⌝ }
 {
     let common = r.common;
     let text = r.timestamp_text;
-    let a = put_fields(out, common, e, p);
-    let b = put_place(out, a, text);
-    put_word(out, b, mark_of(r.has_message));
+    let a = put_front(out, 0, common);
+    let b = put_names(out, a, common);
+    let c = put_end(out, b, common, e, p);
+    let d = put_place(out, c, text);
+    put_word(out, d, mark_of(r.has_message));
 }
 
 // ---- from memory that comes in
