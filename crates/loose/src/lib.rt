@@ -263,12 +263,12 @@ pub fn read_exact(
     let p = params.len();
     let judged = judge(line, variant, year, offset, e, p);
     if is_fitting(judged) {
-        let rules = rules_of(judged);
         let data = data_of(judged);
         let end = data.end;
         let at = data.at;
         let n = data.ids;
         let m = data.params;
+        let rules = rules_of(judged);
         structured_data::fill_data(rules, &line[0..end], at, n, m, elements, params);
     }
     reading_of(judged)

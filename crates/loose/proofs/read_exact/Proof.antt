@@ -37,7 +37,7 @@ use Rattle.loose.proofs.reading_of.Met as Rm
 module _ (w : World) where
   -- the context, by the rows of the tables, the rules, the data and its numbers, the part, and what is lent
   abbrev read-at : Row → Row → Row → Row → Row → Row → Row → Row → List Life → Cx
-  read-at e p u d m s e′ p′ ls = cx (unmade C.reading ∷ shr bytes 0 ∷ sc-here i32 ∷ sc-here i32 ∷ sc-here i32 ∷ e ∷ p ∷ any-gone (tyInt w64) ∷ any-gone (tyInt w64) ∷ made C.judged ∷ u ∷ d ∷ m ∷ m ∷ m ∷ m ∷ any-gone tyBool ∷ any-gone tyUnit ∷ any-gone tyPtr ∷ any-gone (tyInt w64) ∷ any-gone iT ∷ s ∷ any-gone (eT pair) ∷ e′ ∷ any-gone (eT (R· E.param)) ∷ p′ ∷ []) ls
+  read-at e p u d m s e′ p′ ls = cx (unmade C.reading ∷ shr bytes 0 ∷ sc-here i32 ∷ sc-here i32 ∷ sc-here i32 ∷ e ∷ p ∷ any-gone (tyInt w64) ∷ any-gone (tyInt w64) ∷ made C.judged ∷ d ∷ m ∷ m ∷ m ∷ m ∷ u ∷ any-gone tyBool ∷ any-gone tyUnit ∷ any-gone tyPtr ∷ any-gone (tyInt w64) ∷ any-gone iT ∷ s ∷ any-gone (eT pair) ∷ e′ ∷ any-gone (eT (R· E.param)) ∷ p′ ∷ []) ls
 
   -- nothing is lent
   abbrev judged-at : Lfts 3 → Shares 3 → Row → Row → Row → Row → Cx
@@ -59,29 +59,29 @@ module _ (w : World) where
       calls 0 Ik.ps Ik.r Ir.Asked Ir.Learnt Is.name (Ir.known w code.env Is.name Is.routine code.calls-loose·is-fitting (Im.met (w .𝓤) (w .H) (w .𝓜) (w .𝓖) (w .𝓡))) [] (by-choice C.judged 9 chosen-held refl none) 16 gone tt refl ▹
       join (idle-at κs qs) (branch 16 (λ x. x) (sc sBool) refl (
       room 16 (over sBool) ▸ at (idle-at κs qs) ▸
-      calls 0 Uk.ps Uk.r Ur.Asked Ur.Learnt Us.name (Ur.known w code.env Us.name Us.routine code.calls-loose·rules-of (Um.met (w .𝓤) (w .H) (w .𝓜) (w .𝓖) (w .𝓡))) [] (by-choice C.judged 9 chosen-held refl none) 10 gone tt refl ▹
-      calls 0 Ak.ps Ak.r Ar.Asked Ar.Learnt As.name (Ar.known w code.env As.name As.routine code.calls-loose·data-of (Am.met (w .𝓤) (w .H) (w .𝓜) (w .𝓖) (w .𝓡))) [] (by-choice C.judged 9 chosen-held refl none) 11 gone tt refl ▹ at (judged-at κs qs (made D.rules) (here C.the-data) (any-gone (tyInt w64)) (any-gone (sliceTy iT))) ▸
-      put 12 i64 gone (fld 11 0 (part C.the-data 0 refl) refl) refl (λ u. refl) (λ u. tt) ▹
-      put 13 i64 gone (fld 11 1 (part C.the-data 1 refl) refl) refl (λ u. refl) (λ u. tt) ▹
-      put 14 i64 gone (fld 11 2 (part C.the-data 2 refl) refl) refl (λ u. refl) (λ u. tt) ▹
-      put 15 i64 gone (fld 11 3 (part C.the-data 3 refl) refl) refl (λ u. refl) (λ u. tt) ▹ room 11 (struct C.the-data refl) ▸ at (judged-at κs qs (made D.rules) (lost C.the-data) (sc-here i64) (any-gone (sliceTy iT))) ▸
+      calls 0 Ak.ps Ak.r Ar.Asked Ar.Learnt As.name (Ar.known w code.env As.name As.routine code.calls-loose·data-of (Am.met (w .𝓤) (w .H) (w .𝓜) (w .𝓖) (w .𝓡))) [] (by-choice C.judged 9 chosen-held refl none) 10 gone tt refl ▹ at (judged-at κs qs (unmade D.rules) (here C.the-data) (any-gone (tyInt w64)) (any-gone (sliceTy iT))) ▸
+      put 11 i64 gone (fld 10 0 (part C.the-data 0 refl) refl) refl (λ u. refl) (λ u. tt) ▹
+      put 12 i64 gone (fld 10 1 (part C.the-data 1 refl) refl) refl (λ u. refl) (λ u. tt) ▹
+      put 13 i64 gone (fld 10 2 (part C.the-data 2 refl) refl) refl (λ u. refl) (λ u. tt) ▹
+      put 14 i64 gone (fld 10 3 (part C.the-data 3 refl) refl) refl (λ u. refl) (λ u. tt) ▹ room 10 (struct C.the-data refl) ▸ at (judged-at κs qs (unmade D.rules) (lost C.the-data) (sc-here i64) (any-gone (sliceTy iT))) ▸
+      calls 0 Uk.ps Uk.r Ur.Asked Ur.Learnt Us.name (Ur.known w code.env Us.name Us.routine code.calls-loose·rules-of (Um.met (w .𝓤) (w .H) (w .𝓜) (w .𝓖) (w .𝓡))) [] (by-choice C.judged 9 chosen-held refl none) 15 gone tt refl ▹ at (judged-at κs qs (made D.rules) (lost C.the-data) (sc-here i64) (any-gone (sliceTy iT))) ▸
       puts 18 sPtr gone offset (fld 1 0 (sptr bytes 0) refl) (lit w64 0 tt) refl (λ u. refl) (λ u. tt) ▹
-      puts 19 i64 gone (sub unsigned) (num 12 (sc i64) refl) (lit w64 0 tt) refl (λ u. refl) (λ u. tt) ▹
-      cuts-of 1 18 20 0 (λ u. 0) (λ u. u .1 .1 .1 .1 .1 .1 .1 .1 .1 .1 .1 .1 .0) same same gone refl tt refl refl ▹ room 18 (over sPtr) ▸
+      puts 19 i64 gone (sub unsigned) (num 11 (sc i64) refl) (lit w64 0 tt) refl (λ u. refl) (λ u. tt) ▹
+      cuts-of 1 18 20 0 (λ u. 0) (λ u. u .1 .1 .1 .1 .1 .1 .1 .1 .1 .1 .1 .0) same same gone refl tt refl refl ▹ room 18 (over sPtr) ▸
       packs-part 20 21 0 same gone (num 19 (sc i64) refl) refl refl ▹ room 19 (over i64) ▸ at (judged-at κs qs (made D.rules) (lost C.the-data) (sc-here i64) (shared 0)) ▸ begin 3 _ ▸ begin 4 _ ▸
       lends pair 5 22 1 3 same gone refl tt refl refl ▹
       packs pair 22 23 3 same gone (fld 5 1 (owed pair 1 3 (lease (κs .1 .0) (qs .1 .0))) refl) refl refl ▹
       lends (R· E.param) 6 24 2 4 same gone refl tt refl refl ▹
       packs (R· E.param) 24 25 4 same gone (fld 6 1 (owed (R· E.param) 2 4 (lease (κs .1 .1 .0) (qs .1 .1 .0))) refl) refl refl ▹ at (lent-at κs qs (leased pair 3) (leased (R· E.param) 4)) ▸
-      last tt (calls 3 (D.fill-data .ps) (D.fill-data .r) (Asked D.fill-data) (Learnt D.fill-data) Ds.name (cites D.fill-data w code.env Ds.name Ds.routine code.calls-structured-data·fill-data (Dm.met (w .𝓤) (w .H) (w .𝓜) (w .𝓖) (w .𝓡))) (0 ∷ 3 ∷ 4 ∷ []) (by-choice D.rules 10 chosen-held refl (by-part 0 tt 21 part-lend refl (by-num w64 13 (sc i64) refl (by-num w64 14 (sc i64) refl (by-num w64 15 (sc i64) refl (by-mut pair 1 tt 23 lent refl (by-mut (R· E.param) 2 tt 25 lent refl none))))))) 17 gone (tt, (tt, (tt, tt))) refl
+      last tt (calls 3 (D.fill-data .ps) (D.fill-data .r) (Asked D.fill-data) (Learnt D.fill-data) Ds.name (cites D.fill-data w code.env Ds.name Ds.routine code.calls-structured-data·fill-data (Dm.met (w .𝓤) (w .H) (w .𝓜) (w .𝓖) (w .𝓡))) (0 ∷ 3 ∷ 4 ∷ []) (by-choice D.rules 15 chosen-held refl (by-part 0 tt 21 part-lend refl (by-num w64 12 (sc i64) refl (by-num w64 13 (sc i64) refl (by-num w64 14 (sc i64) refl (by-mut pair 1 tt 23 lent refl (by-mut (R· E.param) 2 tt 25 lent refl none))))))) 17 gone (tt, (tt, (tt, tt))) refl
       ◂ room 17 (over sUnit) ◂ at (lent-at κs qs (spent pair) (spent (R· E.param))) ◂ finish 4 refl ◂ back (R· E.param) 25 6 2 4 (lease (κs .1 .1 .0) (qs .1 .1 .0)) same same refl refl ◂ lose 4 refl ◂ finish 3 refl ◂ back pair 23 5 1 3 (lease (κs .1 .0) (qs .1 .0)) same same refl refl ◂ lose 3 refl ◂ at (judged-at κs qs (made D.rules) (lost C.the-data) (sc-here i64) (shared 0))
-      ◂ room 10 (choice D.rules refl) ◂ room 12 (over i64) ◂ room 13 (over i64) ◂ room 14 (over i64) ◂ room 15 (over i64) ◂ room 21 (unshared 0))) (
+      ◂ room 15 (choice D.rules refl) ◂ room 11 (over i64) ◂ room 12 (over i64) ◂ room 13 (over i64) ◂ room 14 (over i64) ◂ room 21 (unshared 0))) (
       room 16 (over sBool) ▸ nexts tt)) (
       calls 0 Rk.ps Rk.r Rr.Asked Rr.Learnt Rs.name (Rr.known w code.env Rs.name Rs.routine code.calls-loose·reading-of (Rm.met (w .𝓤) (w .H) (w .𝓜) (w .𝓖) (w .𝓡))) [] (by-choice C.judged 9 chosen-held refl none) 0 gone tt refl ▹ room 9 (choice C.judged refl) ▸ room 2 (over i32) ▸ room 3 (over i32) ▸ room 4 (over i32) ▸ returns tt)
 
   laid : Laid C.read-exact w code.env Key.name 2 code.function derived
   laid κs qs a good pre bs =
-      ((λ ls. tt), λ g. let s = served (a .0 .now) (a .1 .0) (a .1 .1 .0) (a .1 .1 .1 .0) (record { sfits = good .1 .1 .1 .0 }) (a .1 .1 .1 .1 .0 .now) (rows (a .1 .1 .1 .1 .1 .0 .now)) (g .1) (rw (rows-length (a .1 .1 .1 .1 .1 .0 .now)) (g .5)) in ((λ ls. tt), λ b. ((λ t. let y = sym (b .5) ∙ t in ((λ ls. tt), λ u. ((λ ls. tt), λ d. (tt, (omega arith, ((refl, refl, omega arith, rw (d .5) (s .inside y)), λ part. (ap (vint w64) (part .1), λ γ. (refl, λ γ′. (refl, ((λ ls. rw (u .5, d .5) (s .room y)), λ k. (refl, λ l. (refl, λ l′. ((λ ls. tt), λ r. ((refl, (tt, (tt, (tt, (fix-len (a .1 .1 .1 .1 .0 .ptr) (a .1 .1 .1 .1 .0 .name) (k .2 .1 .1 .1 .1 .1 .0) (a .1 .1 .1 .1 .0 .now) l′, (fix-len (a .1 .1 .1 .1 .1 .0 .ptr) (a .1 .1 .1 .1 .1 .0 .name) (k .2 .1 .1 .1 .1 .1 .1 .0) (a .1 .1 .1 .1 .1 .0 .now) l, tt)))))), rw (r .5) (s .filled-in y (k .2 .1 .1 .1 .1 .1 .0) (rows (k .2 .1 .1 .1 .1 .1 .1 .0)) (rw (u .5, d .5) at (k .5))))))))))))))))), (λ f. ((λ ls. tt), λ r. ((refl, (tt, (tt, (tt, (refl, (refl, tt)))))), rw (r .5) (s .as-they-are (sym (b .5) ∙ f))))))))
+      ((λ ls. tt), λ g. let s = served (a .0 .now) (a .1 .0) (a .1 .1 .0) (a .1 .1 .1 .0) (record { sfits = good .1 .1 .1 .0 }) (a .1 .1 .1 .1 .0 .now) (rows (a .1 .1 .1 .1 .1 .0 .now)) (g .1) (rw (rows-length (a .1 .1 .1 .1 .1 .0 .now)) (g .5)) in ((λ ls. tt), λ b. ((λ t. let y = sym (b .5) ∙ t in ((λ ls. tt), λ d. ((λ ls. tt), λ u. (tt, (omega arith, ((refl, refl, omega arith, rw (d .5) (s .inside y)), λ part. (ap (vint w64) (part .1), λ γ. (refl, λ γ′. (refl, ((λ ls. rw (u .5, d .5) (s .room y)), λ k. (refl, λ l. (refl, λ l′. ((λ ls. tt), λ r. ((refl, (tt, (tt, (tt, (fix-len (a .1 .1 .1 .1 .0 .ptr) (a .1 .1 .1 .1 .0 .name) (k .2 .1 .1 .1 .1 .1 .0) (a .1 .1 .1 .1 .0 .now) l′, (fix-len (a .1 .1 .1 .1 .1 .0 .ptr) (a .1 .1 .1 .1 .1 .0 .name) (k .2 .1 .1 .1 .1 .1 .1 .0) (a .1 .1 .1 .1 .1 .0 .now) l, tt)))))), rw (r .5) (s .filled-in y (k .2 .1 .1 .1 .1 .1 .0) (rows (k .2 .1 .1 .1 .1 .1 .1 .0)) (rw (u .5, d .5) at (k .5))))))))))))))))), (λ f. ((λ ls. tt), λ r. ((refl, (tt, (tt, (tt, (refl, (refl, tt)))))), rw (r .5) (s .as-they-are (sym (b .5) ∙ f))))))))
 
 pub read-exact-spec : {M : Type 1} → stated.statement M
 unfolding code.routine tablesOf
