@@ -94,15 +94,15 @@ offset Unstamped = 0
 offset (Stamped t) = bits (t .offset)
 
 -- the numbers fit their types
-abbrev ProtocolIn : Protocol → Type 0
+abbrev pub ProtocolIn : Protocol → Type 0
 ProtocolIn Rfc3164 = Unit {0}
 ProtocolIn (Rfc5424 v) = v < 4294967296
 
-abbrev LevelIn : Level → Type 0
+abbrev pub LevelIn : Level → Type 0
 LevelIn Unset = Unit {0}
 LevelIn (Set n) = n < 256
 
-abbrev StampIn : Stamp → Type 0
+abbrev pub StampIn : Stamp → Type 0
 StampIn Unstamped = Unit {0}
 StampIn (Stamped t) = SFits w64 (t .seconds) × (t .nanos < 4294967296) × SFits w32 (t .offset)
 

@@ -49,12 +49,12 @@ value-other kind Found.nothing out = refl
 value-other kind (Found.value v) out = short-other (ltb out (length (unescaped kind v))) (length (unescaped kind v))
 
 module _ {line : List ℕ} {r : Record} {e p : ℕ} {elements params : List (List ℕ)} where
-  left-short : Left line r e p elements params → ltb 8192 (length line) ≡ false
+  pub left-short : Left line r e p elements params → ltb 8192 (length line) ≡ false
   left-short (Left.by-exact {variant} {year} {offset} {e₀} {p₀} h) = reading-short line e₀ p₀ elements params variant year offset _ h
   left-short (Left.by-fallback {variant} {year} {offset} {e₀} {p₀} h) = reading-short line e₀ p₀ elements params variant year offset _ h
   left-short (Left.by-strict h q) = division.reading-short h
 
-  left-suits : Left line r e p elements params → suits line r e p elements params ≡ true
+  pub left-suits : Left line r e p elements params → suits line r e p elements params ≡ true
   left-suits (Left.by-exact h) = exact-suits h
   left-suits (Left.by-fallback h) = fallback-suits h
   left-suits (Left.by-strict h q) = rw q (strict-suits h)

@@ -16,6 +16,7 @@ use Rattle.record.specs.declared.Record.{Record}
 use Rattle.record.specs.declared.Reading.{Reading}
 use Rattle.record.specs.declared.Reading.the-variants.{Read, Refused}
 use Rattle.record.specs.declared.Refusal.{Refusal}
+use Rattle.structured_data.specs.Data.{Rows}
 use Rattle.structured_data.specs.Outcome.{Outcome}
 use Rattle.structured_data.specs.Outcome.Outcome.{noReading, isReading}
 use Rattle.suits.specs.Suits.{suits}
@@ -50,6 +51,14 @@ record Passed (line : List ℕ) (variant year : ℕ) (offset : ℤ) (A : Type 0)
   settings : settingsOk variant year offset ≡ true
   is : A
 
+-- the outcome of a reading that is done
+pub record Judged (o : Outcome) (r : Record) (e p : ℕ) : Type 0 where
+  pub at : ℕ
+  pub rows : Rows
+  pub outcome : o ≡ isReading r at rows
+  pub elements-many : e ≡ length (rows .elements)
+  pub params-many : p ≡ length (rows .params)
+
 -- an answer behind a test that refuses is an answer, where the test fails
 module _ {r : Record} {e p : ℕ} where
   never : {A : Type 0} (f : Refusal) → Refused f ≡ Read r e p → A
@@ -59,29 +68,37 @@ module _ {r : Record} {e p : ℕ} where
   past true f x h = never f h
   past false f x h = (refl, h)
 
-  module _ (line : List ℕ) (e₀ p₀ e₁ p₁ : List (List ℕ)) where
-    judged-suits : (o : Outcome) → OutcomeSuits line o → judged o (length e₀) (length p₀) ≡ Read r e p
-        → e₁ ≡ filled (rowsOf o .elements) e₀ → p₁ ≡ filled (rowsOf o .params) p₀ → suits line r e p e₁ p₁ ≡ true
-    judged-suits noReading s h a b = never _ h
-    judged-suits (isReading x at rows) s h a b =
-        let u = past (ltb (length e₀) (length (rows .elements))) _ _ h in
-        let v = past (ltb (length p₀) (length (rows .params))) _ _ (u .1) in
-        let w = v .1 in
-        let er : r ≡ x = cc in
-        let ee : e ≡ length (rows .elements) = cc in
-        let ep : p ≡ length (rows .params) = cc in
-        rw (er, ee, ep, a, b) (suits-filled line x (rows .elements) (rows .params) e₀ p₀ s)
+  judged-is : (o : Outcome) (m n : ℕ) → judged o m n ≡ Read r e p → Judged o r e p
+  judged-is noReading m n h = never _ h
+  judged-is (isReading x at rows) m n h =
+      let u = past (ltb m (length (rows .elements))) _ _ h in
+      let v = past (ltb n (length (rows .params))) _ _ (u .1) in
+      let w = v .1 in
+      let er : r ≡ x = cc in
+      record { at = at; rows = rows; outcome = rw er; elements-many = cc; params-many = cc }
 
-    module _ (variant year : ℕ) (offset : ℤ) (o : Outcome) (h : Reads line variant year offset o e₀ p₀ (Read r e p) e₁ p₁) where
-      passes : Passed line variant year offset (judged o (length e₀) (length p₀) ≡ Read r e p)
-      passes =
-          let long = past (ltb 8192 (length line)) _ _ (sym (h .answer)) in
-          let bad = past (not (settingsOk variant year offset)) _ _ (long .1) in
-          let text = past (not (isUtf8 line)) _ _ (bad .1) in
-          record { short = long .0; settings = not-false _ (bad .0); is = text .1 }
+  judged-suits : (line : List ℕ) (e₀ p₀ e₁ p₁ : List (List ℕ)) (o : Outcome) (at : ℕ) (rows : Rows)
+      → o ≡ isReading r at rows → e ≡ length (rows .elements) → p ≡ length (rows .params) → OutcomeSuits line o
+      → e₁ ≡ filled (rowsOf o .elements) e₀ → p₁ ≡ filled (rowsOf o .params) p₀ → suits line r e p e₁ p₁ ≡ true
+  judged-suits line e₀ p₀ e₁ p₁ o at rows q n m s a b =
+      rw (a, b, q, n, m) (suits-filled line r (rows .elements) (rows .params) e₀ p₀ (rw q at s))
 
-      pub reading-short : ltb 8192 (length line) ≡ false
-      reading-short = passes .short
+  module _ (line : List ℕ) (e₀ p₀ e₁ p₁ : List (List ℕ)) (variant year : ℕ) (offset : ℤ) (o : Outcome)
+      (h : Reads line variant year offset o e₀ p₀ (Read r e p) e₁ p₁) where
+    passes : Passed line variant year offset (judged o (length e₀) (length p₀) ≡ Read r e p)
+    passes =
+        let long = past (ltb 8192 (length line)) _ _ (sym (h .answer)) in
+        let bad = past (not (settingsOk variant year offset)) _ _ (long .1) in
+        let text = past (not (isUtf8 line)) _ _ (bad .1) in
+        record { short = long .0; settings = not-false _ (bad .0); is = text .1 }
 
-      pub reading-suits : (settingsOk variant year offset ≡ true → OutcomeSuits line o) → suits line r e p e₁ p₁ ≡ true
-      reading-suits k = judged-suits o (k (passes .settings)) (passes .is) (h .elements) (h .params)
+    pub reading-short : ltb 8192 (length line) ≡ false
+    reading-short = passes .short
+
+    pub reading-judged : Judged o r e p
+    reading-judged = judged-is o (length e₀) (length p₀) (passes .is)
+
+    pub reading-suits : (settingsOk variant year offset ≡ true → OutcomeSuits line o) → suits line r e p e₁ p₁ ≡ true
+    reading-suits k =
+        let j = reading-judged in
+        judged-suits line e₀ p₀ e₁ p₁ o (j .at) (j .rows) (j .outcome) (j .elements-many) (j .params-many) (k (passes .settings)) (h .elements) (h .params)

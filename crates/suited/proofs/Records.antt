@@ -125,16 +125,18 @@ module _ (line s : List ℕ) (inside : length s ≤ length line) (start : ℕ) w
               of-tables = data-in line Rfc3164Rules s _ (places .data-in) inside;
             }
 
-    -- by the variant
-    first-suits : (x y : Outcome) → OutcomeSuits line x → OutcomeSuits line y → OutcomeSuits line (orElse x y)
-    first-suits noReading y h k = k
-    first-suits (isReading r at rows) y h k = h
+-- what holds of the readings by both protocols holds of a variant's
+module _ (P : Outcome → Type 0) where
+  first-of : (x y : Outcome) → P x → P y → P (orElse x y)
+  first-of noReading y h k = k
+  first-of (isReading r at rows) y h k = h
 
-    variant-suits : (variant : ℕ) → OutcomeSuits line (byVariant variant year offset s start)
-    unfolding byVariant
-    variant-suits variant =
-        by-if (OutcomeSuits line) (eqb variant 0) _ _ (λ e. first-suits (rfc5424.rfc5424 s start) (rfc3164.rfc3164 year offset s start) rfc5424-suits rfc3164-suits) (λ e.
-        by-if (OutcomeSuits line) (eqb variant 1) _ _ (λ e. rfc3164-suits) (λ e. rfc5424-suits))
+  pub of-variant : (variant year : ℕ) (offset : ℤ) (s : List ℕ) (start : ℕ) → P (rfc5424.rfc5424 s start) → P (rfc3164.rfc3164 year offset s start)
+      → P (byVariant variant year offset s start)
+  unfolding byVariant
+  of-variant variant year offset s start h k =
+      by-if P (eqb variant 0) _ _ (λ e. first-of (rfc5424.rfc5424 s start) (rfc3164.rfc3164 year offset s start) h k) (λ e.
+      by-if P (eqb variant 1) _ _ (λ e. k) (λ e. h))
 
 -- the text of a line is its trimmed part
 pub outcome-suits : (line : List ℕ) (variant year : ℕ) (offset : ℤ) → settingsOk variant year offset ≡ true
@@ -143,4 +145,7 @@ unfolding outcomeOf
 outcome-suits line variant year offset h =
     let ends = trimmed line in
     let range = leb-true (natAbs offset) 1439 (both (leb variant 2 && leb year 9999) _ h .1) in
-    variant-suits line (take (ends .end) line) (omega (arith, length-take (ends .end) line)) (ends .start) year offset range variant
+    let s = take (ends .end) line in
+    let inside : length s ≤ length line = omega (arith, length-take (ends .end) line) in
+    of-variant (OutcomeSuits line) variant year offset s (ends .start)
+    (rfc5424-suits line s inside (ends .start)) (rfc3164-suits line s inside (ends .start) year offset range)

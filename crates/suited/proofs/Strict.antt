@@ -9,6 +9,7 @@ use lib.Dec.{ltb, eqb}
 use lib.ListN.{length, length-append}
 use borrow.Author.Tests.{le-leb, le-ltb}
 use Rattle.base.specs.Choose.{isAt}
+use Rattle.base.specs.Fills.{filled}
 use Rattle.base.proofs.Runs.{run-none}
 use Rattle.base.proofs.Tests.{by-if, clash}
 use Rattle.digits.specs.Digits.{decimal}
@@ -136,23 +137,40 @@ module _ (line : List ℕ) where
 never : {A : Type 0} {s : StrictRecord} {e p : ℕ} (f : Refusal) → Read s e p ≡ Refused f → A
 never f h = let z : true ≡ false = cc in clash z
 
-module _ {line : List ℕ} {e₀ p₀ e₁ p₁ : List (List ℕ)} {s : StrictRecord} {e p : ℕ} where
-  pub reading-short : StrictReads line e₀ p₀ (Read s e p) e₁ p₁ → ltb 8192 (length line) ≡ false
-  reading-short (too-long l a b c) = never _ a
-  reading-short (underivable l h a b c) = never _ a
-  reading-short (elements-over d l h m a b c) = never _ a
-  reading-short (params-over d l h k m a b c) = never _ a
-  reading-short (accepted d l h k m a b c) = le-ltb 8192 (length line) l
+-- the division of a line that was read
+pub record Divided (line : List ℕ) (s : StrictRecord) (e p : ℕ) (e₀ p₀ e₁ p₁ : List (List ℕ)) : Type 0 where
+  pub by : Division
+  pub derives : Derives line by
+  short : length line ≤ 8192
+  pub its : s ≡ recordOf by
+  elements-many : e ≡ length (by .elements)
+  params-many : p ≡ paramCount (by .elements)
+  elements-are : e₁ ≡ filled (elementRows (dataAt by) (by .elements)) e₀
+  params-are : p₁ ≡ filled (paramRows 0 (dataAt by) (by .elements)) p₀
 
-  pub reading-suits : StrictReads line e₀ p₀ (Read s e p) e₁ p₁ → suits line (s .common) e p e₁ p₁ ≡ true
-  reading-suits (too-long l a b c) = never _ a
-  reading-suits (underivable l h a b c) = never _ a
-  reading-suits (elements-over d l h m a b c) = never _ a
-  reading-suits (params-over d l h k m a b c) = never _ a
-  reading-suits (accepted d l h k m a b c) =
-      let at = dataAt d in
-      let es = d .elements in
-      let r : s ≡ recordOf d = cc in
-      let n : e ≡ length (elementRows at es) = let q : e ≡ length es = cc in q ∙ sym (elements-many at es) in
-      let i : p ≡ length (paramRows 0 at es) = let q : p ≡ paramCount es = cc in q ∙ sym (all-many 0 at es) in
-      rw (r, n, i, b, c) (suits-filled line (recordOf d .common) (elementRows at es) (paramRows 0 at es) e₀ p₀ (division-suits line d h))
+divided-suits : {line : List ℕ} {s : StrictRecord} {e p : ℕ} {e₁ p₁ : List (List ℕ)} (e₀ p₀ : List (List ℕ)) (d : Division) → Derives line d
+    → s ≡ recordOf d → e ≡ length (d .elements) → p ≡ paramCount (d .elements)
+    → e₁ ≡ filled (elementRows (dataAt d) (d .elements)) e₀ → p₁ ≡ filled (paramRows 0 (dataAt d) (d .elements)) p₀ → suits line (s .common) e p e₁ p₁ ≡ true
+divided-suits {line} e₀ p₀ d h q n m a b =
+    let at = dataAt d in
+    let es = d .elements in
+    rw (q, n, m, a, b, ← elements-many at es, ← all-many 0 at es)
+    (suits-filled line (recordOf d .common) (elementRows at es) (paramRows 0 at es) e₀ p₀ (division-suits line d h))
+
+module _ {line : List ℕ} {e₀ p₀ e₁ p₁ : List (List ℕ)} {s : StrictRecord} {e p : ℕ} where
+  pub reading-divided : StrictReads line e₀ p₀ (Read s e p) e₁ p₁ → Divided line s e p e₀ p₀ e₁ p₁
+  reading-divided (too-long l a b c) = never _ a
+  reading-divided (underivable l h a b c) = never _ a
+  reading-divided (elements-over d l h m a b c) = never _ a
+  reading-divided (params-over d l h k m a b c) = never _ a
+  reading-divided (accepted d l h k m a b c) =
+      record { by = d; derives = h; short = l; its = cc; elements-many = cc; params-many = cc; elements-are = b; params-are = c }
+
+  module _ (h : StrictReads line e₀ p₀ (Read s e p) e₁ p₁) where
+    pub reading-short : ltb 8192 (length line) ≡ false
+    reading-short = le-ltb 8192 (length line) (reading-divided h .short)
+
+    pub reading-suits : suits line (s .common) e p e₁ p₁ ≡ true
+    reading-suits =
+        let d = reading-divided h in
+        divided-suits e₀ p₀ (d .by) (d .derives) (d .its) (d .elements-many) (d .params-many) (d .elements-are) (d .params-are)
