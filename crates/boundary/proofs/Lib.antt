@@ -1,0 +1,4 @@
+mod Versions
+mod Fitting
+pub mod Memory
+pub mod AfterCall
