@@ -37,6 +37,7 @@ pub record Answered (w : Written) (text old : List ℕ) (a : OutputAnswer) (new 
   pub answer : a ≡ outputAnswerOf w
   pub output : new ≡ outputAfter w text old
 
+-- (the length of a slice is a word)
 module _ {line memory : List ℕ} {elements params : List (List ℕ)} (called : Called line memory elements params)
     (few : length elements < 2 ^ 64) (less : length params < 2 ^ 64) where
   pub called-holds : Holds memory (λ r e p. Left line r e p elements params)

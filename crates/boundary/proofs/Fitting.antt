@@ -71,7 +71,7 @@ unfolding suits
 record-in line r e p elements params h = suited.record-in line r (both (recordSuits line r) _ h .0)
 
 module _ {line : List ℕ} {r : Record} {e p : ℕ} {elements params : List (List ℕ)} where
-  -- the length of a slice is a word
+  -- (the length of a slice is a word)
   pub left-in : Left line r e p elements params → length elements < 2 ^ 64 → length params < 2 ^ 64 → InTypes r e p
   left-in left few less =
       let s = left-suits left in

@@ -69,7 +69,7 @@ strict-front s e p rest =
     ∙ ap (λ (bytes : List ℕ). bytes ++ rest) (words-append (recordWords (s .common) e p) (added s))
     ∙ append-assoc (recordBytes (s .common) e p) (wordsBytes (added s)) rest
 
--- The length of a slice is a word.
+-- (the length of a slice is a word)
 module _ {line memory : List ℕ} {elements params : List (List ℕ)} (few : length elements < 2 ^ 64) (less : length params < 2 ^ 64) where
   laid-holds : (Reads : Record → ℕ → ℕ → Type 0) → ((r : Record) (e p : ℕ) → Reads r e p → Left line r e p elements params)
       → (r : Record) (e p : ℕ) (rest : List ℕ) → memory ≡ recordBytes r e p ++ rest → Reads r e p → Holds memory Reads
