@@ -1,5 +1,5 @@
 -- Printing and lookup called with what a call of a reader left: they serve the reading's own record and counts, and neither answers 7.
-use Prim.Native.Nat.{ℕ, _^_, _<_}
+use Prim.Native.Nat.{ℕ}
 use mathlib.Core.Path.{_≡_, sym, ap, _∙_}
 use mathlib.Core.List.{List}
 use lib.Dec.{eqb, ltb}
@@ -37,16 +37,14 @@ pub record Answered (w : Written) (text old : List ℕ) (a : OutputAnswer) (new 
   pub answer : a ≡ outputAnswerOf w
   pub output : new ≡ outputAfter w text old
 
--- (the length of a slice is a word)
-module _ {line memory : List ℕ} {elements params : List (List ℕ)} (called : Called line memory elements params)
-    (few : length elements < 2 ^ 64) (less : length params < 2 ^ 64) where
+module _ {line memory : List ℕ} {elements params : List (List ℕ)} (called : Called line memory elements params) where
   pub called-holds : Holds memory (λ r e p. Left line r e p elements params)
   called-holds = go called
     where
       go : Called line memory elements params → Holds memory (λ r e p. Left line r e p elements params)
-      go (Called.by-exact h) = let k = exact-holds few less h in record { holds = k .holds; reads = Left.by-exact (k .reads) }
-      go (Called.by-fallback h) = let k = fallback-holds few less h in record { holds = k .holds; reads = Left.by-fallback (k .reads) }
-      go (Called.by-strict h) = let k = strict-holds few less h in record { holds = k .holds; reads = Left.by-strict (k .reads .reads) (k .reads .common) }
+      go (Called.by-exact h) = let k = exact-holds h in record { holds = k .holds; reads = Left.by-exact (k .reads) }
+      go (Called.by-fallback h) = let k = fallback-holds h in record { holds = k .holds; reads = Left.by-fallback (k .reads) }
+      go (Called.by-strict h) = let k = strict-holds h in record { holds = k .holds; reads = Left.by-strict (k .reads .reads) (k .reads .common) }
 
   module _ {old new : List ℕ} {a : OutputAnswer} where
     -- the bytes hold a record, so the service answers

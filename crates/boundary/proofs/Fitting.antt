@@ -28,7 +28,7 @@ use Rattle.suits.specs.Suits.{levelSuits, stampSuits, recordSuits, suits}
 use Rattle.suits.proofs.Suited as suited
 use Rattle.layout.proofs.Back.{LevelIn, StampIn, InTypes}
 use Rattle.suited.proofs.AfterReading.{Left, left-short, left-suits}
-use Rattle.boundary.proofs.Versions.{version-in}
+use Rattle.boundary.proofs.Outcomes.{left-sized}
 
 level-in : (most : ℕ) (l : Level) → most ≤ 255 → levelSuits most l ≡ true → LevelIn l
 level-in most Unset m h = tt
@@ -70,25 +70,20 @@ record-in : (line : List ℕ) (r : Record) (e p : ℕ) (elements params : List (
 unfolding suits
 record-in line r e p elements params h = suited.record-in line r (both (recordSuits line r) _ h .0)
 
-module _ {line : List ℕ} {r : Record} {e p : ℕ} {elements params : List (List ℕ)} where
-  -- (the length of a slice is a word)
-  pub left-in : Left line r e p elements params → length elements < 2 ^ 64 → length params < 2 ^ 64 → InTypes r e p
-  left-in left few less =
-      let s = left-suits left in
-      let short : length line ≤ 8192 = ltb-false 8192 (length line) (left-short left) in
-      let i = record-in line r e p elements params s in
-      let tables = suited.tables-suited line r e p elements params s in
-      let n = suited.elements-fit line e p elements params tables in
-      let m = suited.params-fit line e p elements params tables in
-      record {
-        protocol-in = version-in left;
-        facility-in = level-in 23 (r .facility) (omega arith) (i .facility-in);
-        severity-in = level-in 7 (r .severity) (omega arith) (i .severity-in);
-        timestamp-in = stamp-in (r .timestamp) (i .timestamp-in);
-        host-in = (omega (arith, i .host-in), omega (arith, i .host-in));
-        app-in = (omega (arith, i .app-in), omega (arith, i .app-in));
-        procid-in = (omega (arith, i .procid-in), omega (arith, i .procid-in));
-        msgid-in = (omega (arith, i .msgid-in), omega (arith, i .msgid-in));
-        message-in = (omega (arith, i .message-in), omega (arith, i .message-in));
-        counts-in = (omega arith, omega arith);
-      }
+pub left-in : {line : List ℕ} {r : Record} {e p : ℕ} {elements params : List (List ℕ)} → Left line r e p elements params → InTypes r e p
+left-in {line} {r} {e} {p} {elements} {params} left =
+    let short : length line ≤ 8192 = ltb-false 8192 (length line) (left-short left) in
+    let i = record-in line r e p elements params (left-suits left) in
+    let s = left-sized short left in
+    record {
+      protocol-in = s .version-in;
+      facility-in = level-in 23 (r .facility) (omega arith) (i .facility-in);
+      severity-in = level-in 7 (r .severity) (omega arith) (i .severity-in);
+      timestamp-in = stamp-in (r .timestamp) (i .timestamp-in);
+      host-in = (omega (arith, i .host-in), omega (arith, i .host-in));
+      app-in = (omega (arith, i .app-in), omega (arith, i .app-in));
+      procid-in = (omega (arith, i .procid-in), omega (arith, i .procid-in));
+      msgid-in = (omega (arith, i .msgid-in), omega (arith, i .msgid-in));
+      message-in = (omega (arith, i .message-in), omega (arith, i .message-in));
+      counts-in = (omega (arith, s .elements-to), omega (arith, s .params-to));
+    }

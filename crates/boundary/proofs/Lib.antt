@@ -1,4 +1,5 @@
-mod Versions
+mod Counts
+mod Outcomes
 mod Fitting
 pub mod Memory
 pub mod AfterCall

@@ -1,5 +1,5 @@
 -- The memory of the record after a call of a reader that answered 0: it holds the reading's own record and counts.
-use Prim.Native.Nat.{ℕ, _^_, _<_}
+use Prim.Native.Nat.{ℕ}
 use mathlib.Core.Path.{_≡_, refl, ap, _∙_}
 use mathlib.Core.Bool.{Bool, true, false}
 use mathlib.Core.List.{List, [], _∷_, _++_, append-assoc}
@@ -69,12 +69,11 @@ strict-front s e p rest =
     ∙ ap (λ (bytes : List ℕ). bytes ++ rest) (words-append (recordWords (s .common) e p) (added s))
     ∙ append-assoc (recordBytes (s .common) e p) (wordsBytes (added s)) rest
 
--- (the length of a slice is a word)
-module _ {line memory : List ℕ} {elements params : List (List ℕ)} (few : length elements < 2 ^ 64) (less : length params < 2 ^ 64) where
+module _ {line memory : List ℕ} {elements params : List (List ℕ)} where
   laid-holds : (Reads : Record → ℕ → ℕ → Type 0) → ((r : Record) (e p : ℕ) → Reads r e p → Left line r e p elements params)
       → (r : Record) (e p : ℕ) (rest : List ℕ) → memory ≡ recordBytes r e p ++ rest → Reads r e p → Holds memory Reads
   laid-holds Reads left r e p rest q h =
-      let t = left-in (left r e p h) few less in
+      let t = left-in (left r e p h) in
       let (n, m) = laid-counts r e p t rest in
       rw q (record { holds = laid-held r e p t rest; reads = rw (laid-back r e p t rest, n, m) h })
 

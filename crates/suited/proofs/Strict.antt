@@ -1,5 +1,5 @@
 -- The division of a line: its fields and its elements lie in the line, and its timestamp can be shown.
-use Prim.Native.Nat.{ℕ, _+_, _-_, _/_, _%_, _≤_}
+use Prim.Native.Nat.{ℕ, _+_, _/_, _%_, _≤_}
 use mathlib.Core.Path.{_≡_, refl, ap}
 use mathlib.Core.Bool.{true, false, _&&_}
 use mathlib.Core.List.{List, [], _∷_, _++_}
@@ -106,7 +106,7 @@ module _ (line : List ℕ) where
 
   module _ (d : Division) (h : Derives line d) where
     -- the parts fill the line
-    line-length : dataEnd d + length (messageText (d .message)) ≡ length line
+    pub line-length : dataEnd d + length (messageText (d .message)) ≡ length line
     line-length =
         let text = dataThen (d .elements) (messageText (d .message)) in
         let ok = header-ok line d h in
@@ -143,8 +143,8 @@ pub record Divided (line : List ℕ) (s : StrictRecord) (e p : ℕ) (e₀ p₀ e
   pub derives : Derives line by
   short : length line ≤ 8192
   pub its : s ≡ recordOf by
-  elements-many : e ≡ length (by .elements)
-  params-many : p ≡ paramCount (by .elements)
+  pub elements-many : e ≡ length (by .elements)
+  pub params-many : p ≡ paramCount (by .elements)
   elements-are : e₁ ≡ filled (elementRows (dataAt by) (by .elements)) e₀
   params-are : p₁ ≡ filled (paramRows 0 (dataAt by) (by .elements)) p₀
 

@@ -1,10 +1,10 @@
--- The version of a record that was read is a number of 32 bits.
-use Prim.Native.Nat.{ℕ, _+_, _^_, _≤_, _<_}
+-- The version of a record that was read is a number of 32 bits, and its counts are far below a word.
+use Prim.Native.Nat.{ℕ, _+_, _*_, _^_, _≤_, _<_}
 use mathlib.Core.Path.{_≡_, refl}
 use mathlib.Core.List.{List}
 use native.Mathlib.Nat.{pow-le-pow-right}
 use native.Mathlib.Omega.{arith}
-use lib.ListN.{length, take, drop}
+use lib.ListN.{length, take, drop, length-take}
 use lib.IntN.{ℤ}
 use Rattle.white.specs.Trim.{trimmed}
 use Rattle.digits.specs.Digits.{numberAt}
@@ -25,7 +25,7 @@ use Rattle.timestamp.proofs.Onward.{on-num, on-pos}
 use Rattle.structured_data.specs.Data.{dataFrom}
 use Rattle.structured_data.specs.Outcome.{Outcome}
 use Rattle.structured_data.specs.Outcome.Outcome.{noReading, isReading}
-use Rattle.structured_data.specs.declared.Rules.the-variants.{Rfc5424Rules}
+use Rattle.structured_data.specs.declared.Rules.the-variants.{Rfc3164Rules, Rfc5424Rules}
 use Rattle.rfc3164.specs.Rfc3164 as rfc3164
 use Rattle.rfc5424.specs.Rfc5424 as rfc5424
 use Rattle.rfc5424.specs.declared.Start.{Start}
@@ -35,12 +35,13 @@ use Rattle.loose.specs.Loose.{outcomeOf, orWhole}
 use Rattle.grammar.specs.Line.{Division, Derives}
 use Rattle.grammar.specs.Reading.{recordOf}
 use Rattle.layout.proofs.Back.{ProtocolIn}
-use Rattle.suited.proofs.Frame.{reading-judged}
+use Rattle.suited.proofs.Frame.{Judged, reading-judged}
 use Rattle.suited.proofs.Records.{of-variant}
-use Rattle.suited.proofs.Strict.{reading-divided}
+use Rattle.suited.proofs.Strict.{line-length, reading-divided}
 use Rattle.suited.proofs.AfterReading.{Left}
+use Rattle.boundary.proofs.Counts.{Few, none-few, data-few, division-few}
 
--- ---- the loose readers: what numberFrom reads
+-- ---- the loose readers: a version is what numberFrom reads
 
 abbrev NumIn : Num → Type 0
 NumIn NoNum = Unit {0}
@@ -71,9 +72,9 @@ start-in s at =
 
 abbrev OutcomeIn : Outcome → Type 0
 OutcomeIn noReading = Unit {0}
-OutcomeIn (isReading r at rows) = ProtocolIn (r .protocol)
+OutcomeIn (isReading r at rows) = ProtocolIn (r .protocol) × Few 8192 rows
 
-module _ (s : List ℕ) (start : ℕ) where
+module _ (s : List ℕ) (short : length s ≤ 8192) (start : ℕ) where
   rfc5424-in : OutcomeIn (rfc5424.rfc5424 s start)
   unfolding rfc5424.rfc5424 rfc5424.bodyFrom
   rfc5424-in =
@@ -81,7 +82,7 @@ module _ (s : List ℕ) (start : ℕ) where
       on-start OutcomeIn (rfc5424.startFrom s from) _ _ tt λ version stamp a e.
       on-four OutcomeIn (rfc5424.fourFrom s a) _ _ tt λ host app procid msgid b f.
       on-data OutcomeIn (dataFrom Rfc5424Rules s (blanksFrom s b)) _ _ tt λ rows g.
-      rw e at (start-in s from)
+      (rw e at (start-in s from), rw g at (data-few Rfc5424Rules s (blanksFrom s b) short))
 
   rfc3164-in : (year : ℕ) (offset : ℤ) → OutcomeIn (rfc3164.rfc3164 year offset s start)
   unfolding rfc3164.rfc3164 rfc3164.bodyFrom
@@ -89,20 +90,21 @@ module _ (s : List ℕ) (start : ℕ) where
     where
       go : (g : Stamping) → OutcomeIn (rfc3164.onStamping g noReading (λ stamp a. rfc3164.bodyFrom (priAt (drop start s)) stamp s a))
       go NoStamp = tt
-      go (IsStamp t a) = tt
+      go (IsStamp t a) = (tt, data-few Rfc3164Rules s _ short)
 
-outcome-in : (line : List ℕ) (variant year : ℕ) (offset : ℤ) → OutcomeIn (outcomeOf line variant year offset)
+outcome-in : (line : List ℕ) → length line ≤ 8192 → (variant year : ℕ) (offset : ℤ) → OutcomeIn (outcomeOf line variant year offset)
 unfolding outcomeOf
-outcome-in line variant year offset =
+outcome-in line short variant year offset =
     let ends = trimmed line in
     let s = take (ends .end) line in
-    of-variant OutcomeIn variant year offset s (ends .start) (rfc5424-in s (ends .start)) (rfc3164-in s (ends .start) year offset)
+    let l : length s ≤ 8192 = omega (arith, length-take (ends .end) line) in
+    of-variant OutcomeIn variant year offset s (ends .start) (rfc5424-in s l (ends .start)) (rfc3164-in s l (ends .start) year offset)
 
 whole-in : (line : List ℕ) (o : Outcome) → OutcomeIn o → OutcomeIn (orWhole line o)
-whole-in line noReading h = tt
+whole-in line noReading h = (tt, none-few 0)
 whole-in line (isReading r at rows) h = h
 
--- ---- the strict reader: at most three digits
+-- ---- the strict reader: a version has at most three digits
 
 division-in : (line : List ℕ) (d : Division) → Derives line d → ProtocolIn (recordOf d .common .protocol)
 unfolding recordOf
@@ -113,11 +115,27 @@ division-in line d h =
 
 -- ---- what a reader left
 
-pub version-in : {line : List ℕ} {r : Record} {e p : ℕ} {elements params : List (List ℕ)} → Left line r e p elements params → ProtocolIn (r .protocol)
-version-in {line} {elements} {params} (Left.by-exact {variant} {year} {offset} {e₀} {p₀} h) =
-    rw (reading-judged line e₀ p₀ elements params variant year offset _ h .outcome) at (outcome-in line variant year offset)
-version-in {line} {elements} {params} (Left.by-fallback {variant} {year} {offset} {e₀} {p₀} h) =
-    rw (reading-judged line e₀ p₀ elements params variant year offset _ h .outcome) at (whole-in line (outcomeOf line variant year offset) (outcome-in line variant year offset))
-version-in {line} (Left.by-strict h q) =
+pub record Sized (r : Record) (e p : ℕ) : Type 0 where
+  pub version-in : ProtocolIn (r .protocol)
+  pub elements-to : e ≤ 8192
+  pub params-to : p ≤ 8192 * 8193
+
+judged-sized : {o : Outcome} {r : Record} {e p : ℕ} → Judged o r e p → OutcomeIn o → Sized r e p
+judged-sized j h =
+    let (v, f) = rw (j .outcome) at h in
+    record { version-in = v; elements-to = omega (arith, j .elements-many, f .elements-to); params-to = omega (arith, j .params-many, f .params-to) }
+
+pub left-sized : {line : List ℕ} {r : Record} {e p : ℕ} {elements params : List (List ℕ)} → length line ≤ 8192 → Left line r e p elements params → Sized r e p
+left-sized {line} {elements} {params} short (Left.by-exact {variant} {year} {offset} {e₀} {p₀} h) =
+    judged-sized (reading-judged line e₀ p₀ elements params variant year offset _ h) (outcome-in line short variant year offset)
+left-sized {line} {elements} {params} short (Left.by-fallback {variant} {year} {offset} {e₀} {p₀} h) =
+    judged-sized (reading-judged line e₀ p₀ elements params variant year offset _ h) (whole-in line (outcomeOf line variant year offset) (outcome-in line short variant year offset))
+left-sized {line} {e} {p} short (Left.by-strict h q) =
     let d = reading-divided h in
-    rw (q, d .its) (division-in line (d .by) (d .derives))
+    let few = division-few (d .by .elements) (d .derives .elements-ok) in
+    let all = line-length line (d .by) (d .derives) in
+    record {
+      version-in = rw (q, d .its) (division-in line (d .by) (d .derives));
+      elements-to = omega (arith, d .elements-many);
+      params-to = omega (arith, d .params-many);
+    }
