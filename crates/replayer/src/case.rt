@@ -1,11 +1,11 @@
 // One case: a call with what its line of the list says, and its answer against what the line says that it must be.
-use crate::answers::Settings;
-use crate::answers::looking;
-use crate::answers::printing;
-use crate::answers::reading;
-use crate::answers::up_to;
 use crate::text::bytes;
 use crate::text::number;
+use tables::answers::Settings;
+use tables::answers::looking;
+use tables::answers::printing;
+use tables::answers::reading;
+use tables::answers::up_to;
 ghost use Prim.Native.Nat.{_≤_};
 ghost use lib.ListN.{length};
 

@@ -1,5 +1,3 @@
-// What the programs `replay` and `cases` share: the text of a case, the calls, and the answers against a list.
-pub mod answers;
+// What the programs `replay` and `cases` share: the text of a case, and its answer against what the text says.
 pub mod case;
-pub mod tables;
 pub mod text;

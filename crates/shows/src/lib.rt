@@ -1,10 +1,10 @@
 // A case in words: the call, and each thing that its answer has, a line each.
 use libc::STDOUT_FILENO;
-use replayer::answers::Settings;
-use replayer::answers::printing;
-use replayer::answers::reading;
-use replayer::answers::strict_reading;
-use replayer::answers::up_to;
+use tables::answers::Settings;
+use tables::answers::printing;
+use tables::answers::reading;
+use tables::answers::strict_reading;
+use tables::answers::up_to;
 
 fn say(text: &[u8]) -> bool {
     io::write_all(STDOUT_FILENO, text)

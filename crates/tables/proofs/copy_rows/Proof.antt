@@ -1,15 +1,15 @@
--- `replayer::tables::copy_rows` meets its contract: a derivation by hand. The table is read, and the rows are lent on in each turn.
+-- `tables::copy_rows` meets its contract: a derivation by hand. The table is read, and the rows are lent on in each turn.
 use Rattle.rules.specs.Derive.{Cx, Derived, Laid, Lfts, List, Row, R·, Shares, World, [], _+_, _-_, _<_, _∙_, _∷_, _≡_, _≤_, _▸_, _▹_, add, any-gone, arith, at, back, begin, blocks, branch, by-mut, by-num, by-val, calls, copies, cx, eT, exits, finish, fix-len, fld, gone, held, here, i64, join, last, lease, lends, length, lent, lit, loads, loops, lose, lost, lt, ltb-true, mul, muts, nexts, none, num, off, offset, over, owed, packs, proves, put, puts, refl, returns, room, sBool, sPtr, sUnit, same, sc, sc-here, shr, slen, sliceTy, slots₂, sptr, struct, tablesOf, tyBool, tyInt, tyPtr, tyUnit, unit, unsigned, w64, world, ℕ}
 use Rattle.record.specs.Params.{blank}
 use Rattle.entries.proofs.Contracts as E
-use Rattle.replayer.proofs.Contracts as C
-use Rattle.replayer.proofs.tables.copy_rows.Key
-use Rattle.replayer.proofs.tables.copy_rows.Statement as stated
-use Rattle.replayer.proofs.tables.copy_rows.Code as code
-use Rattle.replayer.proofs.tables.put_row.Kinds as Pk
-use Rattle.replayer.proofs.tables.put_row.Reads as Pr
-use Rattle.replayer.proofs.tables.put_row.Symbol as Ps
-use Rattle.replayer.proofs.tables.put_row.Met as Pm
+use Rattle.tables.proofs.Contracts as C
+use Rattle.tables.proofs.copy_rows.Key
+use Rattle.tables.proofs.copy_rows.Statement as stated
+use Rattle.tables.proofs.copy_rows.Code as code
+use Rattle.tables.proofs.put_row.Kinds as Pk
+use Rattle.tables.proofs.put_row.Reads as Pr
+use Rattle.tables.proofs.put_row.Symbol as Ps
+use Rattle.tables.proofs.put_row.Met as Pm
 
 module _ (w : World) where
   -- the context, by the rows of the entry and of the temporary
@@ -30,7 +30,7 @@ module _ (w : World) where
       copies E.param 9 5 held gone refl refl ▹ room 9 (struct E.param refl) ▸ at (held-at κs qs (here E.param) (lost E.param)) ▸ begin 2 _ ▸
       lends C.five 2 11 1 2 same gone refl tt refl refl ▹
       packs C.five 11 12 2 same gone (fld 2 1 (owed C.five 1 2 (lease (κs .1 .0) (qs .1 .0))) refl) refl refl ▹
-      calls 1 Pk.ps Pk.r Pr.Asked Pr.Learnt Ps.name (Pr.known w code.env Ps.name Ps.routine code.calls-replayer·tables·put-row (Pm.met (w .𝓤) (w .H) (w .𝓜) (w .𝓖) (w .𝓡))) (2 ∷ []) (by-mut C.five 0 tt 12 lent refl (by-num w64 4 (sc i64) refl (by-val E.param 5 held refl none))) 10 gone (tt, tt) refl ▹
+      calls 1 Pk.ps Pk.r Pr.Asked Pr.Learnt Ps.name (Pr.known w code.env Ps.name Ps.routine code.calls-tables·put-row (Pm.met (w .𝓤) (w .H) (w .𝓜) (w .𝓖) (w .𝓡))) (2 ∷ []) (by-mut C.five 0 tt 12 lent refl (by-num w64 4 (sc i64) refl (by-val E.param 5 held refl none))) 10 gone (tt, tt) refl ▹
       finish 2 refl ▸ back C.five 12 2 1 2 (lease (κs .1 .0) (qs .1 .0)) same same refl refl ▸ lose 2 refl ▸ room 5 (struct E.param refl) ▸ room 10 (over sUnit) ▸ at (held-at κs qs (lost E.param) (lost E.param)) ▸
       last tt (puts 4 i64 (over i64) (add unsigned) (num 4 (sc i64) refl) (lit w64 1 tt) refl (λ u. refl) (λ u. tt)))))) (
       put 0 sUnit gone unit refl (λ u. refl) (λ u. tt) ▹ room 3 (over i64) ▸ room 4 (over i64) ▸ returns tt))

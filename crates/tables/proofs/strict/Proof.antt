@@ -1,4 +1,4 @@
--- `replayer::tables::strict` meets its contract: a derivation by hand. A local table is lent to the reader, then to be read by `copy_rows`.
+-- `tables::strict` meets its contract: a derivation by hand. A local table is lent to the reader, then to be read by `copy_rows`.
 use Rattle.rules.specs.Derive.{Asked, Cx, Derived, Laid, Learnt, Lfts, Life, List, Row, R·, Shares, World, [], _∷_, _▸_, _▹_, aT, alive, any-gone, ap, array, arrays, as-array, at, back, begin, borrows, by-mut, by-shr, by-view, bytes, calls, cites, cx, eT, finish, fix-len, fld, gone, held, i32, lease, leased, lend, lends, lent, lit<, lose, lost, muts, none, num, off, over, owed, owing, packs, packs-all, packs-view, pair, proves, put, read-whole, refl, repeats, returned, returns, room, sUnit, same, sc, sc-here, shr, sliceTy, spent, struct, sym, tablesOf, tyInt, tyUnit, unviewed, unviews, vT, view, view-lend, viewed, views, w32, w64, wT, world}
 use borrow.Rule.Array.Rows.{arrF, arr-owed}
 use mir.Val.{vint}
@@ -10,12 +10,12 @@ use Rattle.record.proofs.blank.Met as Bm
 use Rattle.exports.proofs.Contracts as X
 use Rattle.exports.proofs.khamdoriem_read_strict.Symbol as Xs
 use Rattle.exports.proofs.khamdoriem_read_strict.Met as Xm
-use Rattle.replayer.proofs.Contracts as C
-use Rattle.replayer.proofs.tables.strict.Key
-use Rattle.replayer.proofs.tables.strict.Statement as stated
-use Rattle.replayer.proofs.tables.strict.Code as code
-use Rattle.replayer.proofs.tables.copy_rows.Symbol as Cs
-use Rattle.replayer.proofs.tables.copy_rows.Met as Cm
+use Rattle.tables.proofs.Contracts as C
+use Rattle.tables.proofs.strict.Key
+use Rattle.tables.proofs.strict.Statement as stated
+use Rattle.tables.proofs.strict.Code as code
+use Rattle.tables.proofs.copy_rows.Symbol as Cs
+use Rattle.tables.proofs.copy_rows.Met as Cm
 
 module _ (w : World) where
   -- the context, by the rows of what is lent, of the table and the number, and of what it is lent as
@@ -50,7 +50,7 @@ module _ (w : World) where
       packs-view E.param 256 15 16 4 same gone tt refl refl ▹
       lends C.five 4 17 3 5 same gone refl tt refl refl ▹
       packs C.five 17 18 5 same gone (fld 4 1 (owed C.five 3 5 (lease (κs .1 .1 .1 .0) (qs .1 .1 .1 .0))) refl) refl refl ▹ at (copy-at κs qs (leased C.five 5)) ▸
-      calls 2 (C.copy-rows .ps) (C.copy-rows .r) (Asked C.copy-rows) (Learnt C.copy-rows) Cs.name (cites C.copy-rows w code.env Cs.name Cs.routine code.calls-replayer·tables·copy-rows (Cm.met (w .𝓤) (w .H) (w .𝓜) (w .𝓖) (w .𝓡))) (4 ∷ 5 ∷ []) (by-view (R· E.param) 0 tt 16 view-lend refl (by-mut C.five 1 tt 18 lent refl none)) 14 gone (tt, (tt, tt)) refl ▹ room 14 (over sUnit) ▸ at (copy-at κs qs (spent C.five)) ▸
+      calls 2 (C.copy-rows .ps) (C.copy-rows .r) (Asked C.copy-rows) (Learnt C.copy-rows) Cs.name (cites C.copy-rows w code.env Cs.name Cs.routine code.calls-tables·copy-rows (Cm.met (w .𝓤) (w .H) (w .𝓜) (w .𝓖) (w .𝓡))) (4 ∷ 5 ∷ []) (by-view (R· E.param) 0 tt 16 view-lend refl (by-mut C.five 1 tt 18 lent refl none)) 14 gone (tt, (tt, tt)) refl ▹ room 14 (over sUnit) ▸ at (copy-at κs qs (spent C.five)) ▸
       finish 5 refl ▸ back C.five 18 4 3 5 (lease (κs .1 .1 .1 .0) (qs .1 .1 .1 .0)) same same refl refl ▸ lose 5 refl ▸ room 16 (unviewed (R· E.param) 4) ▸ finish 4 refl ▸ unviews E.param 256 6 4 same refl ▸ lose 4 refl ▸ at (head-at κs qs (sc-here i32)) ▸
       put 0 i32 gone (num 7 (sc i32) refl) refl (λ u. refl) (λ u. tt) ▹ room 7 (over i32) ▸ room 6 (array E.param 256 refl) ▸ returns tt
 

@@ -1,4 +1,4 @@
--- `replayer::tables::lookup` meets its contract: a derivation by hand. A local table is lent to be filled, then to the service.
+-- `tables::lookup` meets its contract: a derivation by hand. A local table is lent to be filled, then to the service.
 use Rattle.rules.specs.Derive.{Asked, Cx, Derived, Laid, Learnt, Lfts, Life, List, Row, R·, Shares, World, [], _∷_, _▸_, _▹_, aT, alive, any-gone, ap, array, arrays, as-array, at, back, begin, borrows, by-mut, by-num, by-shr, by-view, bytes, calls, cites, cx, eT, finish, fix-len, fld, gone, held, here, i32, lease, leased, lend, lends, lent, lit<, lose, lost, muts, none, off, over, owed, owing, packs, packs-all, packs-view, pair, proves, read-whole, refl, repeats, returned, returns, room, sUnit, same, sc, sc-here, shr, sliceTy, spent, struct, sym, tablesOf, tyUnit, unviewed, unviews, vT, view, view-lend, viewed, views, w32, w64, wT, world}
 use mir.Val.{vint}
 use borrow.Rule.Array.Rows.{arrF, arr-owed}
@@ -10,12 +10,12 @@ use Rattle.record.proofs.blank.Met as Bm
 use Rattle.exports.proofs.Contracts as X
 use Rattle.exports.proofs.khamdoriem_lookup.Symbol as Xs
 use Rattle.exports.proofs.khamdoriem_lookup.Met as Xm
-use Rattle.replayer.proofs.Contracts as C
-use Rattle.replayer.proofs.tables.lookup.Key
-use Rattle.replayer.proofs.tables.lookup.Statement as stated
-use Rattle.replayer.proofs.tables.lookup.Code as code
-use Rattle.replayer.proofs.tables.copy_entries.Symbol as Fs
-use Rattle.replayer.proofs.tables.copy_entries.Met as Fm
+use Rattle.tables.proofs.Contracts as C
+use Rattle.tables.proofs.lookup.Key
+use Rattle.tables.proofs.lookup.Statement as stated
+use Rattle.tables.proofs.lookup.Code as code
+use Rattle.tables.proofs.copy_entries.Symbol as Fs
+use Rattle.tables.proofs.copy_entries.Met as Fm
 
 module _ (w : World) where
   -- the context, by the rows of the answer and of the output, of the table, and of what each is lent as
@@ -40,7 +40,7 @@ module _ (w : World) where
       repeats E.param 256 9 10 held (read-whole E.param) refl gone refl ▹ arrays E.param 256 10 (as-array E.param 256) ▸ room 9 (struct E.param refl) ▸ at (head-at κs qs (lost X.output-answer)) ▸ begin 7 _ ▸
       borrows E.param 256 10 12 7 same gone refl (lit< tt, lit< tt) ▹
       packs-all E.param 256 12 13 7 same gone tt refl refl ▹ at (fill-at κs qs (leased (R· E.param) 7)) ▸
-      calls 2 (C.copy-entries .ps) (C.copy-entries .r) (Asked C.copy-entries) (Learnt C.copy-entries) Fs.name (cites C.copy-entries w code.env Fs.name Fs.routine code.calls-replayer·tables·copy-entries (Fm.met (w .𝓤) (w .H) (w .𝓜) (w .𝓖) (w .𝓡))) (3 ∷ 7 ∷ []) (by-shr C.five 0 tt 4 3 lend refl (by-mut (R· E.param) 1 tt 13 lent refl none)) 11 gone (tt, (tt, tt)) refl ▹ room 11 (over sUnit) ▸ at (fill-at κs qs (spent (R· E.param))) ▸
+      calls 2 (C.copy-entries .ps) (C.copy-entries .r) (Asked C.copy-entries) (Learnt C.copy-entries) Fs.name (cites C.copy-entries w code.env Fs.name Fs.routine code.calls-tables·copy-entries (Fm.met (w .𝓤) (w .H) (w .𝓜) (w .𝓖) (w .𝓡))) (3 ∷ 7 ∷ []) (by-shr C.five 0 tt 4 3 lend refl (by-mut (R· E.param) 1 tt 13 lent refl none)) 11 gone (tt, (tt, tt)) refl ▹ room 11 (over sUnit) ▸ at (fill-at κs qs (spent (R· E.param))) ▸
       finish 7 refl ▸ returned E.param 256 13 10 7 same same refl ▸ lose 7 refl ▸ at (head-at κs qs (lost X.output-answer)) ▸ begin 7 _ ▸ begin 8 _ ▸
       views E.param 256 10 14 7 same gone refl (lit< tt, lit< tt) ▹
       packs-view E.param 256 14 15 7 same gone tt refl refl ▹

@@ -13,13 +13,13 @@ use borrow.Kind.ShrSlice.{pShrS}
 use Rattle.rules.specs.Derive.{Contract, plainly, bytes, pair, rS}
 use Rattle.record.proofs.Param as P
 use Rattle.exports.proofs.Contracts as X
-use Rattle.replayer.proofs.tables.copy_rows as c
-use Rattle.replayer.proofs.tables.exact as x
-use Rattle.replayer.proofs.tables.fallback as f
-use Rattle.replayer.proofs.tables.strict as s
-use Rattle.replayer.proofs.tables.copy_entries as e
-use Rattle.replayer.proofs.tables.print as p
-use Rattle.replayer.proofs.tables.lookup as l
+use Rattle.tables.proofs.copy_rows as c
+use Rattle.tables.proofs.exact as x
+use Rattle.tables.proofs.fallback as f
+use Rattle.tables.proofs.strict as s
+use Rattle.tables.proofs.copy_entries as e
+use Rattle.tables.proofs.print as p
+use Rattle.tables.proofs.lookup as l
 
 -- a row
 abbrev pub five : RattleType

@@ -1,15 +1,15 @@
--- `replayer::tables::copy_entries` meets its contract: a derivation by hand. Each turn stores an entry.
+-- `tables::copy_entries` meets its contract: a derivation by hand. Each turn stores an entry.
 use Rattle.rules.specs.Derive.{Asked, Cx, Derived, Laid, Learnt, Lfts, List, Row, R·, Shares, World, [], _+_, _-_, _<_, _∙_, _∷_, _≡_, _≤_, _▸_, _▹_, add, any-gone, arith, at, blocks, branch, by-num, by-shr, calls, cx, exits, fix-len, fld, gone, held, here, i64, join, last, len, lend, length, length-set, lit, loops, lost, lt, ltb-true, mul, muts, nexts, none, num, offset, over, proves, ptr, put, puts, refl, returns, room, sBool, sPtr, sUnit, same, sc, sc-here, set, shr, slots₂, stores, struct, tablesOf, tyBool, tyInt, tyPtr, tyUnit, unit, unsigned, w64, world, ℕ}
 use Rattle.record.specs.declared.Param.{Param}
 use Rattle.entries.proofs.Contracts as E
-use Rattle.replayer.proofs.Contracts as C
-use Rattle.replayer.proofs.tables.copy_entries.Key
-use Rattle.replayer.proofs.tables.copy_entries.Statement as stated
-use Rattle.replayer.proofs.tables.copy_entries.Code as code
-use Rattle.replayer.proofs.tables.entry_at.Kinds as Ak
-use Rattle.replayer.proofs.tables.entry_at.Reads as Ar
-use Rattle.replayer.proofs.tables.entry_at.Symbol as As
-use Rattle.replayer.proofs.tables.entry_at.Met as Am
+use Rattle.tables.proofs.Contracts as C
+use Rattle.tables.proofs.copy_entries.Key
+use Rattle.tables.proofs.copy_entries.Statement as stated
+use Rattle.tables.proofs.copy_entries.Code as code
+use Rattle.tables.proofs.entry_at.Kinds as Ak
+use Rattle.tables.proofs.entry_at.Reads as Ar
+use Rattle.tables.proofs.entry_at.Symbol as As
+use Rattle.tables.proofs.entry_at.Met as Am
 
 module _ (w : World) where
   -- the context, by the row of the entry
@@ -24,7 +24,7 @@ module _ (w : World) where
       (λ u vs. (length (vs .0) ≡ length (u .1 .1 .0 .now)) × (vs .1 ≤ u .1 .1 .1 .0)) (λ u vs. u .1 .1 .1 .0 - vs .1) (
       puts 6 sBool gone (lt unsigned) (num 4 (sc i64) refl) (num 3 (sc i64) refl) refl (λ u. refl) (λ u. tt) ▹
       join (held-at κs qs (lost E.param)) (branch 6 (λ x. x) (sc sBool) refl (room 6 (over sBool) ▸ nexts tt) (room 6 (over sBool) ▸ exits 1 tt)) (
-      calls 1 Ak.ps Ak.r Ar.Asked Ar.Learnt As.name (Ar.known w code.env As.name As.routine code.calls-replayer·tables·entry-at (Am.met (w .𝓤) (w .H) (w .𝓜) (w .𝓖) (w .𝓡))) (0 ∷ []) (by-shr C.five 0 tt 1 0 lend refl (by-num w64 4 (sc i64) refl none)) 5 gone (tt, tt) refl ▹ at (held-at κs qs (here E.param)) ▸
+      calls 1 Ak.ps Ak.r Ar.Asked Ar.Learnt As.name (Ar.known w code.env As.name As.routine code.calls-tables·entry-at (Am.met (w .𝓤) (w .H) (w .𝓜) (w .𝓖) (w .𝓡))) (0 ∷ []) (by-shr C.five 0 tt 1 0 lend refl (by-num w64 4 (sc i64) refl none)) 5 gone (tt, tt) refl ▹ at (held-at κs qs (here E.param)) ▸
       puts 7 i64 gone (mul unsigned) (num 4 (sc i64) refl) (lit w64 40 tt) refl (λ u. refl) (λ u. tt) ▹
       puts 8 sPtr gone offset (fld 2 0 (ptr (R· E.param) 1) refl) (num 7 (sc i64) refl) refl (λ u. refl) (λ u. tt) ▹
       stores E.param 40 2 8 5 1 (λ u. u .1 .1 .1 .1 .0) refl same same held refl tt refl refl ▹

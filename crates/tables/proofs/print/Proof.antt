@@ -1,4 +1,4 @@
--- `replayer::tables::print` meets its contract: a derivation by hand. A local table is lent to be filled, then to the service.
+-- `tables::print` meets its contract: a derivation by hand. A local table is lent to be filled, then to the service.
 use Rattle.rules.specs.Derive.{Asked, Cx, Derived, Laid, Learnt, Lfts, Life, List, Row, R·, Shares, World, [], _∷_, _▸_, _▹_, aT, alive, any-gone, ap, array, arrays, as-array, at, back, begin, borrows, by-mut, by-shr, by-view, bytes, calls, cites, cx, eT, finish, fix-len, fld, gone, held, here, lease, leased, lend, lends, lent, lit<, lose, lost, muts, none, off, over, owed, owing, packs, packs-all, packs-view, pair, proves, read-whole, refl, repeats, returned, returns, room, sUnit, same, shr, sliceTy, spent, struct, sym, tablesOf, tyUnit, unviewed, unviews, vT, view, view-lend, viewed, views, w64, wT, world}
 use mir.Val.{vint}
 use borrow.Rule.Array.Rows.{arrF, arr-owed}
@@ -10,12 +10,12 @@ use Rattle.record.proofs.blank.Met as Bm
 use Rattle.exports.proofs.Contracts as X
 use Rattle.exports.proofs.khamdoriem_print.Symbol as Xs
 use Rattle.exports.proofs.khamdoriem_print.Met as Xm
-use Rattle.replayer.proofs.Contracts as C
-use Rattle.replayer.proofs.tables.print.Key
-use Rattle.replayer.proofs.tables.print.Statement as stated
-use Rattle.replayer.proofs.tables.print.Code as code
-use Rattle.replayer.proofs.tables.copy_entries.Symbol as Fs
-use Rattle.replayer.proofs.tables.copy_entries.Met as Fm
+use Rattle.tables.proofs.Contracts as C
+use Rattle.tables.proofs.print.Key
+use Rattle.tables.proofs.print.Statement as stated
+use Rattle.tables.proofs.print.Code as code
+use Rattle.tables.proofs.copy_entries.Symbol as Fs
+use Rattle.tables.proofs.copy_entries.Met as Fm
 
 module _ (w : World) where
   -- the context, by the rows of the answer and of the output, of the table, and of what each is lent as
@@ -40,7 +40,7 @@ module _ (w : World) where
       repeats E.param 256 6 7 held (read-whole E.param) refl gone refl ▹ arrays E.param 256 7 (as-array E.param 256) ▸ room 6 (struct E.param refl) ▸ at (head-at κs qs (lost X.output-answer)) ▸ begin 5 _ ▸
       borrows E.param 256 7 9 5 same gone refl (lit< tt, lit< tt) ▹
       packs-all E.param 256 9 10 5 same gone tt refl refl ▹ at (fill-at κs qs (leased (R· E.param) 5)) ▸
-      calls 2 (C.copy-entries .ps) (C.copy-entries .r) (Asked C.copy-entries) (Learnt C.copy-entries) Fs.name (cites C.copy-entries w code.env Fs.name Fs.routine code.calls-replayer·tables·copy-entries (Fm.met (w .𝓤) (w .H) (w .𝓜) (w .𝓖) (w .𝓡))) (3 ∷ 5 ∷ []) (by-shr C.five 0 tt 4 3 lend refl (by-mut (R· E.param) 1 tt 10 lent refl none)) 8 gone (tt, (tt, tt)) refl ▹ room 8 (over sUnit) ▸ at (fill-at κs qs (spent (R· E.param))) ▸
+      calls 2 (C.copy-entries .ps) (C.copy-entries .r) (Asked C.copy-entries) (Learnt C.copy-entries) Fs.name (cites C.copy-entries w code.env Fs.name Fs.routine code.calls-tables·copy-entries (Fm.met (w .𝓤) (w .H) (w .𝓜) (w .𝓖) (w .𝓡))) (3 ∷ 5 ∷ []) (by-shr C.five 0 tt 4 3 lend refl (by-mut (R· E.param) 1 tt 10 lent refl none)) 8 gone (tt, (tt, tt)) refl ▹ room 8 (over sUnit) ▸ at (fill-at κs qs (spent (R· E.param))) ▸
       finish 5 refl ▸ returned E.param 256 10 7 5 same same refl ▸ lose 5 refl ▸ at (head-at κs qs (lost X.output-answer)) ▸ begin 5 _ ▸ begin 6 _ ▸
       views E.param 256 7 11 5 same gone refl (lit< tt, lit< tt) ▹
       packs-view E.param 256 11 12 5 same gone tt refl refl ▹

@@ -1,4 +1,6 @@
 // The services over a parameter table of their own. Rows go in and come out, so that the other functions see no table of structs.
+pub mod answers;
+
 use record::OutputAnswer;
 use record::Param;
 ghost use Prim.Native.Nat.{_≤_};

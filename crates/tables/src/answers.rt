@@ -1,9 +1,9 @@
 // The calls of a case, each over tables of its own, with the answer as plain numbers or bytes.
-use crate::tables::exact;
-use crate::tables::fallback;
-use crate::tables::lookup;
-use crate::tables::print;
-use crate::tables::strict;
+use crate::exact;
+use crate::fallback;
+use crate::lookup;
+use crate::print;
+use crate::strict;
 ghost use mathlib.Core.Path.{_≡_};
 ghost use Prim.Native.Nat.{_≤_};
 ghost use lib.ListN.{length};

@@ -2,8 +2,8 @@ use borrow.Author.Needs.{needs}
 use Prim.Native.Nat.{_-_}
 use lib.ListN.{length}
 use mathlib.Core.Path.{_≡_}
-use Rattle.replayer.proofs.answers.push_params.Statement.{statement}
-use Rattle.replayer.proofs.answers.push_params.Tie as tie
+use Rattle.tables.proofs.answers.push_params.Statement.{statement}
+use Rattle.tables.proofs.answers.push_params.Tie as tie
 
 abbrev Inv-loop : tie.InvT-loop
 Inv-loop numbers₀ at params count next₀ i₀ numbers next i = (length numbers ≡ length numbers₀)
