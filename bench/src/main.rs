@@ -13,7 +13,7 @@ use std::process::ExitCode;
 use std::time::Instant;
 
 const USAGE: &str = "usage: driver make FILE LINES SEED | check FILE | pass READER KIND FILE TIMES | shape READER NAME BYTES TIMES \
-                     | time READER KIND FILE | report RESULTS DOCS";
+                     | time KIND FILE READER.. | report RESULTS DOCS";
 
 fn number<T: std::str::FromStr>(text: &str) -> Result<T, String> {
     text.parse().map_err(|_| format!("'{text}' is no number, or too large"))
@@ -36,26 +36,29 @@ fn write(file: &str, text: &str) -> Result<(), String> {
     std::fs::write(file, text).map_err(|e| format!("{file}: {e}"))
 }
 
-/// Reads the lines of a kind `times` times, and gives the nanoseconds of each time.
-fn passes(name: &str, kind: &str, file: &str, times: usize) -> Result<Vec<u128>, String> {
+/// Reads the lines of a kind `times` times with each reader, in turn, and gives the nanoseconds of each reader's passes.
+fn passes(names: &[&str], kind: &str, file: &str, times: usize) -> Result<Vec<Vec<u128>>, String> {
     let text = text_of(file)?;
     let (variant, lines) = gate::of_kind(kind, &text).ok_or(format!("'{kind}' is no kind of lines"))?;
-    let reader = reader(name)?;
+    let readers = names.iter().map(|name| reader(name)).collect::<Result<Vec<Reader>, String>>()?;
     let mut lent = Lent::new();
-    let mut spent = Vec::with_capacity(times);
+    let mut spent = vec![Vec::with_capacity(times); readers.len()];
     for _ in 0..times {
-        let start = Instant::now();
-        readers::pass(reader, variant, &lines, &mut lent);
-        spent.push(start.elapsed().as_nanos());
+        for (reader, spent) in readers.iter().zip(&mut spent) {
+            let start = Instant::now();
+            readers::pass(*reader, variant, &lines, &mut lent);
+            spent.push(start.elapsed().as_nanos());
+        }
     }
     Ok(spent)
 }
 
-/// The median of nine.
-fn time(name: &str, kind: &str, file: &str) -> Result<(), String> {
-    let mut spent = passes(name, kind, file, 9)?;
-    spent.sort_unstable();
-    println!("{}", spent[4]);
+/// The median of nine passes of each reader. They take turns, so that what slows the machine slows all of them.
+fn time(kind: &str, file: &str, names: &[&str]) -> Result<(), String> {
+    for (name, mut spent) in names.iter().zip(passes(names, kind, file, 9)?) {
+        spent.sort_unstable();
+        println!("nanos {kind} {name} {}", spent[4]);
+    }
     Ok(())
 }
 
@@ -79,9 +82,9 @@ fn run(args: &[&str]) -> Result<(), String> {
     match args {
         ["make", file, lines, seed] => write(file, &gate::file(number(lines)?, number(seed)?)),
         ["check", file] => check::check(&text_of(file)?),
-        ["pass", name, kind, file, times] => passes(name, kind, file, number(times)?).map(|_| ()),
+        ["pass", name, kind, file, times] => passes(&[*name], kind, file, number(times)?).map(|_| ()),
         ["shape", name, what, bytes, times] => shape(name, what, bytes, times),
-        ["time", name, kind, file] => time(name, kind, file),
+        ["time", kind, file, names @ ..] => time(kind, file, names),
         ["report", results, docs] => report(results, docs),
         _ => Err(USAGE.to_string()),
     }

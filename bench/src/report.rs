@@ -70,7 +70,7 @@ fn times(results: &Results) -> Result<String, String> {
     if results.behind(&["nanos"]).next().is_none() {
         return Ok(page);
     }
-    add(&mut page, "## Nanoseconds a line\n\nThe median of nine passes.\n\n| lines | the Rust | ours, loose | ratio | ours, strict |\n|---|---|---|---|---|");
+    add(&mut page, "## Nanoseconds a line\n\nThe median of nine passes of each reader, in turn. Other work of the machine shows here, and not in the instructions.\n\n| lines | the Rust | ours, loose | ratio | ours, strict |\n|---|---|---|---|---|");
     for (kind, name) in KINDS {
         let count = results.number(&["kind", kind], 0)?;
         let of = |reader: &str| results.number(&["nanos", kind, reader], 0).map(|n| n / count);
