@@ -1,7 +1,7 @@
 //! Before anything is measured: the readers answer alike on every line that is read, so that the same work is compared.
 use crate::gate;
 use crate::readers::{rust, Lent};
-use crate::shapes::{Shape, GROWING, LENGTHS, SLOW};
+use crate::shapes::{Shape, GROWING, IDS, LENGTHS, SLOW};
 
 // Words of the record (docs/INTERFACE.md).
 const SECONDS: usize = 7;
@@ -54,6 +54,24 @@ fn shape(shape: &Shape, lengths: &[usize], strict: bool, lent: &mut Lent) -> Res
     Ok(())
 }
 
+/// A line of ids: both loose readers read it, as many elements as are told. So must the strict one where the ids differ; where they repeat, its answer is told.
+fn ids(shape: &Shape, lent: &mut Lent) -> Result<(), String> {
+    for &bytes in &LENGTHS[1..] {
+        let line = shape.line(bytes).ok_or(format!("{bytes} bytes have no room for '{}'", shape.name))?;
+        if !agreed(&line, 0, lent)? {
+            return Err(format!("no reading: {line}"));
+        }
+        let elements = lent.word(ELEMENTS);
+        let answer = match lent.strict(line.as_bytes()) {
+            0 => "read",
+            4 if !shape.is_varied() => "refused",
+            number => return Err(format!("the strict reader answers {number}: {line}")),
+        };
+        println!("answer {} {bytes} {answer}\nelements {} {bytes} {elements}", shape.name, shape.name);
+    }
+    Ok(())
+}
+
 /// Checks the file and all shapes, and says on standard output what was found, as rows of the results.
 pub fn check(text: &str) -> Result<(), String> {
     let mut lent = Lent::new();
@@ -66,6 +84,9 @@ pub fn check(text: &str) -> Result<(), String> {
     }
     for slow in &SLOW {
         shape(slow, &LENGTHS[1..], false, &mut lent)?;
+    }
+    for shape in &IDS {
+        ids(shape, &mut lent)?;
     }
     Ok(())
 }

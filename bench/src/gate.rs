@@ -4,6 +4,7 @@ use crate::random::Random;
 use std::fmt::Write;
 
 const SHORTEST: u64 = 90;
+const OURS: &str = "@32473";
 const STAGES: [&str; 7] = ["denylist", "antenna", "paddle", "tariff", "journal", "display", "uplink"];
 const MONTHS: [&str; 12] = ["Jan", "Feb", "Mar", "Apr", "May", "Jun", "Jul", "Aug", "Sep", "Oct", "Nov", "Dec"];
 const APPS: [&str; 4] = ["reader", "gatectl", "validator", "paddle-drive"];
@@ -12,15 +13,27 @@ const FARES: [&str; 5] = ["adult", "child", "day ticket", "staff", "Schüler"];
 const NOTES: [&str; 6] = ["tap ok", "tap refused: card on the deny list", "paddle opened", "clock set", "retry, antenna noisy", "Tür offen"];
 const FIRMWARE: [&str; 3] = ["4.2.1", "4.3.0 \\\"beta\\\"", "5.0.0-rc1"];
 
+/// How many elements a line of RFC 5424 has, for each of eight.
+const COUNTS: [usize; 8] = [0, 1, 1, 1, 2, 2, 2, 3];
+
 /// One element of structured data, with its parameters.
-fn element(r: &mut Random, text: &mut String) {
-    let stage = r.one(&STAGES);
-    match r.below(4) {
-        0 => write!(text, "[card@32473 kind=\"{}\" zone=\"{}-{}\"]", r.one(&FARES), r.below(3), 3 + r.below(5)),
-        1 => write!(text, "[fw@32473 version=\"{}\"]", r.one(&FIRMWARE)),
-        _ => write!(text, "[stage@32473 name=\"{stage}\" ms=\"{}\"]", r.below(400)),
+fn element(r: &mut Random, text: &mut String, id: &str) {
+    match id {
+        "card" => write!(text, "[{id}{OURS} kind=\"{}\" zone=\"{}-{}\"]", r.one(&FARES), r.below(3), 3 + r.below(5)),
+        "fw" => write!(text, "[{id}{OURS} version=\"{}\"]", r.one(&FIRMWARE)),
+        _ => write!(text, "[{id}{OURS} name=\"{}\" ms=\"{}\"]", r.one(&STAGES), r.below(400)),
     }
     .expect("a String takes all");
+}
+
+/// Up to three elements: an id stands once in a line.
+fn elements(r: &mut Random, text: &mut String, count: usize) {
+    let mut ids = vec!["stage", "stage", "card", "fw"];
+    for _ in 0..count {
+        let id = r.one(&ids);
+        ids.retain(|other| *other != id);
+        element(r, text, id);
+    }
 }
 
 /// Stages and how long each took, until the line has `target` bytes.
@@ -43,12 +56,9 @@ fn rfc5424(r: &mut Random, target: u64) -> String {
     let mut text = format!("<{pri}>1 2023-{month:02}-{day:02}T{}.{fraction}{zone}", clock(r));
     let app = r.one(&APPS);
     write!(text, " gate{} {app} {} {} ", 1 + r.below(40), 100 + r.below(9900), r.one(&EVENTS)).expect("a String takes all");
-    if r.below(8) == 0 {
-        text.push('-');
-    } else {
-        for _ in 0..1 + r.below(2) {
-            element(r, &mut text);
-        }
+    match COUNTS[r.below(8) as usize] {
+        0 => text.push('-'),
+        count => elements(r, &mut text, count),
     }
     text.push(' ');
     message(r, &mut text, target);
@@ -60,7 +70,7 @@ fn rfc3164(r: &mut Random, target: u64) -> String {
     let mut text = format!("<{pri}>{} {:2} {}", r.one(&MONTHS), 1 + r.below(28), clock(r));
     write!(text, " gate{} {}[{}]: ", 1 + r.below(40), r.one(&APPS), 100 + r.below(9900)).expect("a String takes all");
     if r.below(2) == 0 {
-        element(r, &mut text);
+        elements(r, &mut text, 1);
         text.push(' ');
     }
     message(r, &mut text, target);
@@ -84,7 +94,8 @@ fn is_5424(line: &str) -> bool {
     line.contains(">1 ")
 }
 
-pub const KINDS_OF_LINES: [&str; 3] = ["all", "3164", "5424"];
+/// `5424-N`: those of RFC 5424 with N elements.
+pub const KINDS_OF_LINES: [&str; 7] = ["all", "3164", "5424", "5424-0", "5424-1", "5424-2", "5424-3"];
 
 /// The lines of a kind and the variant that reads them: all with variant 0, those of one protocol with its own.
 pub fn of_kind<'a>(kind: &str, text: &'a str) -> Option<(u32, Vec<&'a str>)> {
@@ -93,6 +104,9 @@ pub fn of_kind<'a>(kind: &str, text: &'a str) -> Option<(u32, Vec<&'a str>)> {
         "all" => Some((0, lines.collect())),
         "3164" => Some((1, lines.filter(|l| !is_5424(l)).collect())),
         "5424" => Some((2, lines.filter(|l| is_5424(l)).collect())),
-        _ => None,
+        _ => {
+            let elements: usize = kind.strip_prefix("5424-")?.parse().ok()?;
+            Some((2, lines.filter(|l| is_5424(l) && l.matches(OURS).count() == elements).collect()))
+        }
     }
 }

@@ -1,7 +1,9 @@
 //! The driver of the bench: makes the file, checks it, reads it, and writes the documents. bench/run says what is called when.
 mod check;
 mod gate;
+mod ids;
 mod plot;
+mod price;
 mod random;
 mod readers;
 mod report;

@@ -1,4 +1,5 @@
 //! docs/BENCH.md, from the results.
+use crate::price::price;
 use crate::results::Results;
 use crate::shapes::{GROWING, LENGTHS, SLOW};
 use std::fmt::Write;
@@ -23,7 +24,7 @@ pub fn cost(n: f64) -> String {
     if n < 100.0 { format!("{n:.1}") } else { commas(n) }
 }
 
-fn add(page: &mut String, line: &str) {
+pub fn add(page: &mut String, line: &str) {
     page.push_str(line);
     page.push('\n');
 }
@@ -34,10 +35,10 @@ fn intro(results: &Results) -> Result<String, String> {
         "# What reading costs\n\n\
          `bench/run` makes {} lines as the readers of a gate send them (seed {}), reads them with syslog_loose (\"the Rust\") and with the archive (\"ours\"), and writes this page.\n\
          Counted are the instructions that the x86-64 program runs, as the difference of two run lengths, so that start-up is not in them. Both are optimised (opt-level 3; for the Rust, with link-time optimisation too in a column of its own), nothing\n\
-         is printed, and the tables are not cleared. Before that every line is read by both and compared. Our loose reader checks that the line is UTF-8; the Rust is given text that is known to be. The Rust allocates its lists; ours fills lent tables\n\
+         is printed, and the lent tables are not cleared. Before that every line is read by both and compared. Our loose reader checks that the line is UTF-8; the Rust is given text that is known to be. The Rust allocates its lists; ours fills lent tables\n\
          and writes the record's bytes.\n\n\
          Measured on a machine of the kind {}, against {}. The archive is {}.\n\n\
-         ![The three tables as a plot](bench.svg)\n\n",
+         ![Three of the tables as a plot](bench.svg)\n\n",
         commas(results.number(&["kind", "all"], 0)?),
         about("seed")?,
         about("machine")?,
@@ -137,7 +138,7 @@ fn functions(results: &Results) -> Result<String, String> {
 }
 
 pub fn page(results: &Results) -> Result<String, String> {
-    Ok(intro(results)? + &lines(results)? + &times(results)? + &growing(results)? + &slow(results)? + &functions(results)?)
+    Ok(intro(results)? + &lines(results)? + &times(results)? + &growing(results)? + &slow(results)? + &price(results)? + &functions(results)?)
 }
 
 /// The line that the bench ends with.

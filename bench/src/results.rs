@@ -1,12 +1,16 @@
 //! What bench/run measured: rows of words, the last of which is a number.
 //!
 //!     kind KIND LINES BYTES            what the file has
-//!     answer SHAPE BYTES read|refused  whether a shaped line has a reading
+//!     answer SHAPE BYTES read|refused  whether a shaped line has a reading; a strict one where its ids are asked for
+//!     before SHAPE BYTES read|refused  the same, by the archive of --before
+//!     elements SHAPE BYTES COUNT       how many elements a line of ids has
 //!     insns KIND READER COUNT          instructions of a pass over the lines of a kind
 //!     nanos KIND READER COUNT          the median of nine, where the machine runs the program itself
 //!     shape SHAPE BYTES READER COUNT   instructions of one reading
 //!     function KIND READER NAME COUNT  instructions of a pass in one function
 //!     about NAME WORDS..               the seed, the machine, the versions
+//!
+//! The readers are rust, loose and strict; rust-lto is the Rust with link-time optimisation, strict-before the strict one in the archive of --before.
 
 pub struct Results(Vec<Vec<String>>);
 

@@ -1,4 +1,5 @@
-//! Lines of a given length: those that grow in one place, and those made to be slow.
+//! Lines of a given length: those that grow in one place, those made to be slow, and those whose ids are slow to tell apart.
+use crate::ids;
 
 const HEAD: &str = "<134>1 2023-02-05T10:01:02.003Z gate7 reader 4211 TAP ";
 const OLD_HEAD: &str = "<134>Feb  5 10:01:02 gate7 ";
@@ -6,24 +7,49 @@ const OLD_HEAD: &str = "<134>Feb  5 10:01:02 gate7 ";
 /// The lengths that the growing lines are read at; the slow ones are read at the last two.
 pub const LENGTHS: [usize; 3] = [128, 1024, 8192];
 
-/// A line: `head`, then `unit` again and again, then `tail`; where a unit does not fit, the line is filled with the byte `fill` in front of the tail.
+/// What a line has again and again: one text, or the first of a list, all of one length.
+enum Units {
+    Same(&'static str),
+    List(fn(usize) -> Vec<String>),
+}
+
+impl Units {
+    /// As many as fit.
+    fn fitting(&self, room: usize) -> String {
+        match self {
+            Units::Same(text) => text.repeat(room / text.len()),
+            Units::List(first) => first(room / first(1)[0].len()).concat(),
+        }
+    }
+}
+
+/// A line: `head`, then `units`, then `tail`; where a unit does not fit, the line is filled with the byte `fill` in front of the tail.
 pub struct Shape {
     pub name: &'static str,
     pub what: &'static str,
     head: (&'static str, &'static str),
-    unit: &'static str,
+    units: Units,
     fill: char,
     tail: &'static str,
 }
 
 const fn shape(name: &'static str, what: &'static str, head: (&'static str, &'static str), unit: &'static str, fill: char, tail: &'static str) -> Shape {
-    Shape { name, what, head, unit, fill, tail }
+    Shape { name, what, head, units: Units::Same(unit), fill, tail }
+}
+
+/// A line of RFC 5424 whose structured data is of a list's elements.
+const fn listed(name: &'static str, what: &'static str, elements: fn(usize) -> Vec<String>) -> Shape {
+    Shape { name, what, head: (HEAD, ""), units: Units::List(elements), fill: ' ', tail: " x" }
+}
+
+fn stages(n: usize) -> Vec<String> {
+    (0..n).map(|i| format!("[st{i:03}@32473 name=\"paddle\" ms=\"31\"]")).collect()
 }
 
 /// Lines that grow in one place.
 pub const GROWING: [Shape; 3] = [
     shape("message", "RFC 5424, the message grows", (HEAD, "[stage@32473 name=\"denylist\" ms=\"212\"] "), "antenna 12 ms, ", 'x', ""),
-    shape("elements", "RFC 5424, the structured data grows", (HEAD, ""), "[stage@32473 name=\"paddle\" ms=\"31\"]", ' ', " x"),
+    listed("elements", "RFC 5424, the structured data grows", stages),
     shape("old", "RFC 3164, the message grows", (OLD_HEAD, "reader[42]: "), "antenna 12 ms, ", 'x', ""),
 ];
 
@@ -46,8 +72,18 @@ pub const SLOW: [Shape; 15] = [
     shape("old-late-brackets", "RFC 3164, `[a \" b=\"]` again and again", (OLD_HEAD, "reader[42]: "), "[a \" b=\"]", 'x', ""),
 ];
 
+/// Lines made to be slow for the strict reader, which asks that ids differ.
+pub const IDS: [Shape; 6] = [
+    listed("ids-in-order", "different ids of two bytes, in order", ids::in_order),
+    listed("ids-shuffled", "the same, shuffled", ids::shuffled),
+    listed("ids-late", "ids of 32 bytes that differ in the last two", ids::late),
+    listed("ids-middle", "ids of 32 bytes that differ in the two of the middle", ids::middle),
+    listed("ids-elsewhere", "ids of 32 bytes, `b` at another place in each of the first 32, the rest differ in the last two", ids::each_elsewhere),
+    shape("ids-same", "`[a]` again and again", (HEAD, ""), "[a]", ' ', " x"),
+];
+
 pub fn named(name: &str) -> Option<&'static Shape> {
-    GROWING.iter().chain(&SLOW).find(|s| s.name == name)
+    GROWING.iter().chain(&SLOW).chain(&IDS).find(|s| s.name == name)
 }
 
 impl Shape {
@@ -55,11 +91,16 @@ impl Shape {
         self.head.0 == HEAD
     }
 
+    /// Whether no unit stands in the line twice.
+    pub fn is_varied(&self) -> bool {
+        matches!(self.units, Units::List(_))
+    }
+
     /// The line of `len` bytes, if `len` has room for the shape.
     pub fn line(&self, len: usize) -> Option<String> {
         let head = format!("{}{}", self.head.0, self.head.1);
         let room = len.checked_sub(head.len() + self.tail.len())?;
-        let mut line = head + &self.unit.repeat(room / self.unit.len());
+        let mut line = head + &self.units.fitting(room);
         while line.len() + self.tail.len() < len {
             line.push(self.fill);
         }

@@ -56,7 +56,8 @@ impl Lines {
             42..=55 => self.good(line),
             56..=61 => self.near_limit(line),
             62 => self.long(line),
-            63..=74 => self.stamped(line),
+            63 => self.ids(line),
+            64..=74 => self.stamped(line),
             _ => {
                 self.good(line);
                 self.damage(line);
@@ -367,6 +368,46 @@ impl Lines {
         if self.random.one_in(4) {
             self.damage(line);
         }
+    }
+
+    /// The next line with a set of ids.
+    pub fn next_ids(&mut self, line: &mut Vec<u8>) -> (Settings, u64) {
+        line.clear();
+        self.ids(line);
+        (self.settings(), self.random.next())
+    }
+
+    /// A line of the strict grammar with a set of ids, few or many, that differ in some of their bytes; in half of the lines one of them comes again.
+    fn ids(&mut self, line: &mut Vec<u8>) {
+        const ALL: &[u8] = b"!#$%&'()*+,-./0123456789:;<>?@ABCXYZ[\\^_`abcxyz{|}~";
+        let most = self.random.of(&[30, 60, 120, 300, 300, 1500, LONGEST]);
+        let len = self.random.of(&[1, 2, 2, 3, 5, 31, 32]);
+        let letters: &[u8] = self.random.pick(&[&b"ab"[..], b"aA", b"abcdefghij", ALL]);
+        let free: Vec<bool> = (0..len).map(|_| self.random.one_in(2)).collect();
+        let (mut ids, mut size, mut misses) = (Vec::new(), 20, 0);
+        while size + len + 2 <= most && misses < 16 {
+            let mut id: Vec<u8> = free.iter().map(|&free| if free { self.random.of(letters) } else { letters[0] }).collect();
+            if self.random.one_in(8) {
+                id.truncate(1 + self.random.below(len));
+            }
+            misses += 1;
+            if !ids.contains(&id) {
+                size += id.len() + 2;
+                ids.push(id);
+                misses = 0;
+            }
+        }
+        if self.random.one_in(2) && !ids.is_empty() {
+            let again = ids[self.random.below(ids.len())].clone();
+            ids.insert(self.random.below(ids.len() + 1), again);
+        }
+        line.extend_from_slice(b"<13>1 - h a p m ");
+        for id in &ids {
+            line.push(b'[');
+            line.extend_from_slice(id);
+            self.put_or(line, &["]"], &[" a=\"1\"]", " a=\"1\" a=\"1\"]"]);
+        }
+        self.put(line, &["", " ", " x"]);
     }
 
     /// One to four wounds: flips, cuts, insertions, duplications, exchanges.

@@ -1,6 +1,6 @@
 //! The differential harness: the archive of the port beside the Rust crate, in one program, on the same inputs.
 //!
-//!     harness [--seed N] [--cases N] [--part I/N]     compares, and ends with one line
+//!     harness [--seed N] [--cases N] [--part I/N] [--lines KIND]     compares, and ends with one line
 //!     harness --replay N                              writes a list of N cases with the Rust's answers
 //!     harness --stored FOLDER                         compares the stored output of the program `cases`
 
@@ -32,12 +32,13 @@ struct Wanted {
     cases: u64,
     part: u64,
     parts: u64,
+    ids: bool,
     replay: Option<usize>,
     stored: Option<String>,
 }
 
 fn arguments() -> Result<Wanted, String> {
-    let mut wanted = Wanted { seed: 1, cases: 100_000, part: 0, parts: 1, replay: None, stored: None };
+    let mut wanted = Wanted { seed: 1, cases: 100_000, part: 0, parts: 1, ids: false, replay: None, stored: None };
     let mut args = std::env::args().skip(1);
     while let Some(name) = args.next() {
         let value = args.next().ok_or(format!("{name} asks for a value"))?;
@@ -46,6 +47,11 @@ fn arguments() -> Result<Wanted, String> {
             "--seed" => wanted.seed = number(&value)?,
             "--cases" => wanted.cases = number(&value)?,
             "--replay" => wanted.replay = Some(number(&value)? as usize),
+            "--lines" => match value.as_str() {
+                "all" => wanted.ids = false,
+                "ids" => wanted.ids = true,
+                _ => return Err(format!("--lines asks for all or ids, not '{value}'")),
+            },
             "--stored" => wanted.stored = Some(value),
             "--part" => {
                 let (part, parts) = value.split_once('/').ok_or("--part asks for I/N")?;
@@ -74,7 +80,7 @@ fn run(wanted: &Wanted, desk: &mut Desk) -> Option<(Shown, u64)> {
     let mut line = Vec::new();
     let (start, mut told) = (Instant::now(), Instant::now());
     while desk.counts.cases < wanted.cases {
-        let (settings, salt) = lines.next(&mut line);
+        let (settings, salt) = if wanted.ids { lines.next_ids(&mut line) } else { lines.next(&mut line) };
         let seen = catch_unwind(AssertUnwindSafe(|| desk.line(&line, settings, salt)));
         match seen {
             Ok(Ok(())) => {}

@@ -174,6 +174,12 @@ fn element(w: &mut Walk, answer: &mut Answer) -> Option<()> {
     w.byte(b']')
 }
 
+/// Each id beside each other one: no two are the same bytes (section 6.3.2).
+fn ids_differ(line: &[u8], ids: &[[usize; 2]]) -> bool {
+    let id = |row: &[usize; 2]| &line[row[0]..row[0] + row[1]];
+    ids.iter().enumerate().all(|(k, row)| ids[..k].iter().all(|earlier| id(earlier) != id(row)))
+}
+
 fn parts(w: &mut Walk, answer: &mut Answer) -> Option<()> {
     header(w, &mut answer.words)?;
     w.byte(b' ')?;
@@ -181,6 +187,9 @@ fn parts(w: &mut Walk, answer: &mut Answer) -> Option<()> {
         element(w, answer)?;
         while w.peek() == Some(b'[') {
             element(w, answer)?;
+        }
+        if !ids_differ(w.line, &answer.elements) {
+            return None;
         }
     }
     if w.at < w.line.len() {

@@ -4,7 +4,7 @@ use khamdoriem::{Offset, Refusal, Settings, Tables, Unescape, Variant, Year, MAX
 
 const SETTINGS: Settings = Settings::new(Variant::Either, Year::MIN, Offset::UTC);
 
-/// Three elements: the first and the last of one id, the second without parameters.
+/// Three elements: the first and the last of one id, which the loose reader takes, the second without parameters.
 const STAGES: &[u8] =
     br#"<13>1 - gate7 reader 42 TAP [stage@32473 name="radio" ms="31"][tap@32473][stage@32473 name="deny\"list\]" ms="212"] ok"#;
 
@@ -39,7 +39,7 @@ fn elements_of_rfc3164() {
 #[test]
 fn iterators_know_their_lengths() {
     let mut tables = Tables::new(3, 4);
-    let reading = tables.read_strict(STAGES).unwrap();
+    let reading = tables.read_exact(STAGES, SETTINGS).unwrap();
     let mut elements = reading.elements();
     let mut lengths = Vec::new();
     while let Some(element) = elements.next() {
@@ -69,7 +69,7 @@ fn no_elements() {
 #[test]
 fn lookup_finds_the_first() {
     let mut tables = Tables::new(3, 4);
-    let reading = tables.read_strict(STAGES).unwrap();
+    let reading = tables.read_exact(STAGES, SETTINGS).unwrap();
     let mut output = [0; 8];
     let mut look = |id: &[u8], name: &[u8]| reading.lookup(id, name, Unescape::Strict, &mut output).map(<[u8]>::to_vec);
     assert_eq!(look(b"stage@32473", b"ms"), Ok(b"31".to_vec()));
@@ -95,7 +95,7 @@ fn both_unescapings() {
 #[test]
 fn a_parameter_of_a_later_element_is_unescaped() {
     let mut tables = Tables::new(3, 4);
-    let reading = tables.read_strict(STAGES).unwrap();
+    let reading = tables.read_exact(STAGES, SETTINGS).unwrap();
     let second = reading.elements().filter(|e| e.id() == b"stage@32473").nth(1).unwrap();
     let name = second.params().next().unwrap();
     let mut output = [b'.'; 12];
@@ -121,7 +121,7 @@ fn unescaping_of_a_parameter_is_that_of_lookup() {
 #[test]
 fn an_output_one_short_is_left_alone() {
     let mut tables = Tables::new(3, 4);
-    let reading = tables.read_strict(STAGES).unwrap();
+    let reading = tables.read_exact(STAGES, SETTINGS).unwrap();
     let mut output = [b'.'; 5];
     assert_eq!(
         reading.lookup(b"stage@32473", b"name", Unescape::Strict, &mut output[..4]),
@@ -150,9 +150,37 @@ fn tables_for_any_line_take_the_lines_with_most() {
         (times, format!("{head}{}{tail}", unit.repeat(times)))
     };
     let (elements, line) = fill("<1>1 - - - - - ", "[a]", "");
-    assert_eq!(tables.read_strict(line.as_bytes()).unwrap().elements().len(), elements);
     assert_eq!(tables.read_exact(line.as_bytes(), SETTINGS).unwrap().elements().len(), elements);
     let (params, line) = fill("<1>1 - - - - - [a", " b=\"\"", "]");
     assert_eq!(tables.read_strict(line.as_bytes()).unwrap().params().len(), params);
     assert_eq!(tables.read_exact(line.as_bytes(), SETTINGS).unwrap().params().len(), params);
+}
+
+#[test]
+fn ids_of_a_strict_line_differ() {
+    let mut tables = Tables::for_any_line();
+    let mut count = |ids: &[String]| {
+        let line = format!("<1>1 - - - - - [{}]", ids.join("]["));
+        tables.read_strict(line.as_bytes()).map(|reading| reading.elements().len())
+    };
+    // As many as a line has room for, in each size of the reader's own tables: all different, and with the first again in place of the last.
+    let letters: Vec<char> = ('!'..='~').filter(|letter| !"=\"]".contains(*letter)).collect();
+    let ids: Vec<String> = (0..2044).map(|k| [letters[k / letters.len()], letters[k % letters.len()]].iter().collect()).collect();
+    for many in [1, 2, 8, 9, 64, 65, 512, 513, ids.len()] {
+        let mut some = ids[..many].to_vec();
+        assert_eq!(count(&some), Ok(many));
+        some.push(ids[0].clone());
+        if many < ids.len() {
+            assert_eq!(count(&some), Err(Refusal::NoReading));
+        }
+    }
+}
+
+#[test]
+fn one_id_twice_is_no_strict_reading() {
+    let mut tables = Tables::new(0, 0);
+    let mut refused = |line: &[u8]| tables.read_strict(line).err().unwrap();
+    assert_eq!(refused(br#"<13>1 - h a p m [t@32473 ms="1"][t@32473 ms="2"] x"#), Refusal::NoReading);
+    assert_eq!(refused(br#"<13>1 - h a p m [t@32473 ms="1"][T@32473 ms="2"] x"#), Refusal::TooManyElements);
+    assert_eq!(refused(br#"<13>1 - h a p m [t@32473 ms="1" ms="1"] x"#), Refusal::TooManyElements);
 }

@@ -11,11 +11,13 @@ use Rattle.grammar.specs.Parse.{Parsed}
 use Rattle.grammar.specs.Parse.Parsed.{failed, found}
 use Rattle.grammar.specs.Reading.{paramCount}
 use Rattle.elements.specs.Counts.{countsOf, tailOf}
-use Rattle.elements.specs.Sizes.{sizeOf, blockOf}
+use Rattle.elements.specs.Sizes.{sizeOf, blockOf, paramsIn, itemOf}
 use Rattle.elements.specs.declared.Size.{Size}
 use Rattle.elements.specs.declared.Size.the-variants.{Missing, Bytes}
 use Rattle.elements.specs.declared.Block.{Block}
 use Rattle.elements.specs.declared.Block.the-variants.{NoBlock, IsBlock}
+use Rattle.elements.specs.declared.Item.{Item}
+use Rattle.elements.specs.declared.Item.the-variants.{NoItem, IsItem}
 use Rattle.elements.specs.declared.Counts.{Counts}
 use Rattle.elements.specs.declared.Counts.the-variants.{NoData, IsData}
 use Rattle.elements.specs.declared.Tail.{Tail}
@@ -53,6 +55,21 @@ module _ {A : Type 0} (count : A → ℕ) (o : Parsed A) (g : Block) (e : g ≡ 
 
   pub misses-block : g ≡ NoBlock → o ≡ failed
   misses-block h = told (blockOf count) o g e (λ _ r. r) (λ a m q _. let z : true ≡ false = cc in clash z)
+
+-- ---- an element
+
+pub record FindsItem (o : Parsed Element) (n k d : ℕ) : Type 0 where
+  pub value : Element
+  pub is : o ≡ found value n
+  pub counted : k ≡ paramsIn value
+  pub named : d ≡ length (value .id)
+
+module _ (o : Parsed Element) (g : Item) (e : g ≡ itemOf o) where
+  pub finds-item : {n k d : ℕ} → g ≡ IsItem n k d → FindsItem o n k d
+  finds-item {n} {k} {d} h = told itemOf o g e (λ q _. let z : true ≡ false = cc in clash z) (λ a m q r. record { value = a; is = cc; counted = cc; named = cc })
+
+  pub misses-item : g ≡ NoItem → o ≡ failed
+  misses-item h = told itemOf o g e (λ _ r. r) (λ a m q _. let z : true ≡ false = cc in clash z)
 
 -- ---- the structured data
 

@@ -1,7 +1,7 @@
 -- The walks over parameters and over elements: their steps, and what they count.
 use Prim.Native.Nat.{ℕ, suc, _+_, _-_, _^_, _≤_, _<_}
 use mathlib.Core.Path.{_≡_, refl, sym, ap, ap₂, _∙_}
-use mathlib.Core.Bool.{Bool, true, false}
+use mathlib.Core.Bool.{Bool, true, false, not}
 use mathlib.Core.List.{List, [], _∷_, _++_, append-assoc, append-nil}
 use native.Mathlib.Omega.{arith}
 use native.Mathlib.Nat.{add-zero}
@@ -12,21 +12,29 @@ use mir.Val.{Fits}
 use borrow.Author.Tests.{eq-eqb, ne-eqb, le-leb, lt-leb}
 use Rattle.base.specs.Choose.{isAt}
 use Rattle.base.proofs.Parts.{ended, at-past}
+use Rattle.base.proofs.Tests.{clash}
 use Rattle.grammar.specs.Line.{Param, Element, eachThen, paramThen}
-use Rattle.grammar.specs.Parse.{Parsed, Reader, choose, closed, only, itemAnd, many, _next_, into, sdName, param, element, structured}
+use Rattle.grammar.specs.Parse.{Parsed, Reader, choose, closed, only, itemAnd, many, _next_, into, sdName, param, element, listed, idsDiffer, structured}
 use Rattle.grammar.specs.Parse.Parsed.{failed, found}
 use Rattle.grammar.specs.Reading.{paramCount}
 use Rattle.grammar.proofs.Readers.{found-within, closed-reads, many-end, many-item, many-failed, many-reads}
+use Rattle.grammar.specs.Abnf.{sdNameByte}
+use Rattle.grammar.proofs.Bytes.{repeat-reads}
 use Rattle.grammar.proofs.Data.{param-reads, element-reads, data-reads}
 use Rattle.elements.specs.Counts.{countsOf}
-use Rattle.elements.specs.Sizes.{sizeOf, blockOf, paramsIn}
+use Rattle.elements.specs.Filling.{elementsOf}
+use Rattle.elements.specs.Ids.{elementsIn, firstDiffer}
+use Rattle.elements.specs.Sizes.{sizeOf, blockOf, paramsIn, itemOf}
 use Rattle.elements.specs.declared.Size.{Size}
 use Rattle.elements.specs.declared.Size.the-variants.{Missing, Bytes}
 use Rattle.elements.specs.declared.Block.{Block}
 use Rattle.elements.specs.declared.Block.the-variants.{NoBlock, IsBlock}
+use Rattle.elements.specs.declared.Item.{Item}
+use Rattle.elements.specs.declared.Item.the-variants.{NoItem, IsItem}
 use Rattle.elements.specs.declared.Counts.{Counts}
 use Rattle.elements.specs.declared.Counts.the-variants.{NoData, IsData}
-use Rattle.elements.proofs.Answers.{finds, misses, FindsBlock, finds-block, misses-block, FindsData, finds-data, misses-data}
+use Rattle.elements.proofs.Answers.{finds, misses, finds-block, misses-block, FindsItem, finds-item, misses-item, FindsData, finds-data, misses-data}
+use Rattle.elements.proofs.Differing.{all-differ}
 use Rattle.elements.proofs.Pieces.{name-within}
 
 -- ---- items one after the other
@@ -142,13 +150,16 @@ pub ruleset params-laws = (params-start, params-out, params-close, params-other,
 
 -- ---- an element
 
+name-size : (s t : List ℕ) (n : ℕ) → sdName s ≡ found t n → n ≡ length t
+name-size s t n e = repeat-reads 32 sdNameByte .sound s t n e .size ∙ ap length (append-nil t)
+
 module _ (s : List ℕ) (g : Size) (eg : g ≡ sizeOf (sdName s)) where
-  pub element-no-name : g ≡ Missing → NoBlock ≡ blockOf paramsIn (element s)
+  pub element-no-name : g ≡ Missing → NoItem ≡ itemOf (element s)
   unfolding element into _next_
   element-no-name h = rw (misses (sdName s) g eg h)
 
   module _ (n : ℕ) (h : g ≡ Bytes n) (u : List ℕ) (eu : u ≡ drop n s) (b : Block) (eb : b ≡ blockOf length (closed (many 32 param) 93 u)) where
-    pub element-bad : b ≡ NoBlock → NoBlock ≡ blockOf paramsIn (element s)
+    pub element-bad : b ≡ NoBlock → NoItem ≡ itemOf (element s)
     unfolding element into _next_
     element-bad k = rw (finds (sdName s) g eg h .is, ← eu, misses-block length (closed (many 32 param) 93 u) b eb k)
 
@@ -161,11 +172,11 @@ module _ (s : List ℕ) (g : Size) (eg : g ≡ sizeOf (sdName s)) where
           let p = name-within s g n eg h in
           record { fits = omega arith }
 
-      pub element-is : IsBlock (n + m) c ≡ blockOf paramsIn (element s)
+      pub element-is : IsItem (n + m) c n ≡ itemOf (element s)
       unfolding element into _next_
       element-is =
           let f = finds-block length (closed (many 32 param) 93 u) b eb k in
-          rw (finds (sdName s) g eg h .is, ← eu, f .is) (ap (IsBlock (n + m)) (f .counted))
+          rw (finds (sdName s) g eg h .is, ← eu, f .is) (ap₂ (IsItem (n + m)) (f .counted) (name-size s (finds (sdName s) g eg h .value) n (finds (sdName s) g eg h .is)))
 
 pub ruleset element-laws = (name-within, element-no-name, element-bad, element-fits, element-is)
 
@@ -198,6 +209,10 @@ pub record Elements (s : List ℕ) (i n k : ℕ) : Type 0 where
 pub elements-start : (s : List ℕ) → Elements s 0 0 0
 elements-start s = record { items = []; passed = passed-none 91 element s; counted = refl; params-counted = refl; few = omega arith; params-below = omega arith }
 
+pub start-items : (s : List ℕ) → elements-start s .items ≡ []
+unfolding elements-start
+start-items s = refl
+
 module _ (s : List ℕ) (i n k : ℕ) (w : Elements s i n k) where
   ended-here : many 91 element s ≡ found (w .items) i → IsData i n k ≡ countsOf (many 91 element s)
   ended-here e = rw (e, w .counted, w .params-counted)
@@ -208,13 +223,13 @@ module _ (s : List ℕ) (i n k : ℕ) (w : Elements s i n k) where
   pub elements-other : (getD s i 0 ≡ 91 → ⊥) → IsData i n k ≡ countsOf (many 91 element s)
   elements-other e = ended-here (passed-other 90 element s (w .items) i (w .passed) e)
 
-  module _ (e : getD s i 0 ≡ 91) (u : List ℕ) (eu : u ≡ drop (i + 1) s) (g : Block) (eg : g ≡ blockOf paramsIn (element u)) where
-    pub elements-bad : g ≡ NoBlock → NoData ≡ countsOf (many 91 element s)
-    elements-bad h = rw (passed-bad 90 element s (w .items) i (w .passed) e (ap element (sym eu) ∙ misses-block paramsIn (element u) g eg h))
+  module _ (e : getD s i 0 ≡ 91) (u : List ℕ) (eu : u ≡ drop (i + 1) s) (g : Item) (eg : g ≡ itemOf (element u)) where
+    pub elements-bad : g ≡ NoItem → NoData ≡ countsOf (many 91 element s)
+    elements-bad h = rw (passed-bad 90 element s (w .items) i (w .passed) e (ap element (sym eu) ∙ misses-item (element u) g eg h))
 
-    module _ (m c : ℕ) (h : g ≡ IsBlock m c) (l : i < length s) where
-      here : FindsBlock paramsIn (element u) m c
-      here = finds-block paramsIn (element u) g eg h
+    module _ (m c n′ : ℕ) (h : g ≡ IsItem m c n′) (l : i < length s) where
+      here : FindsItem (element u) m c n′
+      here = finds-item (element u) g eg h
 
       elements-within : i + 1 + m ≤ length s
       elements-within =
@@ -245,18 +260,28 @@ module _ (s : List ℕ) (i n k : ℕ) (w : Elements s i n k) where
             params-below = let r = params-below-here in omega (arith, w .params-below);
           }
 
+      pub next-items : elements-next .items ≡ w .items ++ finds-item (element u) g eg h .value ∷ []
+      unfolding elements-next here
+      next-items = refl
+
 pub ruleset elements-laws = (elements-start, elements-out, elements-other, elements-bad, elements-fit, elements-params-fit, elements-fall, elements-next)
 
 -- ---- the structured data
 
+not-same : (a b : Bool) → not a ≡ not b → a ≡ b
+not-same true true e = refl
+not-same false false e = refl
+not-same true false e = clash (sym e)
+not-same false true e = clash e
+
 module _ (s : List ℕ) (t : Bool) (et : t ≡ isAt s 0 45) where
   pub data-nil : t ≡ true → IsData 1 0 0 ≡ countsOf (structured s)
-  unfolding structured choose
+  unfolding structured listed choose only
   data-nil h = rw (← et, h)
 
   module _ (h : t ≡ false) (g : Counts) (eg : g ≡ countsOf (many 91 element s)) where
     pub data-bad : g ≡ NoData → NoData ≡ countsOf (structured s)
-    unfolding structured choose only
+    unfolding structured listed choose only
     data-bad b = rw (← et, h, misses-data (many 91 element s) g eg b)
 
     module _ (m n k : ℕ) (b : g ≡ IsData m n k) where
@@ -264,18 +289,32 @@ module _ (s : List ℕ) (t : Bool) (et : t ≡ isAt s 0 45) where
       all-here = finds-data (many 91 element s) g eg b
 
       pub data-empty : n ≡ 0 → NoData ≡ countsOf (structured s)
-      unfolding structured choose only
+      unfolding structured listed choose only
       data-empty z =
           let f = all-here in
           rw (← et, h, f .is, lt-leb 1 (length (f .value)) (omega (arith, f .counted)))
 
-      pub data-is : (n ≡ 0 → ⊥) → IsData m n k ≡ countsOf (structured s)
-      unfolding structured choose only
-      data-is z =
-          let f = all-here in
-          rw (← et, h, f .is, le-leb 1 (length (f .value)) (omega (arith, f .counted))) (ap₂ (IsData m) (f .counted) (f .params-counted))
+      module _ (z : n ≡ 0 → ⊥) (r : Bool) (er : r ≡ firstDiffer n s) where
+        tells : (x : Bool) → not r ≡ not x → idsDiffer (all-here .value) ≡ x
+        tells x q =
+            let e : elementsIn s ≡ all-here .value = ap elementsOf (all-here .is) in
+            ap idsDiffer (sym e) ∙ sym (all-differ s g m n k eg b) ∙ sym er ∙ not-same r x q
 
-pub ruleset data-laws = (data-nil, data-bad, data-empty, data-is)
+        pub data-repeats : not r ≡ true → NoData ≡ countsOf (structured s)
+        unfolding structured listed choose only
+        data-repeats q =
+            let f = all-here in
+            let d = tells false q in
+            rw (← et, h, f .is, le-leb 1 (length (f .value)) (omega (arith, f .counted)), d)
+
+        pub data-is : not r ≡ false → IsData m n k ≡ countsOf (structured s)
+        unfolding structured listed choose only
+        data-is q =
+            let f = all-here in
+            let d = tells true q in
+            rw (← et, h, f .is, le-leb 1 (length (f .value)) (omega (arith, f .counted)), d) (ap₂ (IsData m) (f .counted) (f .params-counted))
+
+pub ruleset data-laws = (data-nil, data-bad, data-empty, data-repeats, data-is)
 
 -- what is counted lies within the text
 pub data-within : (s : List ℕ) (g : Counts) (m n k : ℕ) → g ≡ countsOf (structured s) → g ≡ IsData m n k → m ≤ length s

@@ -15,7 +15,7 @@ use Rattle.grammar.specs.Abnf.{sdNameByte}
 use Rattle.grammar.specs.Line.{Param, Element, eachThen, paramThen, elementThen, dataThen, Each, ParamOk, ElementOk}
 use Rattle.grammar.specs.Reading.{paramCount, elementRows, rowsOfParams, paramRows}
 use Rattle.grammar.proofs.Readers.{Front, text-length, found-within, many-reads}
-use Rattle.grammar.proofs.Data.{param-reads, data-reads}
+use Rattle.grammar.proofs.Data.{param-reads, data-reads, data-front}
 use Rattle.elements.specs.declared.Entry.{Entry}
 use Rattle.record.specs.Params.{rowOf, blank}
 use Rattle.elements.specs.declared.Step.{Step}
@@ -183,7 +183,7 @@ walk-start line at len e p w =
     record {
       behind = drop len (drop at line);
       left = start es;
-      ahead = start-ahead line at len es (data-reads .sound (drop at line) es len (w .data-found));
+      ahead = start-ahead line at len es (data-front (drop at line) es len (w .data-found));
       elements-in = rows-same (start-elements at es) (rows-none (elementRows at es) e (rw elements-many (w .elements-room)));
       params-in = rows-same (start-params at es) (rows-none (paramRows 0 at es) p (rw all-many (w .params-room)));
     }

@@ -3,3 +3,4 @@ pub mod Sizes
 pub mod Entries
 pub mod Steps
 pub mod Filling
+pub mod Ids

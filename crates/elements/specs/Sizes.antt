@@ -8,6 +8,8 @@ use Rattle.elements.specs.declared.Size.{Size}
 use Rattle.elements.specs.declared.Size.the-variants.{Missing, Bytes}
 use Rattle.elements.specs.declared.Block.{Block}
 use Rattle.elements.specs.declared.Block.the-variants.{NoBlock, IsBlock}
+use Rattle.elements.specs.declared.Item.{Item}
+use Rattle.elements.specs.declared.Item.the-variants.{NoItem, IsItem}
 
 abbrev pub sizeOf : {A : Type 0} → Parsed A → Size
 sizeOf failed = Missing
@@ -19,3 +21,8 @@ blockOf count (found a n) = IsBlock n (count a)
 
 abbrev pub paramsIn : Element → ℕ
 paramsIn e = length (e .params)
+
+-- an element: its bytes, its parameters and the bytes of its id
+abbrev pub itemOf : Parsed Element → Item
+itemOf failed = NoItem
+itemOf (found e n) = IsItem n (paramsIn e) (length (e .id))

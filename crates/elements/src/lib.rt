@@ -3,7 +3,7 @@ use record::Param;
 ghost use mathlib.Core.Path.{_≡_};
 ghost use mathlib.Core.Bool.{false};
 ghost use Prim.Native.Nat.{_+_, _≤_, _<_};
-ghost use lib.ListN.{length};
+ghost use lib.ListN.{length, set};
 ghost use Rattle.base.specs.Runs.{run};
 ghost use Rattle.base.specs.Fills.{filled};
 ghost use Rattle.record.specs.Params.{rows};
@@ -11,8 +11,9 @@ ghost use Rattle.grammar.specs.Abnf.{sdNameByte};
 ghost use Rattle.grammar.specs.Parse as parse;
 ghost use Rattle.grammar.specs.Reading.{elementRows, paramRows};
 ghost use Rattle.elements.specs.Counts.{countsOf, tailOf};
-ghost use Rattle.elements.specs.Sizes.{sizeOf, blockOf, paramsIn};
+ghost use Rattle.elements.specs.Sizes.{sizeOf, blockOf, itemOf};
 ghost use Rattle.elements.specs.Entries.{nameAt, valueAt, holding, entryAt, Lies};
+ghost use Rattle.elements.specs.Ids.{Noted, Noting, Listed, Rowed, elementsIn, Among, Spacious, firstDiffer};
 ghost use Rattle.elements.specs.Steps.{Stepping, stepOf, idsOf};
 ghost use Rattle.elements.specs.Filling.{elementsAt, Fillable};
 
@@ -43,6 +44,16 @@ enum Size {
 enum Block {
     NoBlock,
     IsBlock { len: usize, params: usize },
+}
+
+// An element: how many bytes and parameters, and how many bytes its id has.
+enum Item {
+    NoItem,
+    IsItem {
+        len: usize,
+        params: usize,
+        id: usize,
+    },
 }
 
 // How many bytes of a name stand in front.
@@ -188,24 +199,39 @@ fn params(s: &[u8]) -> Block
 }
 
 // An element, behind its '['.
-fn element(s: &[u8]) -> Block
-    ensures { λ r. ⌜ r ≡ blockOf paramsIn (parse.element (now (s .entry))) ⌝ }
+fn element(s: &[u8]) -> Item
+    ensures { λ r. ⌜ r ≡ itemOf (parse.element (now (s .entry))) ⌝ }
 {
     let Size::Bytes(n) = name(s) else {
-        return Block::NoBlock;
+        return Item::NoItem;
     };
     let Block::IsBlock { len, params } = params(base::past(s, n)) else {
-        return Block::NoBlock;
+        return Item::NoItem;
     };
-    Block::IsBlock {
+    Item::IsItem {
         len: n + len,
         params,
+        id: n,
     }
 }
 
-// The elements up to what is none.
-fn elements(s: &[u8]) -> Counts
+// The place of the id of element `k`, where the tables have an entry for it.
+fn note_id(starts: &mut [u16], lens: &mut [u8], k: usize, start: usize, len: usize)
+    requires { ⌜ Noted (now starts) (now lens) start len ⌝ }
+    ensures { λ _. ⌜ now (starts .exit) ≡ set (now (starts .entry)) k start ⌝ }
+    ensures { λ _. ⌜ now (lens .exit) ≡ set (now (lens .entry)) k len ⌝ }
+{
+    if k < starts.len() {
+        starts[k] = start as u16;
+        lens[k] = len as u8;
+    }
+}
+
+// The elements up to what is none, and the places of the first of their ids, as many as the tables have entries for.
+fn elements(s: &[u8], starts: &mut [u16], lens: &mut [u8]) -> Counts
+    requires { ⌜ Noting (now s) (now starts) (now lens) ⌝ }
     ensures { λ r. ⌜ r ≡ countsOf (parse.many 91 parse.element (now (s .entry))) ⌝ }
+    ensures { λ _. ⌜ Listed (now (s .entry)) (parse.many 91 parse.element (now (s .entry))) (now (starts .entry)) (now (lens .entry)) (now (starts .exit)) (now (lens .exit)) ⌝ }
 {
     let mut i = 0;
     let mut elements = 0;
@@ -220,9 +246,10 @@ fn elements(s: &[u8]) -> Counts
                 params: all,
             };
         }
-        let Block::IsBlock { len, params } = element(base::past(s, j)) else {
+        let Item::IsItem { len, params, id } = element(base::past(s, j)) else {
             return Counts::NoData;
         };
+        note_id(starts, lens, elements, j, id);
         i = j + len;
         elements += 1;
         all += params;
@@ -234,8 +261,86 @@ fn elements(s: &[u8]) -> Counts
     }
 }
 
+// Do the ids of the first `count` elements differ? Their places are noted in a second pass, and a tree of them is made, in tables that take all.
+fn noted_differ(
+    s: &[u8],
+    count: usize,
+    starts: &mut [u16],
+    lens: &mut [u8],
+    depths: &mut [u8],
+    kids: &mut [u16],
+) -> bool
+    requires { ⌜ Among (now s) count ⌝ }
+    requires { ⌜ Spacious count (now starts) (now lens) (now depths) (now kids) ⌝ }
+    ensures { λ r. ⌜ r ≡ firstDiffer count (now (s .entry)) ⌝ }
+{
+    elements(s, starts, lens);
+    distinct::first_repeat(s, starts, lens, count, depths, kids) == count
+}
+
+// The tables are on the stack and are cleared, so that each text pays for a size that fits it.
+fn some_differ(s: &[u8], count: usize) -> bool
+    requires { ⌜ Among (now s) count ⌝ }
+    requires { ⌜ count ≤ 64 ⌝ }
+    ensures { λ r. ⌜ r ≡ firstDiffer count (now (s .entry)) ⌝ }
+{
+    let mut starts = [0u16; 64];
+    let mut lens = [0u8; 64];
+    let mut depths = [0u8; 64];
+    let mut kids = [0u16; 320];
+    noted_differ(s, count, &mut starts, &mut lens, &mut depths, &mut kids)
+}
+
+fn many_differ(s: &[u8], count: usize) -> bool
+    requires { ⌜ Among (now s) count ⌝ }
+    requires { ⌜ count ≤ 512 ⌝ }
+    ensures { λ r. ⌜ r ≡ firstDiffer count (now (s .entry)) ⌝ }
+{
+    let mut starts = [0u16; 512];
+    let mut lens = [0u8; 512];
+    let mut depths = [0u8; 512];
+    let mut kids = [0u16; 1664];
+    noted_differ(s, count, &mut starts, &mut lens, &mut depths, &mut kids)
+}
+
+// An element has three bytes or more: no text of 8,192 bytes has more than 2,730.
+fn most_differ(s: &[u8], count: usize) -> bool
+    requires { ⌜ Among (now s) count ⌝ }
+    ensures { λ r. ⌜ r ≡ firstDiffer count (now (s .entry)) ⌝ }
+{
+    let mut starts = [0u16; 2730];
+    let mut lens = [0u8; 2730];
+    let mut depths = [0u8; 2730];
+    let mut kids = [0u16; 8318];
+    noted_differ(s, count, &mut starts, &mut lens, &mut depths, &mut kids)
+}
+
+// Do the ids of the first `count` elements differ, of which some are noted? Those are asked first, and most texts have no more. (A function that calls itself is
+// not drawn into its caller by the compiler, nor large tables into it: only texts with many elements pay for them.)
+fn ids_differ<'a>(s: &'a [u8], count: usize, starts: &'a [u16], lens: &'a [u8]) -> bool
+    requires { ⌜ Among (now s) count ⌝ }
+    requires { ⌜ Rowed (now s) (elementsIn (now s)) (now starts) (now lens) ⌝ }
+    ensures { λ r. ⌜ r ≡ firstDiffer count (now (s .entry)) ⌝ }
+{
+    let noted = starts.len();
+    if count <= noted {
+        return distinct::first_of_few(s, starts, lens, count) == count;
+    }
+    if !ids_differ(s, noted, starts, lens) {
+        return false;
+    }
+    if count <= 64 {
+        return some_differ(s, count);
+    }
+    if count <= 512 {
+        return many_differ(s, count);
+    }
+    most_differ(s, count)
+}
+
 // Reads the structured data at the front of a part, and counts what is in it.
 pub fn count_data(s: &[u8]) -> Counts
+    requires { ⌜ length (now s) ≤ 8192 ⌝ }
     ensures { λ r. ⌜ r ≡ countsOf (parse.structured (now (s .entry))) ⌝ }
 {
     if base::is_at(s, 0, 45) {
@@ -245,15 +350,20 @@ pub fn count_data(s: &[u8]) -> Counts
             params: 0,
         };
     }
+    let mut starts = [0u16; 8];
+    let mut lens = [0u8; 8];
     let Counts::IsData {
         len,
         elements,
         params,
-    } = elements(s)
+    } = elements(s, &mut starts, &mut lens)
     else {
         return Counts::NoData;
     };
     if elements == 0 {
+        return Counts::NoData;
+    }
+    if !ids_differ(s, elements, &starts, &lens) {
         return Counts::NoData;
     }
     Counts::IsData {

@@ -14,13 +14,16 @@ use Rattle.base.specs.Runs.{run}
 use Rattle.base.proofs.Tests.{clash, both, by-test}
 use Rattle.base.proofs.Parts.{at-cons, ended}
 use Rattle.base.proofs.Runs.{run-no}
+use Rattle.base.specs.Texts.{Distinct}
+use Rattle.base.proofs.Texts.{different-sound, different-complete}
 use Rattle.utf8.specs.Rfc3629.{Utf8}
 use Rattle.utf8.specs.Lead.{isUtf8}
 use Rattle.utf8.proofs.Texts.{utf8-sound, utf8-complete}
 use Rattle.grammar.specs.Abnf.{sdNameByte}
-use Rattle.grammar.specs.Line.{Param, Element, eachThen, paramThen, elementThen, dataThen, messageText, Escaped, ParamOk, Each, ElementOk, MessageOk}
-use Rattle.grammar.specs.Parse.{value, paramOf, param, elementOf, element, oneOrMore, structured, isMessage, atEnd, message}
-use Rattle.grammar.proofs.Readers.{Reads, Any, sides, joined, if-found, same-front, restate, retext, closed-reads, only-reads, into-reads, fields-reads, next-reads, next-any, always-reads, choose-reads, behind-reads, many-reads, ToEnd, into-to-end, only-to-end, choose-to-end}
+use Rattle.grammar.specs.Line.{Param, Element, eachThen, paramThen, elementThen, dataThen, messageText, Escaped, ParamOk, Each, ElementOk, idsOf, MessageOk}
+use Rattle.grammar.specs.Parse.{value, paramOf, param, elementOf, element, oneOrMore, listed, idsDiffer, structured, isMessage, atEnd, message}
+use Rattle.grammar.specs.Parse.Parsed.{found}
+use Rattle.grammar.proofs.Readers.{Front, Reads, Any, sides, joined, if-found, same-front, restate, retext, closed-reads, only-reads, into-reads, fields-reads, next-reads, next-any, always-reads, choose-reads, behind-reads, many-reads, ToEnd, into-to-end, only-to-end, choose-to-end}
 use Rattle.grammar.proofs.Bytes.{repeat-reads, quote-reads, left-reads, left-to-end}
 
 -- ---- STRUCTURED-DATA
@@ -65,9 +68,9 @@ some-or-no : (es : List Element) → Each ElementOk es → (es ≡ []) ⊎ (Each
 some-or-no [] h = inl refl
 some-or-no (e ∷ es) h = inr (h, le-leb 1 (suc (length es)) (omega arith))
 
-pub data-reads : Reads dataThen (Each ElementOk) (λ r. isAt r 0 91 ≡ false) structured
-unfolding structured
-data-reads =
+pub listed-reads : Reads dataThen (Each ElementOk) (λ r. isAt r 0 91 ≡ false) listed
+unfolding listed
+listed-reads =
     restate
     (choose-reads 44
     (always-reads (λ es r. drop 1 (dataThen es r)) [] (λ r. refl))
@@ -75,6 +78,16 @@ data-reads =
     (λ es r e. rw e) (λ es r h _. no-dash es r (h .1)))
     some-or-no
     (λ es. ⊎-elim (λ e. rw e tt) (λ h. h .0))
+
+pub data-reads : Reads dataThen (λ es. Each ElementOk es × Distinct (idsOf es)) (λ r. isAt r 0 91 ≡ false) structured
+unfolding structured
+data-reads =
+    restate (only-reads listed-reads idsDiffer)
+    (λ es h. (h .0, different-complete (idsOf es) (h .1))) (λ es h. (h .0, different-sound (idsOf es) (h .1)))
+
+-- what is read of the elements alone
+pub data-front : (s : List ℕ) (es : List Element) (n : ℕ) → structured s ≡ found es n → Front dataThen (Each ElementOk) s es n
+data-front s es n e = let f = data-reads .sound s es n e in record { ok = f .ok .0; split = f .split; size = f .size }
 
 -- ---- [SP MSG]
 

@@ -19,7 +19,7 @@ use Rattle.record.specs.declared.Protocol.the-variants.{Rfc5424}
 use Rattle.record.specs.declared.Level.the-variants.{Set}
 use Rattle.record.specs.declared.Stamp.the-variants.{Stamped}
 use Rattle.grammar.specs.Line.{Param, Element, Offset, Timestamp, Division, Each, Derives}
-use Rattle.grammar.specs.Parse.{Parsed, choose, closed, only, manyFrom, _next_, into, repeat, fixed, stop, untilQuote, allLeft, atEnd, pri, version, priVersion, date, clock, secfrac, zone, offset, full, timestamp, names, value, param, element, structured, message, header, parse}
+use Rattle.grammar.specs.Parse.{Parsed, choose, closed, only, manyFrom, _next_, into, repeat, fixed, stop, untilQuote, allLeft, atEnd, pri, version, priVersion, date, clock, secfrac, zone, offset, full, timestamp, names, value, param, element, listed, structured, message, header, parse}
 use Rattle.grammar.specs.Parse.Parsed.{failed, found}
 use Rattle.grammar.specs.Reading.{dataAt, recordOf, elementRows, paramRows}
 use Rattle.grammar.proofs.Lines.{parse-sound, none-derived}
@@ -40,7 +40,7 @@ divided (found d n) = some d
 
 -- what the parser finds, computed
 verdict : List ℕ → Option Division
-unfolding run leadOf utf8From decimalFrom validDate validTime monthDays leap choose closed only manyFrom _next_ into repeat fixed stop untilQuote allLeft atEnd pri version priVersion date clock secfrac zone offset full timestamp names value param element structured message header parse
+unfolding run leadOf utf8From decimalFrom validDate validTime monthDays leap choose closed only manyFrom _next_ into repeat fixed stop untilQuote allLeft atEnd pri version priVersion date clock secfrac zone offset full timestamp names value param element listed structured message header parse
 verdict line = divided (parse line)
 
 derived : (line : List ℕ) (p : Parsed Division) (o : Option Division) → parse line ≡ p → divided p ≡ o → Derived line o
@@ -158,7 +158,12 @@ strict =
     ∷ (bytes "<1>1 2024-02-29T00:00:00+24:00 - - - - -", none)
     ∷ (bytes "<1>1 2024-02-29T00:00:00-00:60 - - - - -", none)
     ∷ (bytes "<1>1 2024-02-29T00:00:00 - - - - -", none)
-    ∷ (bytes "<1>1 - - - - - [id a=\"x\\]y\" b=\"\"][id c=\"\\n\"]", data-of (group "id" (pair "a" "x\\]y" ∷ pair "b" "" ∷ []) ∷ group "id" (pair "c" "\\n" ∷ []) ∷ []) none)
+    ∷ (bytes "<1>1 - - - - - [id a=\"x\\]y\" b=\"\"][Id c=\"\\n\"]", data-of (group "id" (pair "a" "x\\]y" ∷ pair "b" "" ∷ []) ∷ group "Id" (pair "c" "\\n" ∷ []) ∷ []) none)
+    ∷ (bytes "<1>1 - - - - - [id a=\"x\\]y\" b=\"\"][id c=\"\\n\"]", none)
+    ∷ (bytes "<1>1 - - - - - [a][b][id x=\"1\" x=\"1\"]", data-of (group "a" [] ∷ group "b" [] ∷ group "id" (pair "x" "1" ∷ pair "x" "1" ∷ []) ∷ []) none)
+    ∷ (bytes "<1>1 - - - - - [a][b][a]", none)
+    ∷ (bytes "<1>1 - - - - - [t@32473][T@32473]", data-of (group "t@32473" [] ∷ group "T@32473" [] ∷ []) none)
+    ∷ (bytes "<1>1 - - - - - [x][t@32473][y][t@32473]", none)
     ∷ (bytes "<1>1 - - - - - [id a=\"x]y\"]", none)
     ∷ (bytes "<1>1 - - - - - [id a=\"x\\\"]", none)
     ∷ (bytes "<1>1 - - - - - [id a=\"\\\\\"]", data-of (group "id" (pair "a" "\\\\" ∷ []) ∷ []) none)

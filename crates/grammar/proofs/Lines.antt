@@ -32,7 +32,7 @@ parse-reads =
     divisionOf (λ d. (headerOf d, (d .elements, d .message))) lineThen (λ d. refl) (λ t r. refl)
     (λ d h. (
       ((h .prival-ok, h .version-ok), (h .timestamp-ok, (h .hostname-ok, (h .app-name-ok, (h .procid-ok, h .msgid-ok))))),
-      (h .elements-ok, h .message-ok),
+      ((h .elements-ok, h .ids-differ), h .message-ok),
     ))
     (λ t h.
     record {
@@ -44,7 +44,8 @@ parse-reads =
       app-name-ok = h .0 .1 .1 .1 .0;
       procid-ok = h .0 .1 .1 .1 .1 .0;
       msgid-ok = h .0 .1 .1 .1 .1 .1;
-      elements-ok = h .1 .0;
+      elements-ok = h .1 .0 .0;
+      ids-differ = h .1 .0 .1;
       message-ok = h .1 .1;
     })
 

@@ -3,10 +3,11 @@
 use Prim.Native.Nat.{ℕ, _≤_}
 use mathlib.Core.Path.{_≡_}
 use mathlib.Core.Bool.{Bool, true, false, _&&_, _||_}
-use mathlib.Core.List.{List, [], _∷_, _++_}
+use mathlib.Core.List.{List, [], _∷_, _++_, map}
 use mathlib.Core.Option.{Option, none, some}
 use lib.ListN.{length, getD}
 use lib.Dec.{eqb, ltb}
+use Rattle.base.specs.Texts.{Distinct}
 use Rattle.utf8.specs.Rfc3629.{Utf8}
 use Rattle.digits.specs.Digits.{decimal}
 use Rattle.calendar.specs.Calendar.{validDate, validTime}
@@ -185,10 +186,15 @@ abbrev pub Each : {A : Type 0} → (A → Type 0) → List A → Type 0
 Each P [] = Unit {0}
 Each P (a ∷ l) = P a × Each P l
 
--- SD-ID = SD-NAME                             Two elements may have one id.
+-- SD-ID = SD-NAME
 pub record ElementOk (e : Element) : Type 0 where
   pub id-ok : Repeat 1 32 sdNameByte (e .id)
   pub params-ok : Each ParamOk (e .params)
+
+-- The ids of the elements, in their order. "The same SD-ID MUST NOT exist more than once in a message" (6.3.2): they are pairwise different, byte for byte, so that
+-- `t` and `T` are two ids. The names of an element's parameters may repeat (6.3.3).
+abbrev pub idsOf : List Element → List (List ℕ)
+idsOf es = map (λ (e : Element). e .id) es
 
 -- MSG = MSG-ANY / MSG-UTF8                    MSG-ANY = *OCTET ; not starting with BOM
 -- MSG-UTF8 = BOM UTF-8-STRING                 BOM = %xEF.BB.BF
@@ -209,4 +215,5 @@ pub record Derives (line : List ℕ) (d : Division) : Type 0 where
   pub procid-ok : Repeat 1 128 printUsAscii (d .procid)
   pub msgid-ok : Repeat 1 32 printUsAscii (d .msgid)
   pub elements-ok : Each ElementOk (d .elements)
+  pub ids-differ : Distinct (idsOf (d .elements))
   pub message-ok : MessageOk (d .message)

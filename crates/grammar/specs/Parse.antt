@@ -8,11 +8,12 @@ use lib.ListN.{length, take, drop}
 use lib.Dec.{leb, eqb}
 use Rattle.base.specs.Choose.{if_then_else_, within, isAt}
 use Rattle.base.specs.Runs.{run}
+use Rattle.base.specs.Texts.{allDifferent}
 use Rattle.utf8.specs.Lead.{isUtf8}
 use Rattle.digits.specs.Digits.{decimal}
 use Rattle.calendar.specs.Calendar.{validDate, validTime}
 use Rattle.grammar.specs.Abnf.{isDigit, printUsAscii, sdNameByte}
-use Rattle.grammar.specs.Line.{Param, Element, Offset, Timestamp, Division, zeroLed, bare}
+use Rattle.grammar.specs.Line.{Param, Element, Offset, Timestamp, Division, zeroLed, bare, idsOf}
 
 -- What a reader finds at the front of a text: a value and how many bytes it took; or nothing that fits.
 pub data Parsed (A : Type 0) : Type 0 where
@@ -221,8 +222,15 @@ element = into elementOf (sdName next closed (many 32 param) 93)
 abbrev pub oneOrMore : List Element → Bool
 oneOrMore es = leb 1 (length es)
 
+-- the elements, whatever their ids are
+unfoldable pub listed : Reader (List Element)
+listed = choose 45 (always []) (only oneOrMore (many 91 element))
+
+abbrev pub idsDiffer : List Element → Bool
+idsDiffer es = allDifferent (idsOf es)
+
 unfoldable pub structured : Reader (List Element)
-structured = choose 45 (always []) (only oneOrMore (many 91 element))
+structured = only idsDiffer listed
 
 -- ---- [SP MSG]
 

@@ -19,7 +19,7 @@ use Rattle.suits.proofs.Suited.{tables-suited}
 use Rattle.lookup.specs.Unescape.{unescaped}
 use Rattle.lookup.specs.Lookup.{Found, Looks}
 use Rattle.lookup.specs.Steps.{foundAt, Finds, Gives}
-use Rattle.lookup.proofs.Compared.{part-text}
+use Rattle.base.proofs.Texts.{part-text}
 
 -- the value is known
 module _ (loose : Bool) (v out : List ℕ) (n : ℕ) (e : n ≡ length (unescaped loose v)) where

@@ -24,29 +24,13 @@ ghost use Rattle.lookup.specs.Lookup.{Found, idText, Looks};
 ghost use Rattle.lookup.specs.Steps.{adds, bytesOf, foundAt, Finds, Gives};
 ghost use Rattle.lookup.specs.Searches.{Asks, searchFrom, searchOf};
 
-fn same_text(a: &[u8], b: &[u8]) -> bool
-    ensures { λ r. ⌜ r ≡ sameText (now (a .entry)) (now (b .entry)) ⌝ }
-{
-    if a.len() != b.len() {
-        return false;
-    }
-    let mut i = 0;
-    while i < a.len() {
-        if a[i] != b[i] {
-            return false;
-        }
-        i += 1;
-    }
-    true
-}
-
 // Has the place that text?
 fn text_is(line: &[u8], start: usize, len: usize, text: &[u8]) -> bool
     requires { ⌜ start + len ≤ length (now line) ⌝ }
     ensures { λ r. ⌜ r ≡ sameText (textAt (now (line .entry)) start len) (now (text .entry)) ⌝ }
 {
     let end = start + len;
-    same_text(&line[start..end], text)
+    base::same_text(&line[start..end], text)
 }
 
 // Has element `k` the id? `same` says so of element `last`, so that an id is compared once for all its parameters.

@@ -78,7 +78,7 @@ data-found line d h =
     let ok = header-ok line d h in
     let a : length (headerThen (headerOf d) []) ≡ dataAt d = header-size (headerOf d) (d .elements) (d .message) ok in
     let q : drop (dataAt d) line ≡ t = ap₂ drop (sym a) (h .text) ∙ text-over header-reads (headerOf d) t ok in
-    ap structured q ∙ data-reads .complete (d .elements) (messageText (d .message)) (h .elements-ok) (no-bracket (d .message))
+    ap structured q ∙ data-reads .complete (d .elements) (messageText (d .message)) (h .elements-ok, h .ids-differ) (no-bracket (d .message))
 
 -- ---- the answers
 

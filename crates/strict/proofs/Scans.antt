@@ -140,3 +140,7 @@ module _ (s : List ℕ) (f : Heading) (e : f ≡ heading (header s)) where
         end-fits b = record { fits = omega (arith, within) }
 
 pub ruleset scan-laws = (header-within, prival-to, data-within, scan-no-header, scan-no-data, scan-no-tail, scan-none, scan-message, start-fits, end-fits)
+
+-- a part of a line is no longer than the line
+pub scan-short : (line u : List ℕ) (at : ℕ) → u ≡ drop at line → length line ≤ 8192 → length u ≤ 8192
+scan-short line u at e h = omega (arith, ap length e, length-drop at line)

@@ -13,6 +13,7 @@ use record::StrictReading;
 use record::StrictRecord;
 ghost use mathlib.Core.Path.{_≡_};
 ghost use Prim.Native.Nat.{_≤_};
+ghost use lib.ListN.{length};
 ghost use Rattle.grammar.specs.Parse as parse;
 ghost use Rattle.grammar.specs.Reading.{StrictReads};
 ghost use Rattle.record.specs.Params.{rows};
@@ -61,6 +62,7 @@ fn record_of(h: HeaderAt, message: Span, present: bool) -> StrictRecord
 
 // The first pass, which touches no table.
 fn scan_line(line: &[u8]) -> Scan
+    requires { ⌜ length (now line) ≤ 8192 ⌝ }
     ensures { λ r. ⌜ r ≡ scanOf (parse.parse (now (line .entry))) ⌝ }
 {
     let Heading::IsHeader(h) = header::read_header(line) else {

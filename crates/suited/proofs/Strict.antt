@@ -112,7 +112,7 @@ module _ (line : List ℕ) where
         let ok = header-ok line d h in
         let front = header-size (headerOf d) (d .elements) (d .message) ok in
         let rest = text-length header-reads (headerOf d) text ok in
-        let rows = text-length data-reads (d .elements) (messageText (d .message)) (h .elements-ok) in
+        let rows = text-length data-reads (d .elements) (messageText (d .message)) (h .elements-ok, h .ids-differ) in
         omega (arith, ap length (h .text))
 
     pub division-suits : Suited line (recordOf d .common) (elementRows (dataAt d) (d .elements)) (paramRows 0 (dataAt d) (d .elements))

@@ -1,5 +1,5 @@
 use borrow.Author.Needs.{needs}
-use Rattle.strict.proofs.Scans.{scan-laws, scan-none, scan-message}
+use Rattle.strict.proofs.Scans.{scan-laws, scan-none, scan-message, scan-short}
 use Rattle.strict.proofs.scan_line.Statement.{statement}
 use Rattle.strict.proofs.scan_line.Tie as tie
 
@@ -19,7 +19,7 @@ past-requires : tie.Need-past-requires
 past-requires c κs = search (scan-laws, needs)
 
 count-data-requires : tie.Need-count-data-requires
-count-data-requires c κs = search needs
+count-data-requires c κs = search (scan-short, needs)
 
 enum-known-len : tie.Need-enum-known-len
 enum-known-len c = search needs

@@ -1,0 +1,53 @@
+use borrow.Author.Needs.{needs}
+use Rattle.distinct.proofs.Ids.{parent-rows}
+use Rattle.distinct.proofs.depth_in.Statement.{statement}
+use Rattle.distinct.proofs.depth_in.Tie as tie
+
+returns : tie.Need-returns
+returns c = search needs
+
+shared-slice-read-d : tie.Need-shared-slice-read-d
+shared-slice-read-d c = search needs
+
+add-result : tie.Need-add-result
+add-result c = search needs
+
+returns-2 : tie.Need-returns-2
+returns-2 c = search needs
+
+returns-3 : tie.Need-returns-3
+returns-3 c = search needs
+
+id-of-requires : tie.Need-id-of-requires
+id-of-requires c κs = search needs
+
+id-of-requires-2 : tie.Need-id-of-requires-2
+id-of-requires-2 c κs = search (parent-rows, needs)
+
+common-len-requires : tie.Need-common-len-requires
+common-len-requires c κs = search needs
+
+mul-result : tie.Need-mul-result
+mul-result c = search needs
+
+cast-result : tie.Need-cast-result
+cast-result c = search needs
+
+returns-4 : tie.Need-returns-4
+returns-4 c = search needs
+
+pub depth-in-spec : {M : Type 1} → statement M
+depth-in-spec =
+    tie.close
+    (tie.spec
+    returns
+    shared-slice-read-d
+    add-result
+    returns-2
+    returns-3
+    id-of-requires
+    id-of-requires-2
+    common-len-requires
+    mul-result
+    cast-result
+    returns-4)
