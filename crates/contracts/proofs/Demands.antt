@@ -25,7 +25,7 @@ use Rattle.grammar.proofs.Readings.{strict-determined}
 use Rattle.contracts.specs.Services.{Service, Elements, Params, Lent}
 use Rattle.contracts.specs.Demands.{RefusedChangesNothing, Accepted, Derivable, Underivable, Holds, StrictCall, Demand3}
 
--- ---- demand 1
+-- ---- RULES Demands 1
 
 tables-kept : (r : Reading) (rows old : List (List ℕ)) → (answerOf r .number ≡ 0 → ⊥) → tableAfter r rows old ≡ old
 tables-kept (loose.Read x e p) rows old n = absurd (n refl)
@@ -52,7 +52,7 @@ refused-changes-nothing Service.strict i x h n = strict-kept h n
 refused-changes-nothing Service.print i x h n = ap Lent.output (h .output ∙ output-kept (x .answer) _ (i .output) n)
 refused-changes-nothing Service.lookup i x h n = ap Lent.output (h .output ∙ output-kept (x .answer) _ (i .printing .output) n)
 
--- ---- demand 3
+-- ---- RULES Demands 3
 
 -- an answer has one number
 apart : {A : Type 0} {r s t : StrictReading} → r ≡ s → r ≡ t → eqb (strictAnswerOf s .number) (strictAnswerOf t .number) ≡ false → A

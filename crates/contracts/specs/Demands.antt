@@ -14,13 +14,13 @@ use Rattle.grammar.specs.Line.{Division, Derives}
 use Rattle.grammar.specs.Reading.{dataAt, recordOf, paramCount, elementRows, paramRows, StrictReads}
 use Rattle.contracts.specs.Services.{Service, Elements, Params, Given, Result, number, Contract, before, after}
 
--- ---- demand 1, its last sentence
+-- ---- RULES Demands 1, its last words
 
 -- A refused call changes nothing it was lent.
 abbrev pub RefusedChangesNothing : Type 0
 RefusedChangesNothing = (s : Service) (i : Given s) (x : Result s) → Contract s i x → (number s x ≡ 0 → ⊥) → after s x ≡ before s i
 
--- ---- the numbers a caller may get back
+-- ---- RULES Numbers b
 
 -- 0 where the call is done; loose readers give 1 to 6 (fallback never 4), strict 1, 4, 5, 6, printing 1, 7, 8, lookup 1, 2, 7, 9, 8
 abbrev pub numbers : Service → List ℕ
@@ -38,13 +38,13 @@ among n (m ∷ l) = eqb n m || among n l
 abbrev pub NoOtherNumber : Type 0
 NoOtherNumber = (s : Service) (i : Given s) (x : Result s) → Contract s i x → among (number s x) (numbers s) ≡ true
 
--- ---- how much each contract must say
+-- ---- RULES Contracts 1
 
 -- Any two results that the contract allows of one call are equal: answer, record, counts, tables and output.
 abbrev pub OneResult : Service → Type 0
 OneResult s = (i : Given s) (x y : Result s) → Contract s i x → Contract s i y → x ≡ y
 
--- ---- the words of demand 3
+-- ---- the words of RULES Demands 3
 
 -- the one where the other is, and there only
 pub record Exactly (P Q : Type 0) : Type 0 where
@@ -76,7 +76,7 @@ pub record Holds (d : Division) (e₀ : Elements) (p₀ : Params) (r : StrictRea
   pub elements : e₁ ≡ filled (elementRows (dataAt d) (d .elements)) e₀
   pub params : p₁ ≡ filled (paramRows 0 (dataAt d) (d .elements)) p₀
 
--- ---- demand 3
+-- ---- RULES Demands 3
 
 -- of a call of the strict reader on a line, with tables that held e₀ and p₀, which answers r and leaves e₁ and p₁ in them
 pub record StrictCall (line : List ℕ) (e₀ : Elements) (p₀ : Params) (r : StrictReading) (e₁ : Elements) (p₁ : Params) : Type 0 where

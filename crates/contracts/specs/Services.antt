@@ -82,7 +82,7 @@ Result Service.strict = Tables StrictReading
 Result Service.print = Output
 Result Service.lookup = Output
 
--- 01's number: 0 where the call is done
+-- the number of RULES Numbers: 0 where the call is done
 abbrev pub number : (s : Service) → Result s → ℕ
 number Service.exact x = answerOf (x .answer) .number
 number Service.fallback x = answerOf (x .answer) .number

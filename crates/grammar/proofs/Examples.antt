@@ -1,4 +1,4 @@
--- Worked examples: RFC 5424 section 6.5, 01's strict lines, and what the reader answers to some of them.
+-- Worked examples: RFC 5424 section 6.5, the strict lines of RULES Cases, and what the reader answers to some of them.
 use Prim.Native.Nat.{ℕ}
 use Prim.Native.String.{String}
 use mathlib.Core.Path.{_≡_, refl}
@@ -116,7 +116,7 @@ rfc-examples : Holds rfc
 unfolding verdict rfc first second third fourth october august event priority mark
 rfc-examples = told rfc refl
 
--- ---- 01's strict rules
+-- ---- RULES Strict
 
 -- with the version 1 and nothing in the other fields
 abbrev data-of : List Element → Option (List ℕ) → Option Division

@@ -1,4 +1,4 @@
--- RFC 5424 section 6 with 01's strict rules, as a relation between a line and its division into fields.
+-- RFC 5424 section 6 (RULES Strict) as a relation between a line and its division into fields.
 -- `xThen f r` is the text of the field f, as the production above it lays it out, and then r.
 use Prim.Native.Nat.{ℕ, _≤_}
 use mathlib.Core.Path.{_≡_}

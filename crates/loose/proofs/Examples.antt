@@ -1,4 +1,4 @@
--- 01's line by line cases for the loose readers, and each refusal in its order, computed from the definitions.
+-- The lines of RULES Cases for the loose readers, and each refusal in its order, computed from the definitions.
 use Prim.Native.Nat.{ℕ}
 use mathlib.Core.Path.{_≡_, refl}
 use mathlib.Core.List.{List, [], _∷_, map}

@@ -20,7 +20,7 @@ use Rattle.stamps.specs.Stamps.{dateText, timeText, clockText, fractionText, of
 use Rattle.message.specs.Message.{priText, fieldText, paramText, paramsText, otherParams, openText, elementsText, headText, printed}
 use Rattle.message.specs.Prints.{answered}
 
--- 01's line, and its record at +60 in 2023
+-- the line of RULES Cases 10, and its record at +60 in 2023
 line : List ℕ
 line = bytes "<13>Feb  5 10:01:02 gate7 reader[42]: tap ok"
 

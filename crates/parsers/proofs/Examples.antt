@@ -1,4 +1,4 @@
--- 01's sentences on fields and blanks as worked examples, computed from the definitions.
+-- RULES Parsers as worked examples, computed from the definitions.
 use mathlib.Core.Path.{_≡_, refl}
 use mathlib.Core.List.{[], _∷_, _++_, map}
 use Rattle.base.specs.Bytes.{bytes}

@@ -15,7 +15,7 @@ use Rattle.record.specs.declared.Reading.the-variants.{Refused}
 use Rattle.record.specs.declared.StrictReading.the-variants as strict
 use Rattle.record.specs.declared.Written.the-variants as written
 
--- the cases in the order in which 01 checks them, and their numbers
+-- the cases in the order in which they are checked (RULES Numbers a), and their numbers
 numbers : map refusalNumber (LineTooLong ∷ BadSetting ∷ NotUtf8 ∷ NoReading ∷ TooManyElements ∷ TooManyParams ∷ Unsuitable ∷ NotFound ∷ OutputShort ∷ [])
     ≡ 1 ∷ 2 ∷ 3 ∷ 4 ∷ 5 ∷ 6 ∷ 7 ∷ 9 ∷ 8 ∷ []
 numbers = refl

@@ -1,4 +1,4 @@
-// What is read from a line: places, the record, the strict record; and the answers, with 01's refusals.
+// What is read from a line: places, the record, the strict record; and the answers, with their refusals.
 ghost use mathlib.Core.Path.{_≡_};
 ghost use Rattle.record.specs.Places.{absent, place};
 ghost use Rattle.record.specs.Params.{blank};
@@ -71,7 +71,7 @@ pub struct Param {
     pub value_len: usize,
 }
 
-// Why a call is refused, in the order in which 01 checks.
+// Why a call is refused, in the order in which it is checked (RULES Numbers).
 pub enum Refusal {
     LineTooLong,
     BadSetting,
@@ -102,7 +102,7 @@ pub enum Written {
     Refused(Refusal),
 }
 
-// The same answers as 01's number (0: done) and values.
+// The same answers as a number (0: done) and values.
 pub struct Answer {
     pub number: u32,
     pub reading: Record,

@@ -1,4 +1,4 @@
--- 01's lines, and what runs showed of the Rust, computed from the definitions.
+-- The lines of RULES Cases, and what runs showed of the Rust, computed from the definitions.
 use Prim.Native.Nat.{ℕ}
 use mathlib.Core.Path.{_≡_, refl}
 use mathlib.Core.List.{[], _∷_, map}

@@ -1,4 +1,4 @@
--- 01's sentences on RFC 5424 lines as worked examples, computed from the definition.
+-- RULES Rfc5424 as worked examples, computed from the definition.
 use Prim.Native.Nat.{ℕ}
 use mathlib.Core.Path.{_≡_, refl}
 use mathlib.Core.List.{List, [], _∷_, map}

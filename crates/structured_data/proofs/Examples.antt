@@ -1,4 +1,4 @@
--- 01's sentences on structured data as worked examples, computed from the definitions.
+-- RULES Data as worked examples, computed from the definitions.
 use Prim.Native.Nat.{ℕ}
 use mathlib.Core.Path.{_≡_, refl}
 use mathlib.Core.List.{List, [], _∷_, _++_, map}

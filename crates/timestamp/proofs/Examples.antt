@@ -1,4 +1,4 @@
--- 01's timestamps as worked examples, computed from the definitions.
+-- RULES Timestamp as worked examples, computed from the definitions.
 use Prim.Native.Nat.{ℕ}
 use mathlib.Core.Path.{_≡_, refl}
 use mathlib.Core.List.{[], _∷_, map}

@@ -1,4 +1,4 @@
--- Worked examples, computed from the definitions: the borders of every range of 01, and RFC 3629's own texts.
+-- Worked examples, computed from the definitions: the borders of every range of RULES Strict 16, and RFC 3629's own texts.
 use Prim.Native.Nat.{ℕ, suc, _-_}
 use mathlib.Core.Path.{_≡_, refl}
 use mathlib.Core.Bool.{Bool, true, false}
