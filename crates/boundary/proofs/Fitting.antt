@@ -13,12 +13,14 @@ use borrow.Author.Tests.{leb-true, ltb-false}
 use Rattle.base.specs.Diff.{up, down}
 use Rattle.base.proofs.Tests.{both}
 use Rattle.base.proofs.Diffs.{pos-sub, join-fits}
+use Rattle.calendar.specs.Calendar.{offsetLimit}
 use Rattle.calendar.specs.Instant.{epoch, localSeconds, secondsOf, shown}
 use Rattle.calendar.specs.declared.DateTime.{DateTime}
 use Rattle.calendar.specs.declared.Shown.the-variants.{At}
 use Rattle.calendar.proofs.Clocks.{local-below}
 use Rattle.calendar.proofs.Instants.{minus-diff, up-room, down-room}
 use Rattle.calendar.proofs.ThereAndBack.{there}
+use Rattle.record.specs.Limits.{lineLimit}
 use Rattle.record.specs.declared.Level.{Level}
 use Rattle.record.specs.declared.Level.the-variants.{Unset, Set}
 use Rattle.record.specs.declared.Stamp.{Stamp}
@@ -36,7 +38,7 @@ level-in most (Set n) m h = omega (arith, leb-true n most h)
 
 -- ---- the timestamp
 
-offset-in : (o : ℤ) → natAbs o ≤ 1439 → SFits w32 o
+offset-in : (o : ℤ) → natAbs o ≤ offsetLimit → SFits w32 o
 offset-in (pos n) h = record { sfits = omega arith }
 offset-in (negsuc n) h = record { sfits = omega arith }
 
@@ -72,7 +74,7 @@ record-in line r e p elements params h = suited.record-in line r (both (recordSu
 
 pub left-in : {line : List ℕ} {r : Record} {e p : ℕ} {elements params : List (List ℕ)} → Left line r e p elements params → InTypes r e p
 left-in {line} {r} {e} {p} {elements} {params} left =
-    let short : length line ≤ 8192 = ltb-false 8192 (length line) (left-short left) in
+    let short : length line ≤ lineLimit = ltb-false lineLimit (length line) (left-short left) in
     let i = record-in line r e p elements params (left-suits left) in
     let s = left-sized short left in
     record {

@@ -1,11 +1,7 @@
 // Runs the cases of standard input and writes each answer in words. A case is a line: `E` or `F` for an exact or a fallback reading with
 // variant, year and offset, `S` for a strict one; then, behind one space, the line that is read.
 use libc::STDIN_FILENO;
-use libc::STDOUT_FILENO;
-
-fn say(text: &[u8]) -> bool {
-    io::write_all(STDOUT_FILENO, text)
-}
+use replayer::words::say;
 
 fn show(text: &[u8], fallback: bool) {
     let s = replayer::case::settings(text, 2, fallback);

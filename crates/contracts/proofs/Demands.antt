@@ -7,6 +7,7 @@ use lib.ListN.{length}
 use lib.Dec.{eqb}
 use borrow.Author.Tests.{eq-eqb}
 use Rattle.base.proofs.Tests.{clash}
+use Rattle.record.specs.Limits.{lineLimit}
 use Rattle.record.specs.Answers.{answerOf, strictAnswerOf, outputAnswerOf}
 use Rattle.record.specs.declared.StrictReading.{StrictReading}
 use Rattle.record.specs.declared.StrictReading.the-variants as strict
@@ -71,14 +72,14 @@ module _ {line : List ℕ} {e₀ : Elements} {p₀ : Params} {r : StrictReading}
       let q = strict-determined call (accepted (f .division) (f .short) (f .derived) (f .elements-fit) (f .params-fit) refl refl refl) in
       record { answer = q .0; elements = q .1; params = q .2 }
 
-  no-reading : StrictReads line e₀ p₀ r e₁ p₁ → r ≡ strict.Refused NoReading → (length line ≤ 8192) × Underivable line
+  no-reading : StrictReads line e₀ p₀ r e₁ p₁ → r ≡ strict.Refused NoReading → (length line ≤ lineLimit) × Underivable line
   no-reading (too-long l a b c) q = apart a q refl
   no-reading (underivable l h a b c) q = (l, h)
   no-reading (elements-over d l h m a b c) q = apart a q refl
   no-reading (params-over d l h k m a b c) q = apart a q refl
   no-reading (accepted d l h k m a b c) q = apart a q refl
 
-  longer : StrictReads line e₀ p₀ r e₁ p₁ → r ≡ strict.Refused LineTooLong → 8192 < length line
+  longer : StrictReads line e₀ p₀ r e₁ p₁ → r ≡ strict.Refused LineTooLong → lineLimit < length line
   longer (too-long l a b c) q = l
   longer (underivable l h a b c) q = apart a q refl
   longer (elements-over d l h m a b c) q = apart a q refl
@@ -93,7 +94,7 @@ module _ {line : List ℕ} {e₀ : Elements} {p₀ : Params} {r : StrictReading}
         holds-the-one = λ w d h.
             let f = derivable call w in
             subst (λ (c : Division). Holds c e₀ p₀ r e₁ p₁) (unambiguous line (f .division) d (f .derived) h) (holds call f);
-        at-most-8192 = record { only = longer call; whenever = λ l. strict-determined call (too-long l refl refl refl) .0 };
+        limit-exactly = record { only = longer call; whenever = λ l. strict-determined call (too-long l refl refl refl) .0 };
       }
 
 pub demand-3 : Demand3

@@ -6,6 +6,7 @@ use mathlib.Core.List.{List, [], _∷_}
 use lib.Dec.{eqb}
 use lib.ListN.{length}
 use Rattle.base.specs.Fills.{filled}
+use Rattle.record.specs.Limits.{lineLimit}
 use Rattle.record.specs.declared.StrictReading.{StrictReading}
 use Rattle.record.specs.declared.StrictReading.the-variants.{Read, Refused}
 use Rattle.record.specs.declared.StrictRecord.{StrictRecord}
@@ -62,7 +63,7 @@ pub record Accepted (r : StrictReading) : Type 0 where
 pub record Derivable (line : List ℕ) (e₀ : Elements) (p₀ : Params) : Type 0 where
   pub division : Division
   pub derived : Derives line division
-  pub short : length line ≤ 8192
+  pub short : length line ≤ lineLimit
   pub elements-fit : length (division .elements) ≤ length e₀
   pub params-fit : paramCount (division .elements) ≤ length p₀
 
@@ -83,11 +84,11 @@ pub record StrictCall (line : List ℕ) (e₀ : Elements) (p₀ : Params) (r : S
   -- It accepts exactly what the grammar derives,
   pub accepts-exactly : Exactly (Accepted r) (Derivable line e₀ p₀)
   -- and refuses as no reading exactly what the grammar does not derive.
-  pub refuses-exactly : Exactly (r ≡ Refused NoReading) ((length line ≤ 8192) × Underivable line)
+  pub refuses-exactly : Exactly (r ≡ Refused NoReading) ((length line ≤ lineLimit) × Underivable line)
   -- The record and the tables hold the one division there is.
   pub holds-the-one : Accepted r → (d : Division) → Derives line d → Holds d e₀ p₀ r e₁ p₁
   -- A line has at most 8,192 bytes: a longer one, and no other, is refused as too long.
-  pub at-most-8192 : Exactly (r ≡ Refused LineTooLong) (8192 < length line)
+  pub limit-exactly : Exactly (r ≡ Refused LineTooLong) (lineLimit < length line)
 
 pub record Demand3 : Type 0 where
   -- No line has two divisions.

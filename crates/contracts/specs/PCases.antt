@@ -16,8 +16,8 @@ use Rattle.pri.specs.Pri.{priAt}
 use Rattle.structured_data.specs.declared.Rules.the-variants.{Rfc5424Rules}
 use Rattle.structured_data.specs.Data.{Item, itemFrom}
 use Rattle.structured_data.specs.Data.Item.{taken, skipped, ended}
-use Rattle.structured_data.specs.Outcome.{Outcome}
-use Rattle.structured_data.specs.Outcome.Outcome.{noReading, isReading}
+use Rattle.draft.specs.Outcome.{Outcome}
+use Rattle.draft.specs.Outcome.Outcome.{noReading, isReading}
 use Rattle.loose.specs.Loose.{outcomeOf}
 use Rattle.message.specs.Message.{elementsText, printed}
 use Rattle.grammar.specs.Line.{Division, timestampThen, dataThen, Each, Derives}

@@ -25,7 +25,7 @@ use Rattle.record.specs.declared.StrictReading.{StrictReading}
 use Rattle.record.specs.declared.StrictReading.the-variants as strict
 use Rattle.record.specs.declared.Refusal.{Refusal}
 use Rattle.layout.specs.Layout.{recordBytes, strictBytes}
-use Rattle.structured_data.specs.Outcome.{Outcome}
+use Rattle.draft.specs.Outcome.{Outcome}
 use Rattle.grammar.specs.Reading.{StrictReads}
 use Rattle.grammar.specs.Reading.StrictReads.{too-long, underivable, elements-over, params-over, accepted}
 use Rattle.loose.specs.Loose.{outcomeOf, orWhole, answered, tableAfter, rowsOf, Reads, ReadsExact, ReadsFallback}

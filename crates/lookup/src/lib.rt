@@ -11,9 +11,10 @@ ghost use Prim.Native.Nat.{_+_, _≤_, _<_};
 ghost use lib.Dec.{eqb, ltb};
 ghost use lib.ListN.{length, getD, take};
 ghost use Rattle.base.specs.Choose.{if_then_else_};
+ghost use Rattle.record.specs.Limits.{lineLimit};
 ghost use Rattle.record.specs.Params.{rows};
 ghost use Rattle.record.specs.declared.Written.the-variants.{Refused};
-ghost use Rattle.record.specs.declared.Refusal.the-variants.{LineTooLong, BadSetting, Unsuitable};
+ghost use Rattle.record.specs.declared.Refusal.the-variants.{LineTooLong, BadSetting};
 ghost use Rattle.base.specs.Fills.{filled};
 ghost use Rattle.base.specs.Texts.{textAt, sameText};
 ghost use Rattle.output.specs.Fits.{Fits};
@@ -264,24 +265,18 @@ fn give_by(line: &[u8], value: Place, kind: u32, out: &mut [u8]) -> Written
 
 // Refusals 1 and 2, of a line of `n` bytes.
 fn is_early(n: usize, kind: u32) -> bool
-    ensures { λ b. ⌜ b ≡ (ltb 8192 n || ltb 1 kind) ⌝ }
+    ensures { λ b. ⌜ b ≡ (ltb lineLimit n || ltb 1 kind) ⌝ }
 {
-    (8192 < n) | (1 < kind)
+    (record::LINE_LIMIT < n) | (1 < kind)
 }
 
 fn early(n: usize) -> Written
-    ensures { λ w. ⌜ w ≡ (if ltb 8192 n then Refused LineTooLong else Refused BadSetting) ⌝ }
+    ensures { λ w. ⌜ w ≡ (if ltb lineLimit n then Refused LineTooLong else Refused BadSetting) ⌝ }
 {
-    if 8192 < n {
+    if record::LINE_LIMIT < n {
         return Written::Refused(Refusal::LineTooLong);
     }
     Written::Refused(Refusal::BadSetting)
-}
-
-fn unsuitable() -> Written
-    ensures { λ w. ⌜ w ≡ Refused Unsuitable ⌝ }
-{
-    Written::Refused(Refusal::Unsuitable)
 }
 
 pub fn lookup(
@@ -306,5 +301,5 @@ pub fn lookup(
         let value = find(line, element_count, param_count, elements, params, id, name);
         return give_by(line, value, kind, out);
     }
-    unsuitable()
+    suits::unsuitable()
 }

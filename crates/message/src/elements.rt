@@ -7,10 +7,11 @@ use record::Param;
 ghost use mathlib.Core.Path.{_≡_};
 ghost use mathlib.Core.Bool.{true};
 ghost use mathlib.Core.List.{_++_};
-ghost use Prim.Native.Nat.{_+_, _-_, _≤_, _<_};
+ghost use Prim.Native.Nat.{_+_, _-_, _*_, _≤_, _<_};
 ghost use lib.ListN.{length, getD, take, drop};
 ghost use Rattle.base.specs.Bytes.{bytes};
 ghost use Rattle.base.specs.Texts.{textAt};
+ghost use Rattle.record.specs.Limits.{lineLimit};
 ghost use Rattle.record.specs.Params.{rowOf};
 ghost use Rattle.suits.specs.Suits.{elementsSuit, paramSuits};
 ghost use Rattle.output.specs.Fits.{Fits};
@@ -62,7 +63,7 @@ pub fn elements_room(room: usize, ids: &[[usize; 2]]) -> Room
 }
 
 pub fn param_room(room: Room, p: Param) -> Room
-    requires { ⌜ p .«name_len» + p .«value_len» ≤ 16384 ⌝ }
+    requires { ⌜ p .«name_len» + p .«value_len» ≤ 2 * lineLimit ⌝ }
     ensures { λ r. ⌜ r ≡ roomAfter room (paramSize (rowOf p)) ⌝ }
 {
     let Room::Left(left) = room else {

@@ -13,6 +13,7 @@ ghost use Prim.Native.Nat.{_+_, _*_, _≤_};
 ghost use lib.ListN.{length};
 ghost use Rattle.base.specs.Bytes.{bytes};
 ghost use Rattle.base.specs.Texts.{textAt};
+ghost use Rattle.record.specs.Limits.{lineLimit};
 ghost use Rattle.suits.specs.Suits.{recordSuits};
 ghost use Rattle.output.specs.Fits.{Fits, Sized};
 ghost use Rattle.output.specs.Output.{Wrote};
@@ -102,9 +103,9 @@ fn put_place(out: &mut [u8], at: usize, line: &[u8], p: Place) -> usize
 }
 
 fn place_len(line: &[u8], p: Place) -> usize
-    requires { ⌜ length (now line) ≤ 8192 ⌝ }
+    requires { ⌜ length (now line) ≤ lineLimit ⌝ }
     requires { ⌜ p .start + p .len ≤ length (now line) ⌝ }
-    ensures { λ n. ⌜ Sized (placeText (now (line .entry)) p) 8192 n ⌝ }
+    ensures { λ n. ⌜ Sized (placeText (now (line .entry)) p) lineLimit n ⌝ }
 {
     if p.present {
         return text_at(line, p.start, p.len).len();
@@ -159,9 +160,9 @@ fn put_head(out: &mut [u8], line: &[u8], r: Record) -> usize
 }
 
 fn head_len(line: &[u8], r: Record) -> usize
-    requires { ⌜ length (now line) ≤ 8192 ⌝ }
+    requires { ⌜ length (now line) ≤ lineLimit ⌝ }
     requires { ⌜ recordSuits (now line) r ≡ true ⌝ }
-    ensures { λ n. ⌜ Sized (headText (now (line .entry)) r) 8252 n ⌝ }
+    ensures { λ n. ⌜ Sized (headText (now (line .entry)) r) (lineLimit + 60) n ⌝ }
 {
     let timestamp = r.timestamp;
     let host = r.host;
@@ -223,10 +224,10 @@ fn put_names(out: &mut [u8], at: usize, line: &[u8], r: Record) -> usize
 }
 
 fn tag_len(line: &[u8], app: Place, procid: Place) -> usize
-    requires { ⌜ length (now line) ≤ 8192 ⌝ }
+    requires { ⌜ length (now line) ≤ lineLimit ⌝ }
     requires { ⌜ app .start + app .len ≤ length (now line) ⌝ }
     requires { ⌜ procid .start + procid .len ≤ length (now line) ⌝ }
-    ensures { λ n. ⌜ Sized (tagText (now (line .entry)) app procid) 16388 n ⌝ }
+    ensures { λ n. ⌜ Sized (tagText (now (line .entry)) app procid) (2 * lineLimit + 4) n ⌝ }
 {
     if !app.present {
         return 2;
@@ -238,9 +239,9 @@ fn tag_len(line: &[u8], app: Place, procid: Place) -> usize
 }
 
 fn names_len(line: &[u8], r: Record) -> usize
-    requires { ⌜ length (now line) ≤ 8192 ⌝ }
+    requires { ⌜ length (now line) ≤ lineLimit ⌝ }
     requires { ⌜ recordSuits (now line) r ≡ true ⌝ }
-    ensures { λ n. ⌜ Sized (namesText (now (line .entry)) r (r .protocol)) 24579 n ⌝ }
+    ensures { λ n. ⌜ Sized (namesText (now (line .entry)) r (r .protocol)) (3 * lineLimit + 3) n ⌝ }
 {
     let app = r.app;
     let procid = r.procid;
@@ -266,9 +267,9 @@ pub fn put_front(out: &mut [u8], line: &[u8], r: Record) -> usize
 }
 
 pub fn front_len(line: &[u8], r: Record) -> usize
-    requires { ⌜ length (now line) ≤ 8192 ⌝ }
+    requires { ⌜ length (now line) ≤ lineLimit ⌝ }
     requires { ⌜ recordSuits (now line) r ≡ true ⌝ }
-    ensures { λ n. ⌜ Sized (headText (now (line .entry)) r ++ namesText (now (line .entry)) r (r .protocol)) 32831 n ⌝ }
+    ensures { λ n. ⌜ Sized (headText (now (line .entry)) r ++ namesText (now (line .entry)) r (r .protocol)) (4 * lineLimit + 63) n ⌝ }
 {
     head_len(line, r) + names_len(line, r)
 }

@@ -3,8 +3,11 @@ ghost use mathlib.Core.Path.{_≡_};
 ghost use Rattle.record.specs.Places.{absent, place};
 ghost use Rattle.record.specs.Params.{blank};
 ghost use Rattle.record.specs.Refusals.{refusalNumber};
-ghost use Rattle.record.specs.Records.{emptyRecord, emptyStrict};
+ghost use Rattle.record.specs.Records.{messageAlone, emptyRecord, emptyStrict};
 ghost use Rattle.record.specs.Answers.{answerOf, strictAnswerOf, outputAnswerOf};
+
+// How many bytes a line may have.
+pub const LINE_LIMIT: usize = 8192;
 
 // A text of the line. An absent one has start and length 0; an empty one is present.
 pub struct Place {
@@ -156,8 +159,9 @@ pub fn blank() -> Param
     }
 }
 
-pub fn empty_record() -> Record
-    ensures { λ r. ⌜ r ≡ emptyRecord ⌝ }
+// The first `len` bytes of the line as the message, and nothing else.
+pub fn message_alone(len: usize) -> Record
+    ensures { λ r. ⌜ r ≡ messageAlone len ⌝ }
 {
     let none = absent();
     Record {
@@ -169,8 +173,14 @@ pub fn empty_record() -> Record
         app: none,
         procid: none,
         msgid: none,
-        message: Span { start: 0, len: 0 },
+        message: Span { start: 0, len },
     }
+}
+
+pub fn empty_record() -> Record
+    ensures { λ r. ⌜ r ≡ emptyRecord ⌝ }
+{
+    message_alone(0)
 }
 
 pub fn empty_strict() -> StrictRecord

@@ -1,6 +1,6 @@
 // Replays a list of the Rust's answers: each line of standard input is a call and what it must answer. Writes what was compared, and each case that differs.
 use libc::STDIN_FILENO;
-use libc::STDOUT_FILENO;
+use replayer::words::say_number;
 ghost use mathlib.Core.Path.{_≡_};
 ghost use Prim.Native.Nat.{_≤_};
 ghost use lib.ListN.{length};
@@ -36,16 +36,6 @@ fn looks(text: &[u8]) -> bool {
 
 fn one_more(n: u64) -> u64 {
     if n < u64::MAX { n + 1 } else { n }
-}
-
-fn say(text: &[u8]) -> bool {
-    io::write_all(STDOUT_FILENO, text)
-}
-
-fn say_number(before: &[u8], n: u64, behind: &[u8]) {
-    say(before);
-    io::print_decimal(STDOUT_FILENO, n);
-    say(behind);
 }
 
 // Is the case as it should be?

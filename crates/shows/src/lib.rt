@@ -1,20 +1,11 @@
 // A case in words: the call, and each thing that its answer has, a line each.
-use libc::STDOUT_FILENO;
+use replayer::words::say;
+use replayer::words::say_number;
 use tables::answers::Settings;
 use tables::answers::printing;
 use tables::answers::reading;
 use tables::answers::strict_reading;
 use tables::answers::up_to;
-
-fn say(text: &[u8]) -> bool {
-    io::write_all(STDOUT_FILENO, text)
-}
-
-fn say_number(before: &[u8], n: u64, behind: &[u8]) {
-    say(before);
-    io::print_decimal(STDOUT_FILENO, n);
-    say(behind);
-}
 
 // Number `i` of the answer; 0 past its end.
 fn at(numbers: &[u64], i: usize) -> u64 {

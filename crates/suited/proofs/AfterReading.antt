@@ -9,6 +9,7 @@ use lib.IntN.{ℤ}
 use borrow.Author.Tests.{eqb-false}
 use Rattle.base.specs.Choose.{if_then_else_}
 use Rattle.base.proofs.Tests.{by-if}
+use Rattle.record.specs.Limits.{lineLimit}
 use Rattle.record.specs.Answers.{outputAnswerOf}
 use Rattle.record.specs.declared.Record.{Record}
 use Rattle.record.specs.declared.Reading.the-variants as loose
@@ -49,7 +50,7 @@ value-other kind Found.nothing out = refl
 value-other kind (Found.value v) out = short-other (ltb out (length (unescaped kind v))) (length (unescaped kind v))
 
 module _ {line : List ℕ} {r : Record} {e p : ℕ} {elements params : List (List ℕ)} where
-  pub left-short : Left line r e p elements params → ltb 8192 (length line) ≡ false
+  pub left-short : Left line r e p elements params → ltb lineLimit (length line) ≡ false
   left-short (Left.by-exact {variant} {year} {offset} {e₀} {p₀} h) = reading-short line e₀ p₀ elements params variant year offset _ h
   left-short (Left.by-fallback {variant} {year} {offset} {e₀} {p₀} h) = reading-short line e₀ p₀ elements params variant year offset _ h
   left-short (Left.by-strict h q) = division.reading-short h

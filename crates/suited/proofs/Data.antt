@@ -11,13 +11,12 @@ use Rattle.base.specs.Runs.{run}
 use Rattle.base.proofs.Parts.{at-below}
 use Rattle.base.proofs.Runs.{run-le}
 use Rattle.base.proofs.Tests.{both, by-if}
-use Rattle.parsers.specs.Steps.{isBlank}
+use Rattle.parsers.specs.Steps.{isBlank, isInside}
 use Rattle.structured_data.specs.Param.{paramAt}
 use Rattle.structured_data.specs.Element.{Params, Element, idLen, paramAnd, moreParams, paramsFrom, elementFrom}
 use Rattle.structured_data.specs.Element.Element.{noElement, isElement}
 use Rattle.structured_data.specs.Data.{Rows, Item, itemOf, itemFrom, itemAnd, elementsFrom, Data, dataFrom, rowsOr}
 use Rattle.structured_data.specs.Data.Item.{taken, skipped, ended}
-use Rattle.structured_data.specs.Steps.{isInside}
 use Rattle.structured_data.specs.declared.Param.{Param}
 use Rattle.structured_data.specs.declared.Param.the-variants.{NoParam, IsParam}
 use Rattle.structured_data.specs.declared.Rules.{Rules}

@@ -1,16 +1,15 @@
 -- `elements::name_run` meets its contract. The invariant: the run is what was passed and the run of the rest. Assumes nothing.
-use Prim.Native.Nat.{_+_, _-_, _≤_}
-use mathlib.Core.Path.{_≡_}
-use lib.ListN.{length, drop}
+use Prim.Native.Nat.{_-_}
+use lib.ListN.{length}
 use borrow.Author.Needs.{needs}
 use Rattle.base.specs.Runs.{run}
-use Rattle.base.proofs.Runs.{run-on, run-off, run-out}
+use Rattle.base.proofs.Runs.{Runs, runs-laws}
 use Rattle.grammar.specs.Abnf.{sdNameByte}
 use Rattle.elements.proofs.name_run.Statement.{statement}
 use Rattle.elements.proofs.name_run.Tie as tie
 
 abbrev Inv-loop : tie.InvT-loop
-Inv-loop s i₀ i = (i ≤ length s) × (run sdNameByte s ≡ i + run sdNameByte (drop i s))
+Inv-loop s i₀ i = Runs sdNameByte s (run sdNameByte s) i
 
 abbrev μ-loop : tie.MeasureT-loop
 μ-loop s i₀ i = length s - i
@@ -28,13 +27,13 @@ loop-less : tie.Need-loop-less Inv-loop μ-loop
 loop-less c = search needs
 
 loop-again : tie.Need-loop-again Inv-loop μ-loop
-loop-again c = search (run-on sdNameByte, needs)
+loop-again c = search (runs-laws, needs)
 
 returns : tie.Need-returns Inv-loop μ-loop
-returns c = search (run-off sdNameByte, needs)
+returns c = search (runs-laws, needs)
 
 returns-2 : tie.Need-returns-2 Inv-loop μ-loop
-returns-2 c = search (run-out sdNameByte, needs)
+returns-2 c = search (runs-laws, needs)
 
 pub name-run-spec : {M : Type 1} → statement M
 name-run-spec =

@@ -25,10 +25,10 @@ use Rattle.lookup.proofs.give_by.Kinds as Gk
 use Rattle.lookup.proofs.give_by.Reads as Gr
 use Rattle.lookup.proofs.give_by.Symbol as Gs
 use Rattle.lookup.proofs.give_by.Met as Gm
-use Rattle.lookup.proofs.unsuitable.Kinds as Uk
-use Rattle.lookup.proofs.unsuitable.Reads as Ur
-use Rattle.lookup.proofs.unsuitable.Symbol as Us
-use Rattle.lookup.proofs.unsuitable.Met as Um
+use Rattle.suits.proofs.unsuitable.Kinds as Uk
+use Rattle.suits.proofs.unsuitable.Reads as Ur
+use Rattle.suits.proofs.unsuitable.Symbol as Us
+use Rattle.suits.proofs.unsuitable.Met as Um
 
 module _ (w : World) where
   -- the context, by the rows of the record and of the place that is found
@@ -51,7 +51,7 @@ module _ (w : World) where
       calls 2 Gk.ps Gk.r Gr.Asked Gr.Learnt Gs.name (Gr.known w code.env Gs.name Gs.routine code.calls-lookup·give-by (Gm.met (w .𝓤) (w .H) (w .𝓜) (w .𝓖) (w .𝓡))) (0 ∷ 6 ∷ []) (by-shr bytes 0 tt 1 0 lend refl (by-val C.place 12 held refl (by-num w32 9 (sc i32) refl (by-mut bytes 1 tt 16 lent refl none)))) 0 gone (tt, (tt, tt)) refl ▹
       finish 6 refl ▸ back bytes 16 10 5 6 (lease (κs .1 .1 .1 .1 .1 .0) (qs .1 .1 .1 .1 .1 .0)) same same refl refl ▸ lose 6 refl ▸ room 12 (struct C.place refl) ▸ room 2 (struct S.fields refl) ▸ room 3 (over i64) ▸ room 4 (over i64) ▸ room 9 (over i32) ▸ returns tt) (
       room 14 (over sBool) ▸ nexts tt)) (
-      calls 0 Uk.ps Uk.r Ur.Asked Ur.Learnt Us.name (Ur.known w code.env Us.name Us.routine code.calls-lookup·unsuitable (Um.met (w .𝓤) (w .H) (w .𝓜) (w .𝓖) (w .𝓡))) [] none 0 gone tt refl ▹ room 2 (struct S.fields refl) ▸ room 3 (over i64) ▸ room 4 (over i64) ▸ room 9 (over i32) ▸ returns tt))
+      calls 0 Uk.ps Uk.r Ur.Asked Ur.Learnt Us.name (Ur.known w code.env Us.name Us.routine code.calls-suits·unsuitable (Um.met (w .𝓤) (w .H) (w .𝓜) (w .𝓖) (w .𝓡))) [] none 0 gone tt refl ▹ room 2 (struct S.fields refl) ▸ room 3 (over i64) ▸ room 4 (over i64) ▸ room 9 (over i32) ▸ returns tt))
 
   laid : Laid C.lookup w code.env Key.name 1 code.function derived
   laid κs qs a good pre bs =

@@ -1,7 +1,7 @@
 use borrow.Author.Needs.{needs}
-use Rattle.timestamp.proofs.Forms.{colon-laws}
-use Rattle.timestamp.proofs.colon_from.Statement.{statement}
-use Rattle.timestamp.proofs.colon_from.Tie as tie
+use Rattle.parsers.proofs.Steps.{colon-laws}
+use Rattle.parsers.proofs.colon_from.Statement.{statement}
+use Rattle.parsers.proofs.colon_from.Tie as tie
 
 is-at-requires : tie.Need-is-at-requires
 is-at-requires c κs = search needs

@@ -1,6 +1,6 @@
 use borrow.Author.Needs.{needs}
-use Rattle.message.proofs.unsuitable.Statement.{statement}
-use Rattle.message.proofs.unsuitable.Tie as tie
+use Rattle.suits.proofs.unsuitable.Statement.{statement}
+use Rattle.suits.proofs.unsuitable.Tie as tie
 
 returns : tie.Need-returns
 returns c = search needs

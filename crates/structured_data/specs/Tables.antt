@@ -1,20 +1,16 @@
--- What the code keeps of the structured data before the tables are filled; and what the rules give of a line: no reading, or the record, the
--- position of the structured data, and the rows of both tables.
+-- The rows of structured data as the code keeps them: counted, and then stored into tables. (For private contracts alone.)
 use Prim.Native.Nat.{ℕ, _≤_}
 use mathlib.Core.Path.{_≡_}
 use mathlib.Core.List.{List}
 use lib.ListN.{length}
 use Rattle.base.specs.Fills.{filled}
-use Rattle.record.specs.declared.Record.{Record}
-use Rattle.structured_data.specs.Data.{Rows, Data, dataFrom, rowsOr}
+use Rattle.structured_data.specs.Data.{Data, dataFrom, rowsOr}
 use Rattle.structured_data.specs.Data.Data.{noData, isData}
 use Rattle.structured_data.specs.declared.Rules.{Rules}
 use Rattle.structured_data.specs.declared.Counts.{Counts}
 use Rattle.structured_data.specs.declared.Counts.the-variants.{NoData, IsData}
-use Rattle.structured_data.specs.declared.Draft.{Draft}
-use Rattle.structured_data.specs.declared.Draft.the-variants.{NoDraft, IsDraft}
 
--- the counts for the rows
+-- their counts, and the position after them
 abbrev pub countsOf : Data → Counts
 countsOf noData = NoData
 countsOf (isData rows) = IsData (length (rows .elements)) (length (rows .params)) (rows .next)
@@ -30,12 +26,3 @@ pub record Room (rules : Rules) (s : List ℕ) (at e p : ℕ) (elements params :
 pub record Fills (rules : Rules) (s : List ℕ) (at : ℕ) (e₀ p₀ e₁ p₁ : List (List ℕ)) : Type 0 where
   pub elements : e₁ ≡ filled (rowsOr at (dataFrom rules s at) .elements) e₀
   pub params : p₁ ≡ filled (rowsOr at (dataFrom rules s at) .params) p₀
-
-pub data Outcome : Type 0 where
-  noReading : Outcome
-  isReading : (read : Record) (at : ℕ) (rows : Rows) → Outcome
-
--- the same for the line
-abbrev pub draftOf : Outcome → Draft
-draftOf Outcome.noReading = NoDraft
-draftOf (Outcome.isReading r at rows) = IsDraft r at (length (rows .elements)) (length (rows .params))
