@@ -4,11 +4,13 @@ use mathlib.Core.List.{[], _∷_, _++_, map}
 use Rattle.base.specs.Bytes.{bytes}
 use Rattle.base.specs.Runs.{run}
 use Rattle.utf8.specs.Lead.{leadOf, wellFormed, charLen}
+use Rattle.utf8.specs.Characters.{charRun}
 use Rattle.white.specs.White.{isWhite, codePoint, whiteLen}
 use Rattle.white.specs.Trim.{fieldLen}
 use Rattle.digits.specs.Digits.{decimalFrom, numberAt}
 use Rattle.record.specs.Places.{absent, place}
 use Rattle.parsers.specs.Parsers.{plainAt, hostAt, tagLen, tagAt}
+use Rattle.parsers.specs.Characters.{tagOf}
 use Rattle.parsers.specs.Steps.{blanksFrom, someBlanksFrom, byteFrom, numberFrom, plainFrom, hostFrom, tagFrom}
 use Rattle.parsers.specs.declared.Text.the-variants.{Fails, Absent, Given}
 use Rattle.parsers.specs.declared.Num.the-variants.{NoNum, IsNum}
@@ -60,3 +62,8 @@ numbers : map (λ t. numberFrom t 1) (bytes "x" ∷ bytes "x7 " ∷ bytes "x007:
     ≡ NoNum ∷ IsNum 7 2 ∷ IsNum 7 4 ∷ IsNum 4294967295 11 ∷ NoNum ∷ NoNum ∷ []
 unfolding numberFrom numberAt decimalFrom run
 numbers = refl
+
+-- by characters: é before a `:`; a before U+3000
+tags-by-characters : map tagOf (((0xC3 ∷ 0xA9 ∷ []) ∷ (58 ∷ []) ∷ []) ∷ ((0x61 ∷ []) ∷ (0xE3 ∷ 0x80 ∷ 0x80 ∷ []) ∷ []) ∷ []) ≡ 2 ∷ 1 ∷ []
+unfolding charRun isWhite codePoint
+tags-by-characters = refl

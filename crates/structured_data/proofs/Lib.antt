@@ -11,5 +11,6 @@ pub mod Turning
 pub mod Counting
 pub mod Filling
 pub mod Examples
+pub mod ByCharacters
 pub mod Within
 pub mod Contracts

@@ -3,3 +3,4 @@ pub mod Element
 pub mod Data
 pub mod Tables
 pub mod Steps
+pub mod Characters

@@ -50,6 +50,7 @@ whole-suits line (isReading r at rows) h = h
 record Passed (line : List ℕ) (variant year : ℕ) (offset : ℤ) (A : Type 0) : Type 0 where
   short : ltb lineLimit (length line) ≡ false
   settings : settingsOk variant year offset ≡ true
+  text : isUtf8 line ≡ true
   is : A
 
 -- the outcome of a reading that is done
@@ -91,10 +92,13 @@ module _ {r : Record} {e p : ℕ} where
         let long = past (ltb lineLimit (length line)) _ _ (sym (h .answer)) in
         let bad = past (not (settingsOk variant year offset)) _ _ (long .1) in
         let text = past (not (isUtf8 line)) _ _ (bad .1) in
-        record { short = long .0; settings = not-false _ (bad .0); is = text .1 }
+        record { short = long .0; settings = not-false _ (bad .0); text = not-false _ (text .0); is = text .1 }
 
     pub reading-short : ltb lineLimit (length line) ≡ false
     reading-short = passes .short
+
+    pub reading-utf8 : isUtf8 line ≡ true
+    reading-utf8 = passes .text
 
     pub reading-judged : Judged o r e p
     reading-judged = judged-is o (length e₀) (length p₀) (passes .is)

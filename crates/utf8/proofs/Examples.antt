@@ -1,9 +1,10 @@
 -- Worked examples, computed from the definitions: the borders of every range of RULES Strict 16, and RFC 3629's own texts.
 use Prim.Native.Nat.{ℕ, suc, _-_}
 use mathlib.Core.Path.{_≡_, refl}
-use mathlib.Core.Bool.{Bool, true, false}
+use mathlib.Core.Bool.{Bool, true, false, not}
 use mathlib.Core.List.{List, [], _∷_, _++_, map}
 use Rattle.utf8.specs.Lead.{leadOf, wellFormed, charLen, utf8From, isUtf8}
+use Rattle.utf8.specs.Characters.{isChar, charRun}
 
 -- the answer for each byte, with `front` before it and `back` behind it
 abbrev between : List ℕ → List ℕ → List ℕ → List Bool
@@ -104,3 +105,14 @@ lengths : map charLen
     ≡ 0 ∷ 1 ∷ 2 ∷ 3 ∷ 4 ∷ 0 ∷ 0 ∷ 0 ∷ 0 ∷ 0 ∷ 0 ∷ []
 unfolding leadOf wellFormed charLen
 lengths = refl
+
+-- the characters before the first `:`, in bytes: none, é before it, it first, a and € with none
+runs : map (charRun (λ c. not (isChar 58 c)))
+    ([]
+    ∷ ((0xC3 ∷ 0xA9 ∷ []) ∷ (0x3A ∷ []) ∷ (0x61 ∷ []) ∷ [])
+    ∷ ((0x3A ∷ []) ∷ (0xC3 ∷ 0xA9 ∷ []) ∷ [])
+    ∷ ((0x61 ∷ []) ∷ (0xE2 ∷ 0x82 ∷ 0xAC ∷ []) ∷ [])
+    ∷ [])
+    ≡ 0 ∷ 2 ∷ 0 ∷ 4 ∷ []
+unfolding charRun
+runs = refl
