@@ -123,3 +123,17 @@ cases : (map read
     × (map (λ n. answered (replicate n 97) 3 2023 (pos 60) noReading 0 0) (8192 ∷ 8193 ∷ []) ≡ Refused BadSetting ∷ Refused LineTooLong ∷ [])
 unfolding outcomeOf byVariant utf8From trimmed textEnd whiteFrom whiteLen codePoint isWhite charLen wellFormed leadOf run fieldLen decimalFrom numberAt fixedAt fractionAt leap monthDays validDate validTime valid yearDays daysBeforeYear daysOfMonths dayNumber localSeconds secondsOf spanFrom yearOf monthOf clockOf shown priAt plainAt hostAt tagLen tagAt someBlanksFrom byteFrom numberFrom plainFrom hostFrom tagFrom namedFrom monthNumber monthFrom clockFrom fixedFrom eitherFrom dateFrom timeFrom nanosFrom minutesFrom zoneFrom endFrom fullFrom rfc3339From dayFrom withoutYear withYear rfc3164From quotedLen paramAt idLen moreParams paramsFrom elementFrom itemFrom elementsFrom dataFrom splitAt splitOf hostAndTag spacedHost spacedTag tagEnd bodyFrom rfc3164 blankHost blankPlain startFrom fourFrom bodyFrom5424 rfc5424
 cases = (refl, refl, refl, refl, refl)
+
+-- a line that is the message, written out
+whole-line : whole 7 ≡ record {
+  protocol = Rfc3164;
+  facility = Unset;
+  severity = Unset;
+  timestamp = Unstamped;
+  host = absent;
+  app = absent;
+  procid = absent;
+  msgid = absent;
+  message = record { start = 0; len = 7 };
+}
+whole-line = refl

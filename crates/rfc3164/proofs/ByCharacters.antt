@@ -6,7 +6,7 @@ use native.Mathlib.Omega.{arith}
 use Rattle.base.specs.Runs.{run}
 use Rattle.utf8.specs.Rfc3629.{Characters, octets}
 use Rattle.utf8.proofs.ByCharacters.{run-walk, tests-not, tests-or, tests-byte, walk-by-characters}
-use Rattle.structured_data.specs.Steps.{isInside}
+use Rattle.parsers.specs.Steps.{isInside}
 use Rattle.rfc3164.specs.Names.{isApp}
 use Rattle.rfc3164.specs.Characters.{appOf, pidOf}
 

@@ -3,7 +3,7 @@ use Prim.Native.Nat.{ℕ, suc, _-_}
 use mathlib.Core.Path.{_≡_, refl}
 use mathlib.Core.Bool.{Bool, true, false, not}
 use mathlib.Core.List.{List, [], _∷_, _++_, map}
-use Rattle.utf8.specs.Lead.{leadOf, wellFormed, charLen, utf8From, isUtf8}
+use Rattle.utf8.specs.Lead.{asks, leadOf, wellFormed, charLen, utf8From, isUtf8}
 use Rattle.utf8.specs.Characters.{isChar, charRun}
 
 -- the answer for each byte, with `front` before it and `back` behind it
@@ -116,3 +116,23 @@ runs : map (charRun (λ c. not (isChar 58 c)))
     ≡ 0 ∷ 2 ∷ 0 ∷ 4 ∷ []
 unfolding charRun
 runs = refl
+
+-- what a byte of each range asks for, the first and the last; and what begins no character
+leads : map leadOf (0x00 ∷ 0x7F ∷ 0x80 ∷ 0xC1 ∷ 0xC2 ∷ 0xDF ∷ 0xE0 ∷ 0xE1 ∷ 0xEC ∷ 0xED ∷ 0xEE ∷ 0xEF ∷ 0xF0 ∷ 0xF1 ∷ 0xF3 ∷ 0xF4 ∷ 0xF5 ∷ 0xFF ∷ [])
+    ≡ asks 1 0 0 ∷ asks 1 0 0 ∷ asks 0 0 0 ∷ asks 0 0 0 ∷ asks 2 0x80 0xBF ∷ asks 2 0x80 0xBF ∷ asks 3 0xA0 0xBF ∷ asks 3 0x80 0xBF ∷ asks 3 0x80 0xBF ∷ asks 3 0x80 0x9F
+    ∷ asks 3 0x80 0xBF ∷ asks 3 0x80 0xBF ∷ asks 4 0x90 0xBF ∷ asks 4 0x80 0xBF ∷ asks 4 0x80 0xBF ∷ asks 4 0x80 0x8F ∷ asks 0 0 0 ∷ asks 0 0 0 ∷ []
+unfolding leadOf
+leads = refl
+
+-- each byte behind a lead byte is asked for in its own place
+places : map charLen
+    ((0xCE ∷ 0x2E ∷ 0x91 ∷ [])
+    ∷ (0xE2 ∷ 0x41 ∷ 0x89 ∷ 0x89 ∷ [])
+    ∷ (0xE2 ∷ 0x89 ∷ 0x41 ∷ 0x89 ∷ [])
+    ∷ (0xF0 ∷ 0x41 ∷ 0x90 ∷ 0x90 ∷ 0x90 ∷ [])
+    ∷ (0xF0 ∷ 0x90 ∷ 0x41 ∷ 0x90 ∷ 0x90 ∷ [])
+    ∷ (0xF0 ∷ 0x90 ∷ 0x90 ∷ 0x41 ∷ 0x90 ∷ [])
+    ∷ [])
+    ≡ 0 ∷ 0 ∷ 0 ∷ 0 ∷ 0 ∷ 0 ∷ []
+unfolding leadOf wellFormed charLen
+places = refl
