@@ -125,7 +125,7 @@ unfolding outcomeOf byVariant utf8From trimmed textEnd whiteFrom whiteLen codePo
 cases = (refl, refl, refl, refl, refl)
 
 -- a line that is the message, written out
-whole-line : whole 7 ≡ record {
+whole-line : messageAlone 7 ≡ record {
   protocol = Rfc3164;
   facility = Unset;
   severity = Unset;

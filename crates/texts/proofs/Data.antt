@@ -19,7 +19,8 @@ use Rattle.structured_data.specs.Element.Element.{noElement, isElement}
 use Rattle.structured_data.specs.Data.{Rows, Item, itemOf, itemFrom, itemAnd, elementsFrom, Data, dataFrom, rowsOr}
 use Rattle.structured_data.specs.Data.Item.{taken, skipped, ended}
 use Rattle.structured_data.specs.Data.Data.{noData, isData}
-use Rattle.structured_data.specs.Steps.{isInside, openFrom}
+use Rattle.parsers.specs.Steps.{isInside}
+use Rattle.structured_data.specs.Steps.{openFrom}
 use Rattle.structured_data.specs.declared.Param.{Param}
 use Rattle.structured_data.specs.declared.Param.the-variants.{NoParam, IsParam}
 use Rattle.structured_data.specs.declared.Rules.{Rules}

@@ -16,10 +16,11 @@ use Rattle.white.proofs.ByCharacters.{end-cuts}
 use Rattle.record.specs.declared.Record.{Record}
 use Rattle.grammar.specs.Line.{Each}
 use Rattle.structured_data.specs.Data.{Rows, endAt}
-use Rattle.structured_data.specs.Outcome.{Outcome}
-use Rattle.structured_data.specs.Outcome.Outcome.{noReading, isReading}
-use Rattle.loose.specs.Loose.{whole, orWhole, byVariant, outcomeOf}
-use Rattle.suited.proofs.Records.{of-variant}
+use Rattle.draft.specs.Outcome.{Outcome}
+use Rattle.draft.specs.Outcome.Outcome.{noReading, isReading}
+use Rattle.record.specs.Records.{messageAlone}
+use Rattle.loose.specs.Loose.{orWhole, byVariant, outcomeOf}
+use Rattle.loose.proofs.Variants.{of-variant}
 use Rattle.texts.specs.Texts.{OfRecord, OfElement, OfParam}
 use Rattle.texts.proofs.Cuts.{between-text, at-start, at-end}
 use Rattle.texts.proofs.Records.{OutcomeCut, absent-cut, rfc5424-cut, rfc3164-reading-cut}
@@ -77,8 +78,8 @@ module _ (line : List ℕ) (u : isUtf8 line ≡ true) where
   whole-texts noReading h =
       let z : length line ≡ 0 + length line = omega arith in
       let nowhere = absent-cut line u in
-      subst (λ (l : List ℕ). TextsOf l (isReading (whole (length line)) 0 (endAt 0))) (append-nil line) (
-      texts-of line [] (isReading (whole (length line)) 0 (endAt 0)) (
+      subst (λ (l : List ℕ). TextsOf l (isReading (messageAlone (length line)) 0 (endAt 0))) (append-nil line) (
+      texts-of line [] (isReading (messageAlone (length line)) 0 (endAt 0)) (
         record { host = nowhere; app = nowhere; procid = nowhere; msgid = nowhere; message = record { from = at-start line u; to = rw z at (at-end line u) } },
         record { ids = tt; params = tt; to = at-start line u },
       )

@@ -30,9 +30,9 @@ use Rattle.timestamp.specs.declared.Stamping.{Stamping}
 use Rattle.timestamp.specs.declared.Stamping.the-variants.{NoStamp, IsStamp}
 use Rattle.timestamp.proofs.Onward.{on-num, on-pos}
 use Rattle.structured_data.specs.Data.{dataFrom}
-use Rattle.structured_data.specs.Outcome.{Outcome}
-use Rattle.structured_data.specs.Outcome.Outcome.{noReading, isReading}
-use Rattle.structured_data.specs.Steps.{isInside}
+use Rattle.draft.specs.Outcome.{Outcome}
+use Rattle.draft.specs.Outcome.Outcome.{noReading, isReading}
+use Rattle.parsers.specs.Steps.{isInside}
 use Rattle.structured_data.specs.declared.Rules.the-variants.{Rfc3164Rules, Rfc5424Rules}
 use Rattle.rfc3164.specs.Names.{isApp, splitAt, splitOf, noNames, withTag, onlyField, hostAndTag}
 use Rattle.rfc3164.specs.Rfc3164 as rfc3164

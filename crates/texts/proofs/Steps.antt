@@ -19,7 +19,7 @@ use Rattle.calendar.specs.Calendar.{valid}
 use Rattle.calendar.specs.Instant.{secondsOf, shown, isShown}
 use Rattle.calendar.specs.declared.DateTime.{DateTime}
 use Rattle.parsers.specs.Parsers.{alone, orAbsent, plainAt, hostAt, tagLen, tagAt}
-use Rattle.parsers.specs.Steps.{isBlank, someBlanksFrom, byteFrom, moved, numberFrom, placed, plainFrom, hostFrom, tagFrom}
+use Rattle.parsers.specs.Steps.{isBlank, someBlanksFrom, byteFrom, moved, numberFrom, placed, plainFrom, hostFrom, tagFrom, colonFrom}
 use Rattle.parsers.specs.declared.Text.{Text}
 use Rattle.parsers.specs.declared.Text.the-variants.{Fails, Absent, Given}
 use Rattle.parsers.specs.declared.Num.{Num}
@@ -33,7 +33,7 @@ use Rattle.parsers.proofs.ByCharacters.{tag-cuts}
 use Rattle.structured_data.proofs.Params.{at-part}
 use Rattle.timestamp.specs.Clock.{clockFrom}
 use Rattle.timestamp.specs.Rfc3339.{eitherFrom, dateFrom, timeFrom, nanosFrom, zoneFrom, stampIf, endFrom, fullFrom, rfc3339From}
-use Rattle.timestamp.specs.Timestamp.{dayFrom, colonFrom, withoutYear, utcIf, withYear, orElse, rfc3164From}
+use Rattle.timestamp.specs.Timestamp.{dayFrom, withoutYear, utcIf, withYear, orElse, rfc3164From}
 use Rattle.timestamp.specs.declared.Clock.{Clock}
 use Rattle.timestamp.specs.declared.Clock.the-variants.{NoClock, IsClock}
 use Rattle.timestamp.specs.declared.Stamping.{Stamping}

@@ -20,8 +20,8 @@ use Rattle.record.specs.declared.Written.{Written}
 use Rattle.record.specs.declared.Written.the-variants.{Done, Refused}
 use Rattle.grammar.specs.Line.{Each}
 use Rattle.structured_data.specs.Data.{Rows}
-use Rattle.structured_data.specs.Outcome.{Outcome}
-use Rattle.structured_data.specs.Outcome.Outcome.{isReading}
+use Rattle.draft.specs.Outcome.{Outcome}
+use Rattle.draft.specs.Outcome.Outcome.{isReading}
 use Rattle.loose.specs.Loose.{rowsOf, outcomeOf, Reads}
 use Rattle.suits.specs.Suits.{suits}
 use Rattle.lookup.specs.Unescape.{unescaped}
