@@ -5,7 +5,7 @@ use mathlib.Core.List.{List, [], _∷_, map}
 use mathlib.Core.Bool.{Bool, true, false}
 use lib.IntN.{ℤ, pos, negℤ}
 use lib.ListN.{replicate}
-use Rattle.calendar.specs.Calendar.{leap, monthDays, validDate, validTime, valid, yearDays, daysBeforeYear, daysOfMonths, dayNumber}
+use Rattle.calendar.specs.Calendar.{leap, monthDays, validDate, validTime, validOffset, valid, yearDays, daysBeforeYear, daysOfMonths, dayNumber}
 use Rattle.calendar.specs.Instant.{localSeconds, secondsOf, spanFrom, yearOf, monthOf, clockOf, shown}
 use Rattle.calendar.specs.Order.{before, earlier}
 use Rattle.calendar.specs.declared.DateTime.{DateTime}
@@ -107,3 +107,7 @@ months-end : (ends 2023 1 31 ∷ ends 2023 2 28 ∷ ends 2023 3 31 ∷ ends 2023
     ≡ replicate 12 inside)
 unfolding validDate monthDays leap
 months-end = (refl, refl)
+
+-- an offset is within 1,439 minutes, to the west and to the east
+offsets : map validOffset (minus 1440 ∷ minus 1439 ∷ pos 0 ∷ pos 1439 ∷ pos 1440 ∷ []) ≡ false ∷ true ∷ true ∷ true ∷ false ∷ []
+offsets = refl

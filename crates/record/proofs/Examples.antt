@@ -2,6 +2,7 @@
 use mathlib.Core.Path.{_≡_, refl, ap}
 use mathlib.Core.Bool.{true, false, false≢true}
 use mathlib.Core.List.{[], _∷_, map}
+use Rattle.record.specs.Limits.{lineLimit}
 use Rattle.record.specs.Places.{absent, place}
 use Rattle.record.specs.Refusals.{refusalNumber}
 use Rattle.record.specs.Answers.{answerOf, strictAnswerOf, outputAnswerOf}
@@ -70,3 +71,7 @@ entries = refl
 -- absent and empty differ
 apart : absent ≡ place 0 0 → ⊥
 apart e = false≢true (ap (λ (p : Place). p .present) e)
+
+-- a line has at most 8,192 bytes
+limit : lineLimit ≡ 8192
+limit = refl
