@@ -11,6 +11,7 @@ use borrow.Author.Tests.{not-true}
 use Rattle.base.specs.Texts.{allDifferent, Distinct}
 use Rattle.base.proofs.Tests.{by-test, clash}
 use Rattle.base.proofs.Texts.{different-sound, different-complete}
+use Rattle.record.specs.Limits.{lineLimit}
 use Rattle.grammar.specs.Line.{Param, Element, idsOf, eachThen, paramThen, elementThen, Each, ElementOk}
 use Rattle.grammar.specs.Parse.{Parsed, many, element, idsDiffer}
 use Rattle.grammar.specs.Parse.Parsed.{failed, found}
@@ -125,7 +126,7 @@ room-made count n slots h f l = record {
 -- ---- in a text that was passed
 
 module _ (s : List ℕ) (g : Counts) (m n k : ℕ) (e : g ≡ countsOf (many 91 element s)) (h : g ≡ IsData m n k) where
-  pub among-all : length s ≤ 8192 → Among s n
+  pub among-all : length s ≤ lineLimit → Among s n
   among-all l = record { len = m; elements = n; params = k; is-data = sym e ∙ h; few = omega arith; short = l }
 
   pub rows-noted : (starts₀ lens₀ starts lens : List ℕ) → Listed s (many 91 element s) starts₀ lens₀ starts lens → Rowed s (elementsIn s) starts lens

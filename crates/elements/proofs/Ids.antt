@@ -7,6 +7,7 @@ use native.Mathlib.Omega.{arith}
 use lib.ListN.{length, getD, set, take, drop, length-append, length-drop, length-set, length-map, List·getD-append}
 use lib.Seq.{take-append-seam, set-out, getD-set-same, getD-set-other, getD-append-seam}
 use Rattle.base.specs.Texts.{textAt}
+use Rattle.record.specs.Limits.{lineLimit}
 use Rattle.grammar.specs.Line.{Param, Element, idsOf, eachThen, paramThen}
 use Rattle.grammar.specs.Parse.{Parsed, many, element}
 use Rattle.grammar.specs.Parse.Parsed.{failed, found}
@@ -85,7 +86,7 @@ pub record Listing (s : List ℕ) (i n k : ℕ) (starts₀ lens₀ starts lens :
   pub rowed : Rowed s (counting .items) starts lens
   pub starts-kept : length starts ≡ length starts₀
   pub lens-kept : length lens ≡ length lens₀
-  pub short : length s ≤ 8192
+  pub short : length s ≤ lineLimit
 
 pub listing-start : (s starts lens : List ℕ) → Noting s starts lens → Listing s 0 0 0 starts lens starts lens
 listing-start s starts lens a =

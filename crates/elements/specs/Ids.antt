@@ -5,6 +5,7 @@ use mathlib.Core.Bool.{Bool}
 use mathlib.Core.List.{List, []}
 use lib.ListN.{length, getD, take}
 use Rattle.base.specs.Texts.{allDifferent}
+use Rattle.record.specs.Limits.{lineLimit}
 use Rattle.grammar.specs.Line.{Element, idsOf}
 use Rattle.grammar.specs.Parse.{Parsed, many, element}
 use Rattle.grammar.specs.Parse.Parsed.{found}
@@ -22,7 +23,7 @@ pub record Noted (starts lens : List ℕ) (start len : ℕ) : Type 0 where
 
 pub record Noting (s starts lens : List ℕ) : Type 0 where
   pub one-size : length lens ≡ length starts
-  pub short : length s ≤ 8192
+  pub short : length s ≤ lineLimit
 
 -- as far as the tables go, they have the ids of the elements
 pub record Rowed (s : List ℕ) (es : List Element) (starts lens : List ℕ) : Type 0 where
@@ -50,7 +51,7 @@ pub record Among (s : List ℕ) (count : ℕ) : Type 0 where
   pub params : ℕ
   pub is-data : countsOf (many 91 element s) ≡ IsData len elements params
   pub few : count ≤ elements
-  pub short : length s ≤ 8192
+  pub short : length s ≤ lineLimit
 
 -- room for so many ids, all zeros, and for what tells them apart
 pub record Spacious (count : ℕ) (starts lens depths kids : List ℕ) : Type 0 where

@@ -6,6 +6,7 @@ ghost use Prim.Native.Nat.{_+_, _≤_, _<_};
 ghost use lib.ListN.{length, set};
 ghost use Rattle.base.specs.Runs.{run};
 ghost use Rattle.base.specs.Fills.{filled};
+ghost use Rattle.record.specs.Limits.{lineLimit};
 ghost use Rattle.record.specs.Params.{rows};
 ghost use Rattle.grammar.specs.Abnf.{sdNameByte};
 ghost use Rattle.grammar.specs.Parse as parse;
@@ -63,7 +64,7 @@ fn name_run(s: &[u8]) -> usize
     let mut i = 0;
     while i < s.len() {
         let b = s[i];
-        if (33 <= b) & (b <= 126) & !((b == 61) | (b == 93) | (b == 34)) {
+        if (33 <= b) & (b <= 126) & !((b == b'=') | (b == b']') | (b == b'"')) {
             i += 1;
         } else {
             return i;
@@ -91,10 +92,10 @@ fn stop(s: &[u8]) -> usize
     let mut paired = false;
     while i < s.len() {
         let b = s[i];
-        if !paired & ((b == 34) | (b == 93)) {
+        if !paired & ((b == b'"') | (b == b']')) {
             return i;
         }
-        paired = !paired & (b == 92);
+        paired = !paired & (b == b'\\');
         i += 1;
     }
     i
@@ -113,13 +114,13 @@ fn value(s: &[u8]) -> Size
         let b = s[i];
         i += 1;
         if (more == 0) & (b < 0x80) {
-            if !paired & (b == 34) {
+            if !paired & (b == b'"') {
                 return Size::Bytes(i);
             }
-            if !paired & (b == 93) {
+            if !paired & (b == b']') {
                 return Size::Missing;
             }
-            paired = !paired & (b == 92);
+            paired = !paired & (b == b'\\');
         } else if more == 0 {
             let l = utf8::lead_of(b);
             if l.len == 0 {
@@ -145,7 +146,7 @@ fn value(s: &[u8]) -> Size
 fn quoted(s: &[u8]) -> Size
     ensures { λ r. ⌜ r ≡ sizeOf (parse.behind 34 parse.value (now (s .entry))) ⌝ }
 {
-    if !base::is_at(s, 0, 34) {
+    if !base::is_at(s, 0, b'"') {
         return Size::Missing;
     }
     let Size::Bytes(n) = value(base::past(s, 1)) else {
@@ -161,7 +162,7 @@ fn param(s: &[u8]) -> Size
     let Size::Bytes(n) = name(s) else {
         return Size::Missing;
     };
-    if !base::is_at(s, n, 61) {
+    if !base::is_at(s, n, b'=') {
         return Size::Missing;
     }
     let j = n + 1;
@@ -180,13 +181,13 @@ fn params(s: &[u8]) -> Block
     while i < s.len() {
         let b = s[i];
         let j = i + 1;
-        if b == 93 {
+        if b == b']' {
             return Block::IsBlock {
                 len: j,
                 params: count,
             };
         }
-        if b != 32 {
+        if b != b' ' {
             return Block::NoBlock;
         }
         let Size::Bytes(n) = param(base::past(s, j)) else {
@@ -239,7 +240,7 @@ fn elements(s: &[u8], starts: &mut [u16], lens: &mut [u8]) -> Counts
     while i < s.len() {
         let b = s[i];
         let j = i + 1;
-        if b != 91 {
+        if b != b'[' {
             return Counts::IsData {
                 len: i,
                 elements,
@@ -340,10 +341,10 @@ fn ids_differ<'a>(s: &'a [u8], count: usize, starts: &'a [u16], lens: &'a [u8]) 
 
 // Reads the structured data at the front of a part, and counts what is in it.
 pub fn count_data(s: &[u8]) -> Counts
-    requires { ⌜ length (now s) ≤ 8192 ⌝ }
+    requires { ⌜ length (now s) ≤ lineLimit ⌝ }
     ensures { λ r. ⌜ r ≡ countsOf (parse.structured (now (s .entry))) ⌝ }
 {
-    if base::is_at(s, 0, 45) {
+    if base::is_at(s, 0, b'-') {
         return Counts::IsData {
             len: 1,
             elements: 0,
@@ -396,7 +397,7 @@ pub fn read_tail(s: &[u8]) -> Tail
     if s.len() == 0 {
         return Tail::NoMessage;
     }
-    if !base::is_at(s, 0, 32) {
+    if !base::is_at(s, 0, b' ') {
         return Tail::NoTail;
     }
     let m = base::past(s, 1);
@@ -443,7 +444,7 @@ fn next(line: &[u8], at: usize) -> Entry
     requires { ⌜ Lies (now line) at ⌝ }
     ensures { λ r. ⌜ r ≡ entryAt (now (line .entry)) at ⌝ }
 {
-    if base::is_at(line, at, 91) {
+    if base::is_at(line, at, b'[') {
         let n = name_at(line, at);
         return Entry {
             opens: true,
@@ -453,7 +454,7 @@ fn next(line: &[u8], at: usize) -> Entry
             next: at + n + 1,
         };
     }
-    if base::is_at(line, at, 32) {
+    if base::is_at(line, at, b' ') {
         return held(line, at);
     }
     Entry {

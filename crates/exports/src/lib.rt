@@ -11,6 +11,7 @@ ghost use lib.ListN.{length};
 ghost use Rattle.record.specs.Answers.{outputAnswerOf};
 ghost use Rattle.record.specs.Params.{rows};
 ghost use Rattle.record.specs.declared.Written.the-variants.{Refused};
+ghost use Rattle.layout.specs.Layout.{recordSize, strictSize};
 ghost use Rattle.exports.specs.Exports.{shortNumber, numberOf, strictNumberOf, LeavesExact, LeavesFallback, LeavesStrict, firstRefusal, ServesPrint, ServesLookup};
 ghost use Rattle.exports.specs.Steps.{Left, StrictLeft};
 
@@ -41,7 +42,7 @@ fn short_strict(r: StrictReading) -> u32
 
 // The number of an answer, and its record.
 fn leave(r: Reading, memory: &mut [u8]) -> u32
-    requires { ⌜ 208 ≤ length (now memory) ⌝ }
+    requires { ⌜ recordSize ≤ length (now memory) ⌝ }
     ensures { λ n. ⌜ Left r (now (memory .entry)) n (now (memory .exit)) ⌝ }
 {
     match r {
@@ -54,7 +55,7 @@ fn leave(r: Reading, memory: &mut [u8]) -> u32
 }
 
 fn leave_strict(r: StrictReading, memory: &mut [u8]) -> u32
-    requires { ⌜ 240 ≤ length (now memory) ⌝ }
+    requires { ⌜ strictSize ≤ length (now memory) ⌝ }
     ensures { λ n. ⌜ StrictLeft r (now (memory .entry)) n (now (memory .exit)) ⌝ }
 {
     match r {
@@ -79,7 +80,7 @@ pub extern "C" fn khamdoriem_read_exact(
     ensures { λ n. ⌜ LeavesExact (now (line .entry)) variant year offset (now (elements .entry)) (rows (now (params .entry))) (now (memory .entry)) n (now (elements .exit)) (rows (now (params .exit))) (now (memory .exit)) ⌝ }
 {
     let room = memory.len();
-    if room < 208 {
+    if room < layout::RECORD_SIZE {
         let e = elements.len();
         let p = params.len();
         return short(loose::answer(line, variant, year, offset, e, p));
@@ -101,7 +102,7 @@ pub extern "C" fn khamdoriem_read_fallback(
     ensures { λ n. ⌜ LeavesFallback (now (line .entry)) variant year offset (now (elements .entry)) (rows (now (params .entry))) (now (memory .entry)) n (now (elements .exit)) (rows (now (params .exit))) (now (memory .exit)) ⌝ }
 {
     let room = memory.len();
-    if room < 208 {
+    if room < layout::RECORD_SIZE {
         let e = elements.len();
         let p = params.len();
         return short(loose::answer_fallback(line, variant, year, offset, e, p));
@@ -120,7 +121,7 @@ pub extern "C" fn khamdoriem_read_strict(
     ensures { λ n. ⌜ LeavesStrict (now (line .entry)) (now (elements .entry)) (rows (now (params .entry))) (now (memory .entry)) n (now (elements .exit)) (rows (now (params .exit))) (now (memory .exit)) ⌝ }
 {
     let room = memory.len();
-    if room < 240 {
+    if room < layout::STRICT_SIZE {
         let e = elements.len();
         let p = params.len();
         return short_strict(strict::answer(line, e, p));
@@ -133,7 +134,7 @@ pub extern "C" fn khamdoriem_read_strict(
 fn first_refusal(len: usize, kind: u32) -> Refusal
     ensures { λ f. ⌜ f ≡ firstRefusal len kind ⌝ }
 {
-    if 8192 < len {
+    if record::LINE_LIMIT < len {
         return Refusal::LineTooLong;
     }
     if 1 < kind {

@@ -8,6 +8,7 @@ use native.Mathlib.Omega.{arith}
 use lib.IntN.{pos, natAbs, negℤ}
 use lib.ListN.{length}
 use Rattle.base.proofs.Tests.{clash}
+use Rattle.calendar.specs.Calendar.{offsetLimit}
 use Rattle.digits.specs.Digits.{decimal}
 use Rattle.grammar.specs.Line.{Offset, Timestamp, OffsetOk, TimestampOk}
 use Rattle.grammar.specs.Parse.{header}
@@ -26,7 +27,7 @@ abs-neg : (n : ℕ) → natAbs (negℤ (pos n)) ≡ n
 abs-neg zero = refl
 abs-neg (suc n) = refl
 
-pub offset-small : (o : Offset) → OffsetOk o → natAbs (offsetOf o) ≤ 1439
+pub offset-small : (o : Offset) → OffsetOk o → natAbs (offsetOf o) ≤ offsetLimit
 offset-small Offset.utc r = omega arith
 offset-small (Offset.east a b) r = omega (arith, r .hour-range, r .minute-range)
 offset-small (Offset.west a b) r = rw (abs-neg (decimal a * 60 + decimal b)) (omega (arith, r .hour-range, r .minute-range))
@@ -52,12 +53,12 @@ module _ (s : List ℕ) (f : Heading) (e : f ≡ heading (header s)) where
         let q : decimal (w .value .0 .0) ≡ x .prival = ap (λ (y : HeaderAt). y .prival) (w .has .0) in
         omega (arith, w .has .1 .0 .0 .range)
 
-    pub offset-to : (t : instant.Timestamp) → x .timestamp ≡ Stamped t → natAbs (t .offset) ≤ 1439
+    pub offset-to : (t : instant.Timestamp) → x .timestamp ≡ Stamped t → natAbs (t .offset) ≤ offsetLimit
     unfolding headerAt
     offset-to t k =
         let w = finds-ok header-some header-reads in
         go (w .value .1 .0) (w .has .1 .1 .0) (ap (λ (y : HeaderAt). y .timestamp) (w .has .0) ∙ k)
       where
-        go : (o : Option Timestamp) → TimestampOk o → stampOf o ≡ Stamped t → natAbs (t .offset) ≤ 1439
+        go : (o : Option Timestamp) → TimestampOk o → stampOf o ≡ Stamped t → natAbs (t .offset) ≤ offsetLimit
         go none r q = let z : true ≡ false = cc in clash z
         go (some u) r q = let z : offsetOf (u .offset) ≡ t .offset = cc in rw (← z) (offset-small (u .offset) (r .offset-ok))

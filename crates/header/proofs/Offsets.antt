@@ -16,6 +16,7 @@ use Rattle.base.specs.Choose.{if_then_else_, isAt}
 use Rattle.base.proofs.Tests.{clash, both, by-test}
 use Rattle.base.proofs.Parts.{at-below}
 use Rattle.base.proofs.Diffs.{sub-ge, sub-lt}
+use Rattle.calendar.specs.Calendar.{offsetLimit}
 use Rattle.digits.specs.Digits.{decimal, fixedAt}
 use Rattle.digits.specs.declared.Number.{Number}
 use Rattle.digits.specs.declared.Number.the-variants.{Nothing, Value}
@@ -75,7 +76,7 @@ abbrev signed : Bool → ℕ → ℤ
 signed east v = if east then pos v else negℤ (pos v)
 
 module _ (u d : ℕ) (j : ℤ) (fj : SFits w64 j) (ej : j ≡ subℕ u d) where
-  pub narrow-fits : u ≤ 1439 → d ≤ 1439 → SFits w32 (toZ w64 (ofZ w64 j))
+  pub narrow-fits : u ≤ offsetLimit → d ≤ offsetLimit → SFits w32 (toZ w64 (ofZ w64 j))
   narrow-fits h k = rw (toZ-ofZ w64 j fj, ej) (go (decLe d u))
     where
       go : Dec (d ≤ u) → SFits w32 (subℕ u d)
@@ -102,7 +103,7 @@ module _ (s : List ℕ) (f : Number) (ef : f ≡ valueOf minutesOf (zone s)) (v 
   pub zone-within : n ≤ length s
   zone-within = finds-within (value-some minutesOf ef ev) zone-reads
 
-  pub zone-small : v ≤ 1439
+  pub zone-small : v ≤ offsetLimit
   zone-small = let w = finds-ok (value-some minutesOf ef ev) zone-reads in omega (arith, w .has .0, w .has .1)
 
 neither : (a b : Bool) → not (a || b) ≡ true → (a ≡ false) × (b ≡ false)

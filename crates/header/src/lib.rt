@@ -14,7 +14,7 @@ ghost use lib.IntN.{pos, negℤ};
 ghost use lib.ListN.{length, take};
 ghost use Rattle.base.specs.Choose.{if_then_else_};
 ghost use Rattle.base.specs.Runs.{run};
-ghost use Rattle.calendar.specs.Calendar.{valid};
+ghost use Rattle.calendar.specs.Calendar.{offsetLimit, valid};
 ghost use Rattle.calendar.specs.Instant.{secondsOf};
 ghost use Rattle.digits.specs.Digits.{decimal};
 ghost use Rattle.grammar.specs.Abnf.{isDigit, printUsAscii};
@@ -270,7 +270,7 @@ fn zone(s: &[u8]) -> Number
 
 // Minutes east of UTC, or west of it.
 fn minutes(east: bool, value: u32) -> i32
-    requires { ⌜ value ≤ 1439 ⌝ }
+    requires { ⌜ value ≤ offsetLimit ⌝ }
     ensures { λ r. ⌜ r ≡ (if east then pos value else negℤ (pos value)) ⌝ }
 {
     if east {

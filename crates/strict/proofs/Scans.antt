@@ -9,6 +9,7 @@ use lib.ListN.{length, drop, length-append, length-drop}
 use mir.Syntax.{w64}
 use mir.Val.{Fits}
 use Rattle.base.proofs.Tests.{clash}
+use Rattle.record.specs.Limits.{lineLimit}
 use Rattle.grammar.specs.Line.{Element, Timestamp, timestampThen, dataThen, TimestampOk, Division}
 use Rattle.grammar.specs.Parse.{Header, header, structured, message, parse, divisionOf, _next_, into, choose, atEnd}
 use Rattle.grammar.specs.Parse.Parsed.{failed, found}
@@ -142,5 +143,5 @@ module _ (s : List ℕ) (f : Heading) (e : f ≡ heading (header s)) where
 pub ruleset scan-laws = (header-within, prival-to, data-within, scan-no-header, scan-no-data, scan-no-tail, scan-none, scan-message, start-fits, end-fits)
 
 -- a part of a line is no longer than the line
-pub scan-short : (line u : List ℕ) (at : ℕ) → u ≡ drop at line → length line ≤ 8192 → length u ≤ 8192
+pub scan-short : (line u : List ℕ) (at : ℕ) → u ≡ drop at line → length line ≤ lineLimit → length u ≤ lineLimit
 scan-short line u at e h = omega (arith, ap length e, length-drop at line)

@@ -6,6 +6,7 @@ use mathlib.Core.List.{List, []}
 use lib.Dec.{ltb}
 use lib.ListN.{length}
 use Rattle.base.specs.Choose.{if_then_else_}
+use Rattle.record.specs.Limits.{lineLimit}
 use Rattle.grammar.specs.Line.{Division, dataThen}
 use Rattle.grammar.specs.Parse.{Parsed, parse}
 use Rattle.grammar.specs.Parse.Parsed.{failed, found}
@@ -56,7 +57,7 @@ fitting (IsScan r at len n k) e p =
     else Fitting r at len n k
 
 unfoldable pub judged : List ℕ → ℕ → ℕ → Judged
-judged line e p = if ltb 8192 (length line) then Refuse LineTooLong else fitting (scanOf (parse line)) e p
+judged line e p = if ltb lineLimit (length line) then Refuse LineTooLong else fitting (scanOf (parse line)) e p
 
 abbrev pub isFitting : Judged → Bool
 isFitting (Refuse f) = false

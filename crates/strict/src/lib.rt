@@ -14,6 +14,7 @@ use record::StrictRecord;
 ghost use mathlib.Core.Path.{_≡_};
 ghost use Prim.Native.Nat.{_≤_};
 ghost use lib.ListN.{length};
+ghost use Rattle.record.specs.Limits.{lineLimit};
 ghost use Rattle.grammar.specs.Parse as parse;
 ghost use Rattle.grammar.specs.Reading.{StrictReads};
 ghost use Rattle.record.specs.Params.{rows};
@@ -62,7 +63,7 @@ fn record_of(h: HeaderAt, message: Span, present: bool) -> StrictRecord
 
 // The first pass, which touches no table.
 fn scan_line(line: &[u8]) -> Scan
-    requires { ⌜ length (now line) ≤ 8192 ⌝ }
+    requires { ⌜ length (now line) ≤ lineLimit ⌝ }
     ensures { λ r. ⌜ r ≡ scanOf (parse.parse (now (line .entry))) ⌝ }
 {
     let Heading::IsHeader(h) = header::read_header(line) else {
@@ -103,7 +104,7 @@ fn scan_line(line: &[u8]) -> Scan
 fn judge(line: &[u8], e: usize, p: usize) -> Judged
     ensures { λ r. ⌜ r ≡ judged (now (line .entry)) e p ⌝ }
 {
-    if 8192 < line.len() {
+    if record::LINE_LIMIT < line.len() {
         return Judged::Refuse(Refusal::LineTooLong);
     }
     let Scan::IsScan(r, at, len, n, k) = scan_line(line) else {

@@ -7,6 +7,7 @@ use crate::strict;
 ghost use mathlib.Core.Path.{_≡_};
 ghost use Prim.Native.Nat.{_≤_};
 ghost use lib.ListN.{length};
+ghost use Rattle.layout.specs.Layout.{recordSize};
 
 // Whether a line with no reading becomes the message; variant, year and offset.
 pub struct Settings {
@@ -15,6 +16,11 @@ pub struct Settings {
     pub year: u32,
     pub offset: i32,
 }
+
+// What the strict reader adds are the last words of the last `RECORD_SIZE` bytes.
+const ADDED_SIZE: usize = layout::STRICT_SIZE - layout::RECORD_SIZE;
+
+const FIRST_ADDED: usize = 2 * layout::WORD_COUNT - layout::STRICT_WORD_COUNT;
 
 // At most `most`.
 pub fn up_to(n: u64, most: usize) -> usize
@@ -36,12 +42,12 @@ fn push(numbers: &mut [u64], at: usize, n: u64) -> usize
 
 // The words of a record's bytes from word `from` on.
 fn push_words(numbers: &mut [u64], at: usize, memory: &[u8], from: usize) -> usize
-    requires { ⌜ 208 ≤ length (now memory) ⌝ }
+    requires { ⌜ recordSize ≤ length (now memory) ⌝ }
     ensures { λ _. ⌜ length (now (numbers .exit)) ≡ length (now (numbers .entry)) ⌝ }
 {
     let mut next = at;
     let mut i = from;
-    while i < 26 {
+    while i < layout::WORD_COUNT {
         next = push(numbers, next, layout::word_at(memory, i));
         i += 1;
     }
@@ -128,7 +134,7 @@ fn read(
 pub fn reading(line: &[u8], s: Settings, e: usize, p: usize, numbers: &mut [u64]) -> usize {
     let mut elements = [[0usize; 2]; 64];
     let mut params = [[0usize; 5]; 256];
-    let mut memory = [0u8; 208];
+    let mut memory = [0u8; layout::RECORD_SIZE];
     let n = read(
         line,
         s,
@@ -147,13 +153,13 @@ pub fn reading(line: &[u8], s: Settings, e: usize, p: usize, numbers: &mut [u64]
         numbers,
         b,
         &elements,
-        up_to(layout::word_at(&memory, 24), 64),
+        up_to(layout::word_at(&memory, layout::ELEMENTS_WORD), 64),
     );
     push_params(
         numbers,
         c,
         &params,
-        up_to(layout::word_at(&memory, 25), 256),
+        up_to(layout::word_at(&memory, layout::PARAMS_WORD), 256),
     )
 }
 
@@ -161,26 +167,30 @@ pub fn reading(line: &[u8], s: Settings, e: usize, p: usize, numbers: &mut [u64]
 pub fn strict_reading(line: &[u8], numbers: &mut [u64]) -> usize {
     let mut elements = [[0usize; 2]; 64];
     let mut params = [[0usize; 5]; 256];
-    let mut memory = [0u8; 240];
+    let mut memory = [0u8; layout::STRICT_SIZE];
     let n = strict(line, &mut elements, &mut memory, &mut params);
     let a = push(numbers, 0, n as u64);
     if n != 0 {
         return a;
     }
-    // What the strict reader adds are the last four words of the last 208 bytes.
     let b = push_words(numbers, a, &memory, 0);
-    let s = push_words(numbers, b, &memory[32..240], 22);
+    let s = push_words(
+        numbers,
+        b,
+        &memory[ADDED_SIZE..layout::STRICT_SIZE],
+        FIRST_ADDED,
+    );
     let c = push_elements(
         numbers,
         s,
         &elements,
-        up_to(layout::word_at(&memory, 24), 64),
+        up_to(layout::word_at(&memory, layout::ELEMENTS_WORD), 64),
     );
     push_params(
         numbers,
         c,
         &params,
-        up_to(layout::word_at(&memory, 25), 256),
+        up_to(layout::word_at(&memory, layout::PARAMS_WORD), 256),
     )
 }
 
@@ -188,7 +198,7 @@ pub fn strict_reading(line: &[u8], numbers: &mut [u64]) -> usize {
 pub fn printing(line: &[u8], s: Settings, left: usize, out: &mut [u8]) -> record::OutputAnswer {
     let mut elements = [[0usize; 2]; 64];
     let mut params = [[0usize; 5]; 256];
-    let mut memory = [0u8; 208];
+    let mut memory = [0u8; layout::RECORD_SIZE];
     let n = exact(
         line,
         s.variant,
@@ -217,7 +227,7 @@ pub fn looking(
 ) -> record::OutputAnswer {
     let mut elements = [[0usize; 2]; 64];
     let mut params = [[0usize; 5]; 256];
-    let mut memory = [0u8; 208];
+    let mut memory = [0u8; layout::RECORD_SIZE];
     let n = exact(
         line,
         s.variant,

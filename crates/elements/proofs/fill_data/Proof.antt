@@ -65,10 +65,67 @@ module _ (w : World) where
 
   laid : Laid C.fill-data w code.env Key.name 1 code.function derived
   laid κs qs a good pre bs =
-      let start : List (List ℕ) × (List Param × (ℕ × (ℕ × ℕ))) = (a .1 .1 .1 .0 .now, (a .1 .1 .1 .1 .0 .now, (a .1 .0, (0, 0)))) in
-      let p₀ = rows (a .1 .1 .1 .1 .0 .now) in
-      let end = a .1 .0 + a .1 .1 .0 in
-      (data-fits (a .0 .now) (a .1 .0) (a .1 .1 .0) (a .1 .1 .1 .0 .now) p₀ pre (good .0 .0) (record { fits = good .1 .0 .1 }), ((start, refl, walk-start (a .0 .now) (a .1 .0) (a .1 .1 .0) (a .1 .1 .1 .0 .now) p₀ pre), λ vs inv. (tt, ((λ t. let l : vs .1 .1 .0 < end = ltb-true (vs .1 .1 .0) end t in λ γ. (refl, ((λ ls. walk-stepping (a .0 .now) (a .1 .0) end (a .1 .1 .1 .0 .now) p₀ (vs .0) (rows (vs .1 .0)) (vs .1 .1 .0) (vs .1 .1 .1 .0) (vs .1 .1 .1 .1) inv l), λ g. let d = walk-step (a .0 .now) (a .1 .0) end (a .1 .1 .1 .0 .now) p₀ (vs .0) (rows (vs .1 .0)) (vs .1 .1 .0) (vs .1 .1 .1 .0) (vs .1 .1 .1 .1) inv l (g .1) (g .2 .1 .1 .1 .0) (g .5 .0) (g .5 .1) in let room : g .1 .holds ≡ true → vs .1 .1 .1 .1 < length (vs .1 .0) = λ h. omega (arith, rows-length (vs .1 .0), d .room h) in (refl, λ k. ((λ h. ((λ ls. tt), λ g′. λ γ′. (refl, ((λ ls. room h), λ g″. (refl, λ k′. (record { fits = let r = room h in omega (arith, same-size (a .1 .1 .1 .1 .0 .now) (vs .1 .0) inv, good .1 .1 .1 .1 .0 .0) }, (end - g .1 .next, omega (arith, d .further), ((g .2 .1 .1 .1 .0, (g″ .2 .0, (g .1 .next, (g .1 .opened, vs .1 .1 .1 .1 + 1)))), refl, in-table (a .0 .now) (a .1 .0) end (a .1 .1 .1 .0 .now) p₀ (vs .1 .0) (g″ .2 .0) (vs .1 .1 .0) (vs .1 .1 .1 .1) (g .1) (g .2 .1 .1 .1 .0) (g′ .1) d h (g′ .5) (g″ .5), refl)))))))), (λ h. (end - g .1 .next, omega (arith, d .further), ((g .2 .1 .1 .1 .0, (vs .1 .0, (g .1 .next, (g .1 .opened, vs .1 .1 .1 .1)))), refl, d .kept h, refl)))))))), (λ f. let l : end ≤ vs .1 .1 .0 = ltb-false (vs .1 .1 .0) end f in ((refl, (tt, (tt, (fix-len (a .1 .1 .1 .0 .ptr) (a .1 .1 .1 .0 .name) (vs .0) (a .1 .1 .1 .0 .now) (walk-elements-length (a .0 .now) (a .1 .0) end (a .1 .1 .1 .0 .now) p₀ (vs .0) (rows (vs .1 .0)) (vs .1 .1 .0) (vs .1 .1 .1 .0) (vs .1 .1 .1 .1) inv), (fix-len (a .1 .1 .1 .1 .0 .ptr) (a .1 .1 .1 .1 .0 .name) (vs .1 .0) (a .1 .1 .1 .1 .0 .now) (same-size (a .1 .1 .1 .1 .0 .now) (vs .1 .0) inv), tt))))), (walk-elements (a .0 .now) (a .1 .0) end (a .1 .1 .1 .0 .now) p₀ (vs .0) (rows (vs .1 .0)) (vs .1 .1 .0) (vs .1 .1 .1 .0) (vs .1 .1 .1 .1) inv l, walk-params (a .0 .now) (a .1 .0) end (a .1 .1 .1 .0 .now) p₀ (vs .0) (rows (vs .1 .0)) (vs .1 .1 .0) (vs .1 .1 .1 .0) (vs .1 .1 .1 .1) inv l)))))))
+      let line = a .0 .now in
+      let from = a .1 .0 in
+      let end = from + a .1 .1 .0 in
+      let elements = a .1 .1 .1 .0 in
+      let params = a .1 .1 .1 .1 .0 in
+      let e₀ = elements .now in
+      let p₀ = rows (params .now) in
+      let start : List (List ℕ) × (List Param × (ℕ × (ℕ × ℕ))) = (e₀, (params .now, (from, (0, 0)))) in (
+        data-fits line from (a .1 .1 .0) e₀ p₀ pre (good .0 .0) (record { fits = good .1 .0 .1 }),
+        (
+          (start, refl, walk-start line from (a .1 .1 .0) e₀ p₀ pre),
+          λ vs inv.
+              let e = vs .0 in
+              let p = vs .1 .0 in
+              let i = vs .1 .1 .0 in
+              let n = vs .1 .1 .1 .0 in
+              let m = vs .1 .1 .1 .1 in (
+                tt,
+                (
+                  (λ t.
+                      let l : i < end = ltb-true i end t in
+                      λ γ. (
+                        refl,
+                        (
+                          (λ ls. walk-stepping line from end e₀ p₀ e (rows p) i n m inv l),
+                          λ g.
+                              let e₁ = g .2 .1 .1 .1 .0 in
+                              let d = walk-step line from end e₀ p₀ e (rows p) i n m inv l (g .1) e₁ (g .5 .0) (g .5 .1) in
+                              let room : g .1 .holds ≡ true → m < length p = λ h. omega (arith, rows-length p, d .room h) in (
+                                refl,
+                                λ k. (
+                                  (λ h. (
+                                    (λ ls. tt),
+                                    λ g′. λ γ′. (
+                                      refl,
+                                      (
+                                        (λ ls. room h),
+                                        λ g″. (
+                                          refl,
+                                          λ k′.
+                                              let table = in-table line from end e₀ p₀ p (g″ .2 .0) i m (g .1) e₁ (g′ .1) d h (g′ .5) (g″ .5) in
+                                              (record { fits = let r = room h in omega (arith, same-size (params .now) p inv, good .1 .1 .1 .1 .0 .0) }, (end - g .1 .next, omega (arith, d .further), ((e₁, (g″ .2 .0, (g .1 .next, (g .1 .opened, m + 1)))), refl, table, refl))),
+                                        ),
+                                      ),
+                                    ),
+                                  )),
+                                  (λ h. (end - g .1 .next, omega (arith, d .further), ((e₁, (p, (g .1 .next, (g .1 .opened, m)))), refl, d .kept h, refl))),
+                                ),
+                              ),
+                        ),
+                      )),
+                  (λ f.
+                      let l : end ≤ i = ltb-false i end f in
+                      let e-size = walk-elements-length line from end e₀ p₀ e (rows p) i n m inv in
+                      let e-ends = fix-len (elements .ptr) (elements .name) e e₀ e-size in
+                      let p-ends = fix-len (params .ptr) (params .name) p (params .now) (same-size (params .now) p inv) in
+                      ((refl, (tt, (tt, (e-ends, (p-ends, tt))))), (walk-elements line from end e₀ p₀ e (rows p) i n m inv l, walk-params line from end e₀ p₀ e (rows p) i n m inv l))),
+                ),
+              ),
+        ),
+      )
 
 pub fill-data-spec : {M : Type 1} → stated.statement M
 unfolding code.routine tablesOf

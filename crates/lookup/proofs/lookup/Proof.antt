@@ -55,7 +55,35 @@ module _ (w : World) where
 
   laid : Laid C.lookup w code.env Key.name 1 code.function derived
   laid κs qs a good pre bs =
-      ((λ ls. tt), λ g. ((λ t. ((λ ls. tt), λ w. ((refl, (tt, (tt, (tt, (refl, (refl, (refl, (refl, (tt, (refl, tt)))))))))), looks-early (a .0 .now) (a .1 .0) (a .1 .1 .0) (a .1 .1 .1 .0) (a .1 .1 .1 .1 .0 .now) (rows (a .1 .1 .1 .1 .1 .0 .now)) (a .1 .1 .1 .1 .1 .1 .0 .now) (a .1 .1 .1 .1 .1 .1 .1 .0 .now) (a .1 .1 .1 .1 .1 .1 .1 .1 .0) (a .1 .1 .1 .1 .1 .1 .1 .1 .1 .0 .now) (sym (g .5) ∙ t) (w .1) (w .5)))), (λ f. let y = later (length (a .0 .now)) (a .1 .1 .1 .1 .1 .1 .1 .1 .0) (sym (g .5) ∙ f) in ((λ ls. tt), λ s. ((λ t. let h : not (s .1) ≡ false = ap not t in ((λ ls. looks-tables (a .0 .now) (a .1 .0) (a .1 .1 .0) (a .1 .1 .1 .0) (a .1 .1 .1 .1 .0 .now) (rows (a .1 .1 .1 .1 .1 .0 .now)) (a .1 .1 .1 .1 .1 .1 .0 .now) (a .1 .1 .1 .1 .1 .1 .1 .0 .now) (a .1 .1 .1 .1 .1 .1 .1 .1 .0) (a .1 .1 .1 .1 .1 .1 .1 .1 .1 .0 .now) (y .short) (y .known) (s .1) (s .5) h), λ v. λ γ. (refl, ((λ ls. v .5 .within), λ w. (refl, λ k. ((refl, (tt, (tt, (tt, (refl, (refl, (refl, (refl, (tt, (fix-len (a .1 .1 .1 .1 .1 .1 .1 .1 .1 .0 .ptr) (a .1 .1 .1 .1 .1 .1 .1 .1 .1 .0 .name) (w .2 .1 .1 .1 .0) (a .1 .1 .1 .1 .1 .1 .1 .1 .1 .0 .now) k, tt)))))))))), looks-given (a .0 .now) (a .1 .0) (a .1 .1 .0) (a .1 .1 .1 .0) (a .1 .1 .1 .1 .0 .now) (rows (a .1 .1 .1 .1 .1 .0 .now)) (a .1 .1 .1 .1 .1 .1 .0 .now) (a .1 .1 .1 .1 .1 .1 .1 .0 .now) (a .1 .1 .1 .1 .1 .1 .1 .1 .0) (a .1 .1 .1 .1 .1 .1 .1 .1 .1 .0 .now) (y .short) (y .known) (s .1) (s .5) h (v .1) (v .5) (w .1) (w .2 .1 .1 .1 .0) (w .5))))))), (λ f. ((λ ls. tt), λ w. ((refl, (tt, (tt, (tt, (refl, (refl, (refl, (refl, (tt, (refl, tt)))))))))), rw (w .5) (looks-unsuitable (a .0 .now) (a .1 .0) (a .1 .1 .0) (a .1 .1 .1 .0) (a .1 .1 .1 .1 .0 .now) (rows (a .1 .1 .1 .1 .1 .0 .now)) (a .1 .1 .1 .1 .1 .1 .0 .now) (a .1 .1 .1 .1 .1 .1 .1 .0 .now) (a .1 .1 .1 .1 .1 .1 .1 .1 .0) (a .1 .1 .1 .1 .1 .1 .1 .1 .1 .0 .now) (y .short) (y .known) (s .1) (s .5) (ap not f))))))))))
+      let kind = a .1 .1 .1 .1 .1 .1 .1 .1 .0 in
+      let o = a .1 .1 .1 .1 .1 .1 .1 .1 .1 .0 in
+      let line = a .0 .now in
+      let r = a .1 .0 in
+      let e = a .1 .1 .0 in
+      let p = a .1 .1 .1 .0 in
+      let elements = a .1 .1 .1 .1 .0 .now in
+      let params = rows (a .1 .1 .1 .1 .1 .0 .now) in
+      let id = a .1 .1 .1 .1 .1 .1 .0 .now in
+      let name = a .1 .1 .1 .1 .1 .1 .1 .0 .now in
+      let early = looks-early line r e p elements params id name kind (o .now) in
+      let tables = looks-tables line r e p elements params id name kind (o .now) in
+      let given = looks-given line r e p elements params id name kind (o .now) in
+      let unsuitable = looks-unsuitable line r e p elements params id name kind (o .now) in (
+        (λ ls. tt),
+        λ g. (
+          (λ t. ((λ ls. tt), λ w. ((refl, (tt, (tt, (tt, (refl, (refl, (refl, (refl, (tt, (refl, tt)))))))))), early (sym (g .5) ∙ t) (w .1) (w .5)))),
+          (λ f.
+              let y = later (length line) kind (sym (g .5) ∙ f) in (
+                (λ ls. tt),
+                λ s. (
+                  (λ t.
+                      let h : not (s .1) ≡ false = ap not t in
+                      ((λ ls. tables (y .short) (y .known) (s .1) (s .5) h), λ v. λ γ. (refl, ((λ ls. v .5 .within), λ w. (refl, λ k. ((refl, (tt, (tt, (tt, (refl, (refl, (refl, (refl, (tt, (fix-len (o .ptr) (o .name) (w .2 .1 .1 .1 .0) (o .now) k, tt)))))))))), given (y .short) (y .known) (s .1) (s .5) h (v .1) (v .5) (w .1) (w .2 .1 .1 .1 .0) (w .5))))))),
+                  (λ f. ((λ ls. tt), λ w. ((refl, (tt, (tt, (tt, (refl, (refl, (refl, (refl, (tt, (refl, tt)))))))))), rw (w .5) (unsuitable (y .short) (y .known) (s .1) (s .5) (ap not f))))),
+                ),
+              )),
+        ),
+      )
 
 pub lookup-spec : {M : Type 1} → stated.statement M
 unfolding code.routine tablesOf

@@ -2,6 +2,7 @@ use borrow.Author.Needs.{needs}
 use Prim.Native.Nat.{_-_}
 use lib.ListN.{length}
 use mathlib.Core.Path.{_≡_}
+use Rattle.layout.specs.Layout.{wordCount}
 use Rattle.tables.proofs.answers.push_words.Statement.{statement}
 use Rattle.tables.proofs.answers.push_words.Tie as tie
 
@@ -9,7 +10,7 @@ abbrev Inv-loop : tie.InvT-loop
 Inv-loop numbers₀ at memory from next₀ i₀ numbers next i = (length numbers ≡ length numbers₀)
 
 abbrev μ-loop : tie.MeasureT-loop
-μ-loop numbers₀ at memory from next₀ i₀ numbers next i = 26 - i
+μ-loop numbers₀ at memory from next₀ i₀ numbers next i = wordCount - i
 
 loop-holds : tie.Need-loop-holds Inv-loop μ-loop
 loop-holds c = search needs
