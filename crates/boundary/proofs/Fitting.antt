@@ -29,7 +29,8 @@ use Rattle.record.specs.declared.Record.{Record}
 use Rattle.suits.specs.Suits.{levelSuits, stampSuits, recordSuits, suits}
 use Rattle.suits.proofs.Suited as suited
 use Rattle.layout.proofs.Back.{LevelIn, StampIn, InTypes}
-use Rattle.suited.proofs.AfterReading.{Left, left-short, left-suits}
+use Rattle.suited.specs.Served.{Left}
+use Rattle.suited.proofs.AfterReading.{left-short, left-suits}
 use Rattle.boundary.proofs.Outcomes.{left-sized}
 
 level-in : (most : ℕ) (l : Level) → most ≤ 255 → levelSuits most l ≡ true → LevelIn l

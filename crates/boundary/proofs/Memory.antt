@@ -1,4 +1,4 @@
--- The memory of the record after a call of a reader that answered 0: it holds the reading's own record and counts.
+-- The memory of the record after a call of a reader that answered 0 holds the reading's own record and counts (specs/Called.antt: MemoryHolds).
 use Prim.Native.Nat.{ℕ}
 use mathlib.Core.Path.{_≡_, refl, ap, _∙_}
 use mathlib.Core.Bool.{Bool, true, false}
@@ -19,25 +19,14 @@ use Rattle.record.specs.declared.StrictReading.the-variants as strict
 use Rattle.record.specs.declared.Refusal.{Refusal}
 use Rattle.record.specs.declared.Refusal.the-variants.{LineTooLong, BadSetting, NotUtf8, NoReading, TooManyElements, TooManyParams, Unsuitable, NotFound, OutputShort}
 use Rattle.layout.specs.Layout.{recordSize, strictSize, wordsBytes, mark, placeWords, recordWords, strictWords, recordBytes, strictBytes}
-use Rattle.layout.specs.Incoming.{holdsRecord, recordAt, elementCountAt, paramCountAt}
 use Rattle.layout.proofs.Words.{words-append}
 use Rattle.layout.proofs.Back.{laid-held, laid-counts, laid-back}
 use Rattle.loose.specs.Loose.{ReadsExact, ReadsFallback}
 use Rattle.grammar.specs.Reading.{StrictReads}
 use Rattle.exports.specs.Exports.{leftNumber, numberOf, bytesOf, strictNumberOf, strictBytesOf, LeavesExact, LeavesFallback, LeavesStrict}
-use Rattle.suited.proofs.AfterReading.{Left}
+use Rattle.suited.specs.Served.{Left}
+use Rattle.boundary.specs.Called.{Holds, StrictCommon, MemoryHolds}
 use Rattle.boundary.proofs.Fitting.{left-in}
-
--- It holds a record, and `Reads` is what the reader says of that and its counts.
-pub record Holds (memory : List ℕ) (Reads : Record → ℕ → ℕ → Type 0) : Type 0 where
-  pub holds : holdsRecord memory ≡ true
-  pub reads : Reads (recordAt memory) (elementCountAt memory) (paramCountAt memory)
-
--- what the strict reader says of the fields that its record shares with the loose readers' (its first `recordSize` bytes)
-pub record StrictCommon (line : List ℕ) (e₀ p₀ elements params : List (List ℕ)) (r : Record) (e p : ℕ) : Type 0 where
-  pub whole : StrictRecord
-  pub common : r ≡ whole .common
-  pub reads : StrictReads line e₀ p₀ (strict.Read whole e p) elements params
 
 refused : (f : Refusal) → eqb (refusalNumber f) 0 ≡ false
 refused LineTooLong = refl
@@ -84,20 +73,20 @@ module _ {line memory : List ℕ} {elements params : List (List ℕ)} where
   loose-holds Reads left out (loose.Refused f) h n q = never f recordSize (length out) n
 
   module _ {variant year : ℕ} {offset : ℤ} {e₀ p₀ : List (List ℕ)} {out : List ℕ} where
-    pub exact-holds : LeavesExact line variant year offset e₀ p₀ out 0 elements params memory
+    exact-holds : LeavesExact line variant year offset e₀ p₀ out 0 elements params memory
         → Holds memory (λ r e p. ReadsExact line variant year offset e₀ p₀ (loose.Read r e p) elements params)
     exact-holds h =
         loose-holds (λ a. ReadsExact line variant year offset e₀ p₀ a elements params) (λ r e p k. Left.by-exact k)
         out (h .answer) (rw (← h .elements-are, ← h .params-are) at (h .reads)) (h .number-is) (h .record-is)
 
-    pub fallback-holds : LeavesFallback line variant year offset e₀ p₀ out 0 elements params memory
+    fallback-holds : LeavesFallback line variant year offset e₀ p₀ out 0 elements params memory
         → Holds memory (λ r e p. ReadsFallback line variant year offset e₀ p₀ (loose.Read r e p) elements params)
     fallback-holds h =
         loose-holds (λ a. ReadsFallback line variant year offset e₀ p₀ a elements params) (λ r e p k. Left.by-fallback k)
         out (h .answer) (rw (← h .elements-are, ← h .params-are) at (h .reads)) (h .number-is) (h .record-is)
 
   module _ {e₀ p₀ : List (List ℕ)} {out : List ℕ} where
-    pub strict-holds : LeavesStrict line e₀ p₀ out 0 elements params memory → Holds memory (StrictCommon line e₀ p₀ elements params)
+    strict-holds : LeavesStrict line e₀ p₀ out 0 elements params memory → Holds memory (StrictCommon line e₀ p₀ elements params)
     strict-holds h = go (h .answer) (rw (← h .elements-are, ← h .params-are) at (h .reads)) (h .number-is) (h .record-is)
       where
         go : (a : StrictReading) → StrictReads line e₀ p₀ a elements params → 0 ≡ leftNumber (strictNumberOf a) strictSize (length out)
@@ -106,3 +95,6 @@ module _ {line memory : List ℕ} {elements params : List (List ℕ)} where
             laid-holds (StrictCommon line e₀ p₀ elements params) (λ r e p k. Left.by-strict (k .reads) (k .common))
             (s .common) e p _ (q ∙ strict-front s e p _) (record { whole = s; common = refl; reads = h })
         go (strict.Refused f) h n q = never f strictSize (length out) n
+
+pub memory-holds : MemoryHolds
+memory-holds = record { exact = exact-holds; fallback = fallback-holds; strict = strict-holds }

@@ -37,9 +37,9 @@ use Rattle.loose.proofs.Variants.{of-variant}
 use Rattle.grammar.specs.Line.{Division, Derives}
 use Rattle.grammar.specs.Reading.{recordOf}
 use Rattle.layout.proofs.Back.{ProtocolIn}
+use Rattle.suited.specs.Served.{Left}
 use Rattle.suited.proofs.Frame.{Judged, reading-judged}
 use Rattle.suited.proofs.Strict.{line-length, reading-divided}
-use Rattle.suited.proofs.AfterReading.{Left}
 use Rattle.boundary.proofs.Counts.{Few, none-few, data-few, division-few}
 
 -- ---- the loose readers: a version is what numberFrom reads

@@ -92,7 +92,7 @@ order : map (λ (e : DateTime × DateTime). earlier (e .0) (e .1))
 unfolding before
 order = refl
 
--- of each month: day 0, the first, the last, and the day behind it
+-- of each month: day 0, the first, the last, and the day after it
 abbrev ends : ℕ → ℕ → ℕ → List Bool
 ends y m last = map (validDate y m) (0 ∷ 1 ∷ last ∷ suc last ∷ [])
 

@@ -35,6 +35,7 @@ pub enum Shown {
     At(DateTime),
 }
 
+// Whether the local year is one of 0 to 9999.
 pub fn is_shown(x: Shown) -> bool
     ensures { λ r. ⌜ r ≡ isShown x ⌝ }
 {
@@ -68,6 +69,7 @@ fn month_days(y: u32, m: u32) -> u32
     MONTHS[l][k]
 }
 
+// Whether year `y` has such a month and such a day.
 pub fn is_date(y: u32, m: u32, d: u32) -> bool
     ensures { λ r. ⌜ r ≡ validDate y m d ⌝ }
 {
@@ -83,12 +85,14 @@ pub fn is_date(y: u32, m: u32, d: u32) -> bool
     d <= month_days(y, m)
 }
 
+// Whether a day has such a clock: no hour 24, no second 60.
 pub fn is_time(h: u32, m: u32, s: u32) -> bool
     ensures { λ r. ⌜ r ≡ validTime h m s ⌝ }
 {
     (h < 24) & (m < 60) & (s < 60)
 }
 
+// Whether an offset is one of -1439 to 1439 minutes.
 pub fn is_offset(offset: i32) -> bool
     ensures { λ r. ⌜ r ≡ validOffset offset ⌝ }
 {

@@ -1,5 +1,5 @@
 // Runs the cases of standard input and writes each answer in words. A case is a line: `E` or `F` for an exact or a fallback reading with
-// variant, year and offset, `S` for a strict one; then, behind one space, the line that is read.
+// variant, year and offset, `S` for a strict one; then, after one space, the line that is read.
 use libc::STDIN_FILENO;
 use replayer::words::say;
 

@@ -44,7 +44,7 @@ to w = outputAnswerOf w .number
 
 -- the loose readers, from the numbers that both give
 module _ (s : Service) (done : Gives s 0) (long : Gives s 1) (bad : Gives s 2) (text : Gives s 3) (elements : Gives s 5) (params : Gives s 6) where
-  -- refusals 5 and 6, behind those before them
+  -- refusals 5 and 6, after the others
   judged-gives : (r : Record) (at : ℕ) (rows : Rows) (e p : ℕ) → Gives s (of (judged (isReading r at rows) e p))
   judged-gives r at rows e p =
       either s of (ltb e (length (rows .elements))) _ _ elements (either s of (ltb p (length (rows .params))) _ _ params done)

@@ -36,7 +36,7 @@ sixes : map (fractionAt 6) (map bytes ("000003" ∷ "123456" ∷ "1234567" ∷ [
 unfolding fractionAt run decimalFrom
 sixes = refl
 
--- the bytes before `0` and behind `9` are no digits
+-- the bytes before `0` and after `9` are no digits
 edges : map (numberAt 99) (map bytes ("/" ∷ "0/" ∷ "9:" ∷ ":" ∷ [])) ≡ Nothing ∷ Value 0 1 ∷ Value 9 1 ∷ Nothing ∷ []
 unfolding numberAt run decimalFrom
 edges = refl

@@ -43,7 +43,7 @@ module _ (max : ℕ) (s : List ℕ) (v n : ℕ) (e : numberAt max s ≡ Value v 
   pub number-len : (1 ≤ n) × (n ≤ length s) × (v ≤ max)
   number-len = let i = number-is in (i .some, omega (arith, run-le isDigit s), i .small)
 
--- digits, and behind them a byte that is none
+-- digits, and after them a byte that is none
 pub number-text : (max : ℕ) (t r : List ℕ) → All isDigit t → 1 ≤ length t → decimal t ≤ max → digitRun r ≡ 0
     → numberAt max (t ++ r) ≡ Value (decimal t) (length t)
 unfolding numberAt

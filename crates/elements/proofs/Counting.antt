@@ -39,7 +39,7 @@ use Rattle.elements.proofs.Pieces.{name-within}
 
 -- ---- items one after the other
 
--- the items `l`, of `i` bytes, and then what is found behind them
+-- the items `l`, of `i` bytes, and then what is found after them
 abbrev after : {A : Type 0} → List A → ℕ → Parsed (List A) → Parsed (List A)
 after l i failed = failed
 after l i (found m n) = found (l ++ m) (i + n)

@@ -222,7 +222,7 @@ module _ (at k : ℕ) (e : List (List ℕ)) where
   unfolding idsOf
   ids-other x h = rw h
 
--- what a step makes of the walk, where its answer is `s` and the element table is `e′` behind it
+-- what a step makes of the walk, where its answer is `s` and the element table is `e′` after it
 pub record Stepped (line : List ℕ) (at end : ℕ) (e₀ p₀ p : List (List ℕ)) (i m : ℕ) (s : Step) (e′ : List (List ℕ)) : Type 0 where
   pub further : i < s .next
   pub room : s .holds ≡ true → m < length p

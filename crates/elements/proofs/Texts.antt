@@ -24,7 +24,7 @@ pub record Found (line : List ℕ) (at : ℕ) (r : Entry) : Type 0 where
   pub lies : Lies line at
   pub ends : r .next ≤ length line
 
--- behind a text
+-- after a text
 pub over : (line : List ℕ) (at : ℕ) (t r : List ℕ) → drop at line ≡ t ++ r → drop (at + length t) line ≡ r
 over line at t r e = sym (drop-drop (length t) at line) ∙ ap (drop (length t)) e ∙ drop-append-seam t r
 

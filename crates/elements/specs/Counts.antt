@@ -1,4 +1,4 @@
--- What the code keeps of the structured data and of the message that the parser of `grammar` finds: lengths and counts.
+-- For private contracts alone: what the code keeps of the structured data and of the message that the parser of `grammar` finds: lengths and counts.
 use Prim.Native.Nat.{ℕ}
 use mathlib.Core.List.{List}
 use mathlib.Core.Option.{Option, none, some}

@@ -1,4 +1,4 @@
--- What the second pass finds at a place of the structured data, by the byte there.
+-- For private contracts alone: what the second pass finds at a place of the structured data, by the byte there.
 use Prim.Native.Nat.{ℕ, _+_, _≤_, _<_}
 use mathlib.Core.Path.{_≡_}
 use mathlib.Core.Bool.{true, false}

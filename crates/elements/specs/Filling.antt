@@ -1,4 +1,4 @@
--- What the second pass is given and what it leaves.
+-- For private contracts alone: what the second pass is given and what it leaves.
 use Prim.Native.Nat.{ℕ, _≤_}
 use mathlib.Core.Path.{_≡_}
 use mathlib.Core.List.{List, []}

@@ -1,4 +1,4 @@
--- What the first pass keeps of the pieces of the structured data: how many bytes each takes, and of an element how many parameters it has.
+-- For private contracts alone: what the first pass keeps of the pieces of the structured data: how many bytes each takes, and of an element how many parameters it has.
 use Prim.Native.Nat.{ℕ}
 use lib.ListN.{length}
 use Rattle.grammar.specs.Line.{Element}

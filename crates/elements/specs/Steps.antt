@@ -1,4 +1,4 @@
--- A step of the second pass, where `k` elements are open: what it is given, what it answers, and the element table behind it.
+-- For private contracts alone: a step of the second pass, where `k` elements are open: what it is given, what it answers, and the element table after it.
 use Prim.Native.Nat.{ℕ, _+_, _-_, _≤_, _<_}
 use mathlib.Core.Path.{_≡_}
 use mathlib.Core.Bool.{true, false}

@@ -28,7 +28,7 @@ pub enum Counts {
     },
 }
 
-// What stands behind the structured data: nothing, or a space and a message of so many bytes.
+// What stands after the structured data: nothing, or a space and a message of so many bytes.
 pub enum Tail {
     NoTail,
     NoMessage,
@@ -41,7 +41,7 @@ enum Size {
     Bytes(usize),
 }
 
-// An element, or what is behind its id: how many bytes and parameters.
+// An element, or what is after its id: how many bytes and parameters.
 enum Block {
     NoBlock,
     IsBlock { len: usize, params: usize },
@@ -155,7 +155,7 @@ fn quoted(s: &[u8]) -> Size
     Size::Bytes(n + 1)
 }
 
-// A parameter, behind its space.
+// A parameter, after its space.
 fn param(s: &[u8]) -> Size
     ensures { λ r. ⌜ r ≡ sizeOf (parse.param (now (s .entry))) ⌝ }
 {
@@ -199,7 +199,7 @@ fn params(s: &[u8]) -> Block
     Block::NoBlock
 }
 
-// An element, behind its '['.
+// An element, after its '['.
 fn element(s: &[u8]) -> Item
     ensures { λ r. ⌜ r ≡ itemOf (parse.element (now (s .entry))) ⌝ }
 {
@@ -390,7 +390,7 @@ fn is_message(m: &[u8]) -> bool
     utf8::is_utf8(base::past(m, 3))
 }
 
-// Reads what is behind the structured data, to the end.
+// Reads what is after the structured data, to the end.
 pub fn read_tail(s: &[u8]) -> Tail
     ensures { λ r. ⌜ r ≡ tailOf (parse.message (now (s .entry))) ⌝ }
 {
@@ -407,7 +407,7 @@ pub fn read_tail(s: &[u8]) -> Tail
     Tail::IsMessage(m.len())
 }
 
-// What stands at a place of the structured data, by the byte there: an id behind '[', a parameter behind a space, or neither; and the place behind it.
+// What stands at a place of the structured data, by the byte there: an id after '[', a parameter after a space, or neither; and the place after it.
 struct Entry {
     opens: bool,
     holds: bool,
@@ -416,7 +416,7 @@ struct Entry {
     next: usize,
 }
 
-// How many bytes of a name stand behind the byte at `at`.
+// How many bytes of a name stand after the byte at `at`.
 fn name_at(line: &[u8], at: usize) -> usize
     requires { ⌜ at < length (now line) ⌝ }
     ensures { λ r. ⌜ r ≡ nameAt (now (line .entry)) at ⌝ }
@@ -424,7 +424,7 @@ fn name_at(line: &[u8], at: usize) -> usize
     name_run(base::past(line, at + 1))
 }
 
-// The parameter behind the space at `at`.
+// The parameter after the space at `at`.
 fn held(line: &[u8], at: usize) -> Entry
     requires { ⌜ at + nameAt (now line) at + valueAt (now line) at + 4 ≤ length (now line) ⌝ }
     ensures { λ r. ⌜ r ≡ holding at (nameAt (now (line .entry)) at) (valueAt (now (line .entry)) at) ⌝ }
@@ -466,7 +466,7 @@ fn next(line: &[u8], at: usize) -> Entry
     }
 }
 
-// A step of the second pass: the entry of a parameter, if it holds one, how many elements are open now, and the place behind it.
+// A step of the second pass: the entry of a parameter, if it holds one, how many elements are open now, and the place after it.
 struct Step {
     row: Param,
     holds: bool,
@@ -513,6 +513,8 @@ fn take_step(line: &[u8], at: usize, opened: usize, elements: &mut [[usize; 2]])
         next: s.next,
     }
 }
+
+// ---- for the prover alone: `fill_data` names the parameter table and so only calls, a copy of a field too
 
 fn row_of(s: Step) -> Param
     ensures { λ r. ⌜ r ≡ s .row ⌝ }

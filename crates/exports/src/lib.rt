@@ -67,6 +67,7 @@ fn leave_strict(r: StrictReading, memory: &mut [u8]) -> u32
     }
 }
 
+// Loose exact reading: the number; where it is 0, the record's 208 bytes in `memory`.
 #[no_mangle]
 pub extern "C" fn khamdoriem_read_exact(
     line: &[u8],
@@ -89,6 +90,7 @@ pub extern "C" fn khamdoriem_read_exact(
     leave(r, memory)
 }
 
+// The same by loose fallback reading.
 #[no_mangle]
 pub extern "C" fn khamdoriem_read_fallback(
     line: &[u8],
@@ -111,6 +113,7 @@ pub extern "C" fn khamdoriem_read_fallback(
     leave(r, memory)
 }
 
+// Strict reading: the number; where it is 0, the record's 240 bytes in `memory`.
 #[no_mangle]
 pub extern "C" fn khamdoriem_read_strict(
     line: &[u8],
@@ -151,6 +154,7 @@ fn unheld(len: usize, kind: u32) -> OutputAnswer
     record::output_answer_of(Written::Refused(first))
 }
 
+// Printing of the record that the 208 bytes hold: number and length.
 #[no_mangle]
 pub extern "C" fn khamdoriem_print(
     line: &[u8],
@@ -172,6 +176,7 @@ pub extern "C" fn khamdoriem_print(
     unheld(n, 0)
 }
 
+// Lookup in what a reader left: number and length.
 #[no_mangle]
 pub extern "C" fn khamdoriem_lookup(
     line: &[u8],

@@ -243,7 +243,7 @@ priorityText : List ℕ
 priorityText = bytes "[examplePriority@32473 class=\"high\"]"
 
 -- Examples 1 and 2. Example 3 has a space between the elements: the first is all the structured data, and the second is the message.
--- Example 4 has one behind a bracket, and is none. The dots of Example 5 stand for what the RFC leaves out: they are no parameter, but may be a value.
+-- Example 4 has one after a bracket, and is none. The dots of Example 5 stand for what the RFC leaves out: they are no parameter, but may be a value.
 elements : List Example
 elements =
     (holding eventText, data-of (event ∷ []) none)

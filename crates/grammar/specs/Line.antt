@@ -164,7 +164,7 @@ abbrev pub TimestampOk : Option Timestamp → Type 0
 TimestampOk none = Unit {0}
 TimestampOk (some t) = FullOk t
 
--- '"' and ']', which stand in a value behind a backslash alone
+-- '"' and ']', which stand in a value after a backslash alone
 abbrev pub bare : ℕ → Bool
 bare b = eqb b 34 || eqb b 93
 

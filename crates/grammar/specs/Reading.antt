@@ -48,7 +48,7 @@ msgidAt d = procidAt d + length (d .procid) + 1
 abbrev pub dataAt : Division → ℕ
 dataAt d = msgidAt d + length (d .msgid) + 1
 
--- behind the structured data
+-- after the structured data
 abbrev pub dataEnd : Division → ℕ
 dataEnd d = dataAt d + length (dataThen (d .elements) [])
 
@@ -92,7 +92,7 @@ abbrev pub hasMessage : Option (List ℕ) → Bool
 hasMessage none = false
 hasMessage (some m) = true
 
--- the message behind its space; an absent one has start and length 0
+-- the message after its space; an absent one has start and length 0
 abbrev pub messageSpan : ℕ → Option (List ℕ) → Span
 messageSpan at none = record { start = 0; len = 0 }
 messageSpan at (some m) = record { start = at + 1; len = length m }

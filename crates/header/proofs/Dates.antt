@@ -31,7 +31,7 @@ use Rattle.header.proofs.Steps.{untold, byte-laws, sum-fits, Finds, fin
 use Rattle.header.proofs.Answers.{failed-answer, Triple, value-found, value-none, value-some, pair-found, pair-none, pair-some, triple-found}
 use Rattle.header.proofs.Numbers.{fixed-of}
 
--- ---- two digits behind a byte, twice
+-- ---- two digits after a byte, twice
 
 two-read : (b : ℕ) → 0 < b → Reads (λ t r. b ∷ (t ++ r)) (Repeat 2 2 isDigit) Any (two b)
 two-read zero h = absurd (omega arith)
@@ -94,7 +94,7 @@ pub ruleset within-laws = (two-within, pair-within, fixed-within, sum-fits)
 
 -- ---- a fraction
 
--- the nanoseconds of digits behind the point
+-- the nanoseconds of digits after the point
 abbrev nanos : List ℕ → ℕ
 nanos f = nanosOf (some f)
 

@@ -71,7 +71,7 @@ field-fits s n en t et k l = past-there s n 32 t et k (omega arith) l
 
 pub ruleset field-laws = (field-in, field-fits, field-size, field-open, field-is)
 
--- ---- fields one behind the other
+-- ---- fields one after the other
 
 -- a field, and how many bytes its text has
 module _ (s : List ℕ) (at most : ℕ) (f : FieldAt) (ef : f ≡ fieldAt at (printable most s)) (x : Place) (n : ℕ) (hf : f ≡ IsField x n) where
@@ -84,7 +84,7 @@ module _ (s : List ℕ) (at most : ℕ) (f : FieldAt) (ef : f ≡ fieldAt at (pr
   pub field-after : at + length s < 2 ^ 64 → Fits w64 (at + n)
   field-after h = record { fits = omega (arith, field-within) }
 
--- a place behind a field lies within the line
+-- a place after a field lies within the line
 pub place-after : (s r : List ℕ) (at n : ℕ) → n ≤ length s → r ≡ drop n s → at + length s < 2 ^ 64 → at + n + length r < 2 ^ 64
 place-after s r at n h e k = let l : length r ≡ length s - n = ap length e ∙ length-drop n s in omega arith
 

@@ -199,7 +199,7 @@ module _ (s : List ℕ) (f : Number) (ef : f ≡ valueOf decimal (pri s)) where
 
 pub ruleset start-laws = (pri-within, version-within, sum-fits, start-no-pri, start-no-version, start-is)
 
--- ---- two digits behind a byte
+-- ---- two digits after a byte
 
 pub fixed-of : (k : ℕ) (s : List ℕ) → fixedAt k s ≡ valueOf decimal (fixed k s)
 unfolding fixedAt fixed

@@ -59,7 +59,7 @@ module _ {A : Type 0} {P : A → Type 0} {n : ℕ} {p : Reader A} {s : List ℕ}
     pub finds-ok : Finds (λ a. P a × Ok a × (n ≡ length (text a []))) n p s
     finds-ok = let f = R .sound s (w .value) n (w .is) in record { value = w .value; is = w .is; has = (w .has, f .ok, f .size) }
 
--- two pieces, one behind the other, lie within the text
+-- two pieces, one after the other, lie within the text
 pub both-within : (s r : List ℕ) (m n : ℕ) → m ≤ length s → r ≡ drop m s → n ≤ length r → m + n ≤ length s
 both-within s r m n h e l =
     let k : length r ≡ length s - m = ap length e ∙ length-drop m s in
@@ -81,7 +81,7 @@ module _ {A B : Type 0} {ta : A → List ℕ → List ℕ} {tb : B → List ℕ 
       let k : t .bytes + u .bytes ≡ n = cc in
       rw k at (both-within s (drop (t .bytes) s) (t .bytes) (u .bytes) (found-within R s _ _ (t .first)) refl (found-within S _ _ _ (u .first)))
 
--- a piece behind a byte
+-- a piece after a byte
 pub behind-fits : (s r : List ℕ) (n : ℕ) → r ≡ drop 1 s → n ≤ length r → 1 ≤ length s → length s < 2 ^ 64 → Fits w64 (n + 1)
 behind-fits s r n e l h k = record { fits = omega (arith, both-within s r 1 n h e l) }
 

@@ -1,4 +1,4 @@
--- What the code keeps of a header that the parser of `grammar` finds: numbers and places of the line.
+-- For private contracts alone: what the code keeps of a header that the parser of `grammar` finds: numbers and places of the line.
 use Prim.Native.Nat.{ℕ, _+_}
 use mathlib.Core.List.{[]}
 use mathlib.Core.Option.{Option, none, some}

@@ -1,4 +1,4 @@
--- What the private readers of the header answer, as functions of what the parser of `grammar` finds: a number or a place for each text, and how many bytes were taken.
+-- For private contracts alone: what the private readers of the header answer, as functions of what the parser of `grammar` finds: a number or a place for each text, and how many bytes were taken.
 use Prim.Native.Nat.{ℕ, _+_, _-_, _*_}
 use mathlib.Core.Bool.{Bool, not, _&&_}
 use mathlib.Core.List.{List}

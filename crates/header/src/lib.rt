@@ -454,6 +454,7 @@ fn text_place(stamp: Stamp, at: usize, len: usize) -> Place
     }
 }
 
+// The header of a line, PRI to MSGID, with the space after it.
 pub fn read_header(line: &[u8]) -> Heading
     ensures { λ r. ⌜ r ≡ heading (parse.header (now (line .entry))) ⌝ }
 {

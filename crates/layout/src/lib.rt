@@ -285,6 +285,7 @@ fn half_at(s: &[u8], at: usize) -> u64
     pair_at(s, at) + pair_at(s, at + 2) * 65536
 }
 
+// Word `i` of the 26, from its eight bytes.
 pub fn word_at(s: &[u8], i: usize) -> u64
     requires { ⌜ recordSize ≤ length (now s) ⌝ }
     requires { ⌜ i < wordCount ⌝ }
@@ -387,6 +388,7 @@ fn level_at(s: &[u8], i: usize) -> Level
     Level::Set(word_at(s, i + 1) as u8)
 }
 
+// An offset from its word, two's complement.
 pub fn offset_of(n: u64) -> i32
     requires { ⌜ narrow n ≡ true ⌝ }
     ensures { λ r. ⌜ r ≡ signed n ⌝ }
@@ -471,6 +473,7 @@ pub fn record_at(s: &[u8]) -> Record
     }
 }
 
+// The count of elements, the last word but one.
 pub fn element_count(s: &[u8]) -> usize
     requires { ⌜ holdsRecord (now s) ≡ true ⌝ }
     ensures { λ r. ⌜ r ≡ elementCountAt (now (s .entry)) ⌝ }
@@ -478,6 +481,7 @@ pub fn element_count(s: &[u8]) -> usize
     word_at(s, ELEMENTS_WORD) as usize
 }
 
+// The count of parameters, the last word.
 pub fn param_count(s: &[u8]) -> usize
     requires { ⌜ holdsRecord (now s) ≡ true ⌝ }
     ensures { λ r. ⌜ r ≡ paramCountAt (now (s .entry)) ⌝ }

@@ -13,7 +13,7 @@ use Rattle.suits.specs.Suits.{recordSuits, elementsSuit, paramsSuit, tablesSuit
 use Rattle.lookup.specs.Unescape.{unescapedFrom, unescaped}
 use Rattle.lookup.specs.Lookup.{Found, found, answered, Looks}
 
--- a letter, then a letter of two bytes behind a backslash
+-- a letter, then a letter of two bytes after a backslash
 abbrev accented : List ℕ
 accented = 97 ∷ 92 ∷ 195 ∷ 169 ∷ []
 
@@ -85,7 +85,7 @@ kinds : looked 10 0 ∷ looked 10 1 ∷ looked 10 2 ∷ looked 8192 1 ∷ looked
 unfolding found unescapedFrom suits tablesSuit recordSuits elementsSuit paramsSuit
 kinds = refl
 
--- the contract on that value: the length and the output's front, and what was behind it
+-- the contract on that value: the length and the output's front, and what was after it
 abbrev served : ℕ → Written → List ℕ → Type 0
 served kind w after = Looks (padded 10) emptyRecord 1 1 oneElement oneParam (bytes "a") (bytes "x") kind (7 ∷ 8 ∷ 9 ∷ []) w after
 

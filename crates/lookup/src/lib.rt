@@ -25,7 +25,7 @@ ghost use Rattle.lookup.specs.Lookup.{Found, idText, Looks};
 ghost use Rattle.lookup.specs.Steps.{adds, bytesOf, foundAt, Finds, Gives};
 ghost use Rattle.lookup.specs.Searches.{Asks, searchFrom, searchOf};
 
-// Has the place that text?
+// Whether the place has that text.
 fn text_is(line: &[u8], start: usize, len: usize, text: &[u8]) -> bool
     requires { ⌜ start + len ≤ length (now line) ⌝ }
     ensures { λ r. ⌜ r ≡ sameText (textAt (now (line .entry)) start len) (now (text .entry)) ⌝ }
@@ -279,6 +279,7 @@ fn early(n: usize) -> Written
     Written::Refused(Refusal::BadSetting)
 }
 
+// The service: the unescaped value of the first parameter with that id and that name, into `out`.
 pub fn lookup(
     line: &[u8],
     r: Record,

@@ -34,7 +34,7 @@ use Rattle.message.proofs.Texts.{message-in}
 use Rattle.message.proofs.Rooms.{room-over, room-rest, fits-both}
 use Rattle.message.proofs.Lengths.{printed-size}
 
--- behind the elements
+-- after the elements
 module _ (p : Protocol) (n : ℕ) where
   pub end-some : (n ≡ 0 → ⊥) → 32 ∷ [] ≡ endText p n
   unfolding endText

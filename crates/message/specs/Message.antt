@@ -57,7 +57,7 @@ unfoldable pub paramsText : List ℕ → ℕ → List (List ℕ) → List ℕ
 paramsText line k [] = []
 paramsText line k (row ∷ rows) = if eqb (getD row 0 0) k then paramText line row ++ paramsText line k rows else []
 
--- those behind them
+-- those after them
 unfoldable pub otherParams : ℕ → List (List ℕ) → List (List ℕ)
 otherParams k [] = []
 otherParams k (row ∷ rows) = if eqb (getD row 0 0) k then otherParams k rows else row ∷ rows

@@ -1,4 +1,4 @@
-// The head of a printed record, `<p>` to the host, and the names behind it; each with its length.
+// The head of a printed record, `<p>` to the host, and the names after it; each with its length.
 use output::put;
 use output::put_number;
 use output::put_text;
@@ -29,6 +29,7 @@ fn text_at(line: &[u8], start: usize, len: usize) -> &[u8]
     &line[start..end]
 }
 
+// A part of the line.
 pub fn put_part(out: &mut [u8], at: usize, line: &[u8], start: usize, len: usize) -> usize
     requires { ⌜ Fits (now out) at (textAt (now line) start len) ⌝ }
     requires { ⌜ start + len ≤ length (now line) ⌝ }
@@ -131,7 +132,7 @@ fn put_start(out: &mut [u8], r: Record) -> usize
     put(out, b, b' ')
 }
 
-// The timestamp's printer gets the part of the output behind the version's space.
+// The timestamp's printer gets the part of the output after the version's space.
 fn put_stamp_at(out: &mut [u8], at: usize, r: Record) -> usize
     requires { ⌜ Fits (now out) at (stampText (r .timestamp)) ⌝ }
     ensures { λ n. ⌜ Wrote (now (out .entry)) at (stampText (r .timestamp)) n (now (out .exit)) ⌝ }
@@ -266,6 +267,7 @@ pub fn put_front(out: &mut [u8], line: &[u8], r: Record) -> usize
     put_names(out, a, line, r)
 }
 
+// How many bytes head and names take.
 pub fn front_len(line: &[u8], r: Record) -> usize
     requires { ⌜ length (now line) ≤ lineLimit ⌝ }
     requires { ⌜ recordSuits (now line) r ≡ true ⌝ }

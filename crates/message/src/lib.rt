@@ -71,7 +71,7 @@ fn end_len(r: Record, count: usize) -> usize
     }
 }
 
-// What stands behind the elements.
+// What stands after the elements.
 fn put_back(out: &mut [u8], at: usize, line: &[u8], r: Record, count: usize) -> usize
     requires { ⌜ Fits (now out) at (backText (now line) r count) ⌝ }
     requires { ⌜ r .message .start + r .message .len ≤ length (now line) ⌝ }
@@ -159,7 +159,7 @@ fn put_before(
     put_first(out, a, line, counted(elements, count))
 }
 
-// All behind the parameters, of which the last is one of element `k`.
+// All after the parameters, of which the last is one of element `k`.
 fn put_behind(
     out: &mut [u8],
     at: usize,
@@ -231,6 +231,7 @@ fn done(n: usize) -> Written
     Written::Done(n)
 }
 
+// The service: the record as text, into `out`.
 pub fn print(
     line: &[u8],
     r: Record,

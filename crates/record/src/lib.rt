@@ -127,6 +127,7 @@ pub struct OutputAnswer {
     pub len: usize,
 }
 
+// The place of a text that is absent.
 pub fn absent() -> Place
     ensures { λ r. ⌜ r ≡ absent ⌝ }
 {
@@ -137,6 +138,7 @@ pub fn absent() -> Place
     }
 }
 
+// The place of a text that is present.
 pub fn place_at(start: usize, len: usize) -> Place
     ensures { λ r. ⌜ r ≡ place start len ⌝ }
 {
@@ -147,6 +149,7 @@ pub fn place_at(start: usize, len: usize) -> Place
     }
 }
 
+// An entry of zeros, as a table has it before it is filled.
 pub fn blank() -> Param
     ensures { λ r. ⌜ r ≡ blank ⌝ }
 {
@@ -177,12 +180,14 @@ pub fn message_alone(len: usize) -> Record
     }
 }
 
+// The record of a refusal.
 pub fn empty_record() -> Record
     ensures { λ r. ⌜ r ≡ emptyRecord ⌝ }
 {
     message_alone(0)
 }
 
+// The strict record of a refusal.
 pub fn empty_strict() -> StrictRecord
     ensures { λ r. ⌜ r ≡ emptyStrict ⌝ }
 {
@@ -193,6 +198,7 @@ pub fn empty_strict() -> StrictRecord
     }
 }
 
+// The number of a refusal (RULES Numbers).
 pub fn refusal_number(r: Refusal) -> u32
     ensures { λ n. ⌜ n ≡ refusalNumber r ⌝ }
 {
@@ -209,6 +215,7 @@ pub fn refusal_number(r: Refusal) -> u32
     }
 }
 
+// A reading's number and values; a refusal has the empty record and zeros.
 pub fn answer_of(r: Reading) -> Answer
     ensures { λ a. ⌜ a ≡ answerOf r ⌝ }
 {
@@ -228,6 +235,7 @@ pub fn answer_of(r: Reading) -> Answer
     }
 }
 
+// The same of a strict reading.
 pub fn strict_answer_of(r: StrictReading) -> StrictAnswer
     ensures { λ a. ⌜ a ≡ strictAnswerOf r ⌝ }
 {
@@ -247,6 +255,7 @@ pub fn strict_answer_of(r: StrictReading) -> StrictAnswer
     }
 }
 
+// The same of what printing and lookup answer.
 pub fn output_answer_of(w: Written) -> OutputAnswer
     ensures { λ a. ⌜ a ≡ outputAnswerOf w ⌝ }
 {

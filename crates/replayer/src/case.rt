@@ -26,6 +26,7 @@ fn offset_of(n: u64) -> i32 {
     0
 }
 
+// The settings of a loose reading: three fields from `at` on.
 pub fn settings(text: &[u8], at: usize, fallback: bool) -> Set {
     let variant = number(text, at);
     let year = number(text, variant.next);

@@ -1,9 +1,9 @@
-// A case is a line of text: fields behind one space each, numbers in decimal, bytes in hexadecimal, `-` for no bytes.
+// A case is a line of text: fields after one space each, numbers in decimal, bytes in hexadecimal, `-` for no bytes.
 ghost use Prim.Native.Nat.{_≤_};
 ghost use mathlib.Core.Path.{_≡_};
 ghost use lib.ListN.{length};
 
-// A number, or bytes that were decoded: their count. `next` is behind the field and its space; `ok` where the field is well formed.
+// A number, or bytes that were decoded: their count. `next` is after the field and its space; `ok` where the field is well formed.
 pub struct Field {
     pub ok: bool,
     pub value: u64,
@@ -34,6 +34,7 @@ fn no_field(next: usize) -> Field {
     }
 }
 
+// The field at `at`, as a number in decimal.
 pub fn number(text: &[u8], at: usize) -> Field {
     let mut n = 0;
     let mut i = at;

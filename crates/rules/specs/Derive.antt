@@ -1,4 +1,4 @@
--- The rules by which a function over a lent slice of structs is proved by hand.
+-- For proofs alone: the rules by which a function over a lent slice of structs is proved by hand.
 -- The toolchain derives a function's proof by itself, by its borrow checker's rules (the modules `borrow.*`), where it covers all of the function's types; it covers no slice of structs.
 -- These are the same rules, with all that antt finds left implicit, so that a derivation can be written with one line for each statement of the function's MIR:
 --     Spot             where a derivation stands: a model of the logic, its tables, and the locals' places
@@ -305,7 +305,7 @@ shr R α = sslice R (sT R α) α
 abbrev pub muts : RattleType → ℕ → Row
 muts R α = mslice R (nT R α) α
 
--- a `&mut` slice that is lent on from the slot α to the slot β, what is lent, and what is left of that behind the call; a `&mut` slice of bytes that is lent as `&`, and a part of it
+-- a `&mut` slice that is lent on from the slot α to the slot β, what is lent, and what is left of that after the call; a `&mut` slice of bytes that is lent as `&`, and a part of it
 abbrev pub owing : RattleType → ℕ → ℕ → Life → Row
 owing R α β l = mslice-owed R (nT R α) α β l
 

@@ -69,7 +69,7 @@ fn show_texts(line: &[u8], numbers: &[u64]) {
     say_place(b"  message id ", line, numbers, 20);
 }
 
-// The rows behind the record's words, from `first` on.
+// The rows after the record's words, from `first` on.
 fn show_elements(line: &[u8], numbers: &[u64], first: usize) -> usize {
     let count = up_to(at(numbers, 25), 64);
     let mut next = up_to(first as u64, 100);

@@ -1,4 +1,4 @@
--- What the first pass keeps of a line that the parser of `grammar` divides: the record, where the structured data stands, and the counts;
+-- For private contracts alone: what the first pass keeps of a line that the parser of `grammar` divides: the record, where the structured data stands, and the counts;
 -- and what is answered before a table is touched.
 use Prim.Native.Nat.{ℕ, _/_, _%_}
 use mathlib.Core.Bool.{Bool, true, false}

@@ -26,7 +26,7 @@ use Rattle.structured_data.proofs.Params.{param-lies}
 use Rattle.suits.proofs.Suited.{IdIn}
 use Rattle.suited.proofs.Tests.{RowsOf, RowsIn, rows-none, rows-more}
 
--- all in a part `t` of the line, which stands at `at` or behind
+-- all in a part `t` of the line, which stands at `at` or after
 module _ (line : List ℕ) where
   -- the parameters of element `e`
   param-and : (e at before : ℕ) (t : List ℕ) (more : ℕ → Params) → at + length t ≤ length line → ((len : ℕ) → RowsOf line e (more len .rows))

@@ -61,7 +61,7 @@ pub record Judged (o : Outcome) (r : Record) (e p : ℕ) : Type 0 where
   pub elements-many : e ≡ length (rows .elements)
   pub params-many : p ≡ length (rows .params)
 
--- an answer behind a test that refuses is an answer, where the test fails
+-- an answer after a test that refuses is an answer, where the test fails
 module _ {r : Record} {e p : ℕ} where
   never : {A : Type 0} (f : Refusal) → Refused f ≡ Read r e p → A
   never f h = let z : true ≡ false = cc in clash z

@@ -55,7 +55,7 @@ module _ (t : Timestamp) where
 
 pub ruleset time-laws = (time-nanos, time-far, time-shown)
 
--- one test, and more behind it
+-- one test, and more after it
 module _ (t more : Bool) where
   pub test-off : not t ≡ true → false ≡ (t && more)
   test-off h = rw (not-true t h)

@@ -178,6 +178,7 @@ fn check_param(line: &[u8], element_count: usize, param_count: usize, c: Check, 
     check_at(ok, c.next + 1, p.element, param_count)
 }
 
+// Whether record, counts and tables suit the line: if not, the call is refused with 7.
 pub fn is_suitable(
     line: &[u8],
     r: Record,

@@ -57,6 +57,7 @@ pub fn exact(
     n
 }
 
+// The same by fallback reading.
 pub fn fallback(
     line: &[u8],
     variant: u32,
@@ -84,6 +85,7 @@ pub fn fallback(
     n
 }
 
+// The same by strict reading.
 pub fn strict(
     line: &[u8],
     elements: &mut [[usize; 2]],
@@ -123,6 +125,7 @@ pub fn copy_entries(rows: &[[usize; 5]], params: &mut [Param]) {
     }
 }
 
+// Printing over the rows.
 pub fn print(
     line: &[u8],
     memory: &[u8],
@@ -136,6 +139,7 @@ pub fn print(
     exports::khamdoriem_print(line, memory, elements, &params, out)
 }
 
+// Lookup over the rows.
 pub fn lookup(
     line: &[u8],
     memory: &[u8],

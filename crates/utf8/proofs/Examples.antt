@@ -6,7 +6,7 @@ use mathlib.Core.List.{List, [], _∷_, _++_, map}
 use Rattle.utf8.specs.Lead.{asks, leadOf, wellFormed, charLen, utf8From, isUtf8}
 use Rattle.utf8.specs.Characters.{isChar, charRun}
 
--- the answer for each byte, with `front` before it and `back` behind it
+-- the answer for each byte, with `front` before it and `back` after it
 abbrev between : List ℕ → List ℕ → List ℕ → List Bool
 between front back = map (λ b. isUtf8 (front ++ b ∷ back))
 
@@ -124,7 +124,7 @@ leads : map leadOf (0x00 ∷ 0x7F ∷ 0x80 ∷ 0xC1 ∷ 0xC2 ∷ 0xDF ∷ 0xE0 �
 unfolding leadOf
 leads = refl
 
--- each byte behind a lead byte is asked for in its own place
+-- each byte after a lead byte is asked for in its own place
 places : map charLen
     ((0xCE ∷ 0x2E ∷ 0x91 ∷ [])
     ∷ (0xE2 ∷ 0x41 ∷ 0x89 ∷ 0x89 ∷ [])

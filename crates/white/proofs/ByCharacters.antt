@@ -44,7 +44,7 @@ field-by-characters = walk-by-characters field-walk tests-not-white
 pub field-cuts : (s : List ℕ) → isUtf8 s ≡ true → isUtf8 (drop (fieldLen s) s) ≡ true
 field-cuts = walk-cuts field-walk tests-not-white
 
--- bytes behind none of which there are white characters alone
+-- bytes after none of which there are white characters alone
 end-over : (c t : List ℕ) → ((m : ℕ) → m < length c → Blank (drop m (c ++ t)) → ⊥) → textEnd (c ++ t) ≡ length c + textEnd t
 end-over [] t h = omega arith
 end-over (x ∷ c) t h =

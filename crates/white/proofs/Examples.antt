@@ -51,7 +51,7 @@ no-characters : map whiteLen ((0x85 ∷ []) ∷ (0xA0 ∷ []) ∷ (0xE2 ∷ 0x80
 unfolding leadOf wellFormed charLen isWhite codePoint whiteLen
 no-characters = refl
 
--- behind the field a tab, U+00A0, U+2028, nothing; U+0145, whose last byte is 0x85, is no white character
+-- after the field a tab, U+00A0, U+2028, nothing; U+0145, whose last byte is 0x85, is no white character
 fields : map fieldLen (
     bytes "ab\tc"
     ∷ (0x61 ∷ 0xC2 ∷ 0xA0 ∷ [])

@@ -22,7 +22,7 @@ use Rattle.elements.proofs.row_of.Reads as Rr
 use Rattle.elements.proofs.row_of.Symbol as Rs
 use Rattle.elements.proofs.row_of.Met as Rm
 
--- the walk behind a parameter that is stored
+-- the walk after a parameter that is stored
 module _ (line : List ℕ) (from end : ℕ) (e₀ p₀ : List (List ℕ)) (p q : List Param) (i m : ℕ) (s : Step) (e′ : List (List ℕ)) (x : Param) where
   in-table : Stepped line from end e₀ p₀ (rows p) i m s e′ → s .holds ≡ true → x ≡ s .row → q ≡ set p m x → Walk line from end e₀ p₀ e′ (rows q) (s .next) (s .opened) (m + 1)
   in-table d h ex eq = subst (λ (y : List (List ℕ)). Walk line from end e₀ p₀ e′ y (s .next) (s .opened) (m + 1)) (ap (λ (y : Param). set (rows p) m (rowOf y)) (sym ex) ∙ sym (rows-set p m x) ∙ ap rows (sym eq)) (d .stored h)
