@@ -24,7 +24,7 @@ use Rattle.grammar.specs.Line.{Each, eachThen, paramThen, elementThen, dataThen
 use Rattle.grammar.specs.Reading.{paramCount}
 use Rattle.grammar.proofs.Readers.{text-length}
 use Rattle.grammar.proofs.Data.{param-reads, element-reads}
-use Rattle.elements.proofs.Filling.{params-length, param-length}
+use Rattle.strict_data.proofs.Filling.{params-length, param-length}
 
 -- ---- the loose readers
 

@@ -21,7 +21,7 @@ use Rattle.draft.specs.Outcome.Outcome.{noReading, isReading}
 use Rattle.loose.specs.Loose.{settingsOk, judged, tableAfter, rowsOf, Reads}
 use Rattle.grammar.specs.Reading.{dataAt, elementRows, paramRows, StrictReads}
 use Rattle.grammar.specs.Reading.StrictReads.{too-long, underivable, elements-over, params-over, accepted}
-use Rattle.elements.proofs.Filling.{elements-many, all-many}
+use Rattle.strict_data.proofs.Filling.{elements-many, all-many}
 use Rattle.suits.specs.Suits.{suits}
 use Rattle.message.specs.Message.{printed}
 use Rattle.lookup.specs.Unescape.{unescaped}

@@ -17,7 +17,7 @@ use Rattle.record.specs.declared.Refusal.the-variants.{LineTooLong, Unsuitable,
 use Rattle.record.specs.declared.Written.the-variants.{Done, Refused}
 use Rattle.suits.specs.Suits.{recordSuits, elementsSuit, paramsSuit, tablesSuit, suits}
 use Rattle.output.specs.Numerals.{fixed, widthFrom}
-use Rattle.stamps.specs.Stamps.{dateText, timeText, clockText, fractionText, offsetText}
+use Rattle.message_stamp.specs.Stamps.{dateText, timeText, clockText, fractionText, offsetText}
 use Rattle.message.specs.Message.{priText, fieldText, paramText, paramsText, otherParams, openText, elementsText, headText, printed}
 use Rattle.message.specs.Prints.{answered}
 

@@ -20,7 +20,7 @@ use Rattle.output.specs.Fits.{Sized}
 use Rattle.output.specs.Numerals.{width, numeral}
 use Rattle.output.proofs.Numerals.{length-fixed, width-le}
 use Rattle.output.proofs.Pieces.{Starts}
-use Rattle.stamps.specs.Stamps.{stampText}
+use Rattle.message_stamp.specs.Stamps.{stampText}
 use Rattle.message.specs.Message.{levelOr, priText, versionText, placeText, fieldText, tagText, namesText, headText}
 
 -- what `&line[start..end]` lends

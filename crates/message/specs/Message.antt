@@ -13,7 +13,7 @@ use Rattle.record.specs.declared.Protocol.{Protocol}
 use Rattle.record.specs.declared.Protocol.the-variants.{Rfc3164, Rfc5424}
 use Rattle.record.specs.declared.Record.{Record}
 use Rattle.output.specs.Numerals.{numeral}
-use Rattle.stamps.specs.Stamps.{stampText}
+use Rattle.message_stamp.specs.Stamps.{stampText}
 
 -- absent facility counts as 5, absent severity as 7
 abbrev pub levelOr : ℕ → Level → ℕ

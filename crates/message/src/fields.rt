@@ -17,7 +17,7 @@ ghost use Rattle.record.specs.Limits.{lineLimit};
 ghost use Rattle.suits.specs.Suits.{recordSuits};
 ghost use Rattle.output.specs.Fits.{Fits, Sized};
 ghost use Rattle.output.specs.Output.{Wrote};
-ghost use Rattle.stamps.specs.Stamps.{stampText};
+ghost use Rattle.message_stamp.specs.Stamps.{stampText};
 ghost use Rattle.message.specs.Message.{levelOr, priText, versionText, placeText, fieldText, tagText, namesText, headText};
 
 // A text of the line.
@@ -138,7 +138,7 @@ fn put_stamp_at(out: &mut [u8], at: usize, r: Record) -> usize
     ensures { λ n. ⌜ Wrote (now (out .entry)) at (stampText (r .timestamp)) n (now (out .exit)) ⌝ }
 {
     let timestamp = r.timestamp;
-    at + stamps::put_stamp(&mut out[at..], timestamp)
+    at + message_stamp::put_stamp(&mut out[at..], timestamp)
 }
 
 fn put_stamped(out: &mut [u8], r: Record) -> usize
@@ -167,7 +167,7 @@ fn head_len(line: &[u8], r: Record) -> usize
 {
     let timestamp = r.timestamp;
     let host = r.host;
-    pri_len(r) + version_len(r) + stamps::stamp_len(timestamp) + place_len(line, host) + 3
+    pri_len(r) + version_len(r) + message_stamp::stamp_len(timestamp) + place_len(line, host) + 3
 }
 
 // `[pid]: `

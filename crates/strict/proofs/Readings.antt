@@ -21,7 +21,7 @@ use Rattle.grammar.proofs.Readers.{text-over}
 use Rattle.grammar.proofs.Header.{headerThen, HeaderOk, header-reads}
 use Rattle.grammar.proofs.Data.{data-reads}
 use Rattle.grammar.proofs.Lines.{headerOf, parse-sound, none-derived}
-use Rattle.elements.specs.Filling.{elementsAt, elementsOf, Fillable}
+use Rattle.strict_data.specs.Filling.{elementsAt, elementsOf, Fillable}
 use Rattle.record.specs.declared.StrictReading.{StrictReading}
 use Rattle.record.specs.declared.StrictReading.the-variants.{Read, Refused}
 use Rattle.record.specs.declared.StrictRecord.{StrictRecord}

@@ -11,7 +11,7 @@ use Rattle.grammar.specs.Line.{Division, dataThen}
 use Rattle.grammar.specs.Parse.{Parsed, parse}
 use Rattle.grammar.specs.Parse.Parsed.{failed, found}
 use Rattle.grammar.specs.Reading.{recordOf, dataAt, paramCount}
-use Rattle.header.specs.declared.HeaderAt.{HeaderAt}
+use Rattle.strict_header.specs.declared.HeaderAt.{HeaderAt}
 use Rattle.record.specs.declared.Level.the-variants.{Set}
 use Rattle.record.specs.declared.Protocol.the-variants.{Rfc5424}
 use Rattle.record.specs.declared.Span.{Span}

@@ -1,8 +1,4 @@
 // The strict reader: RFC 5424 section 6, no trimming, into lent tables.
-use elements::Counts;
-use elements::Tail;
-use header::HeaderAt;
-use header::Heading;
 use record::Level;
 use record::Param;
 use record::Protocol;
@@ -11,6 +7,10 @@ use record::Refusal;
 use record::Span;
 use record::StrictReading;
 use record::StrictRecord;
+use strict_data::Counts;
+use strict_data::Tail;
+use strict_header::HeaderAt;
+use strict_header::Heading;
 ghost use mathlib.Core.Path.{_≡_};
 ghost use Prim.Native.Nat.{_≤_};
 ghost use lib.ListN.{length};
@@ -66,7 +66,7 @@ fn scan_line(line: &[u8]) -> Scan
     requires { ⌜ length (now line) ≤ lineLimit ⌝ }
     ensures { λ r. ⌜ r ≡ scanOf (parse.parse (now (line .entry))) ⌝ }
 {
-    let Heading::IsHeader(h) = header::read_header(line) else {
+    let Heading::IsHeader(h) = strict_header::read_header(line) else {
         return Scan::NoScan;
     };
     let at = h.next;
@@ -75,11 +75,11 @@ fn scan_line(line: &[u8]) -> Scan
         len,
         elements,
         params,
-    } = elements::count_data(s)
+    } = strict_data::count_data(s)
     else {
         return Scan::NoScan;
     };
-    let tail = elements::read_tail(base::past(s, len));
+    let tail = strict_data::read_tail(base::past(s, len));
     match tail {
         Tail::NoTail => Scan::NoScan,
         Tail::NoMessage => {
@@ -171,7 +171,7 @@ pub fn read(line: &[u8], elements: &mut [[usize; 2]], params: &mut [Param]) -> S
         let data = data_of(judged);
         let from = data.from;
         let len = data.len;
-        elements::fill_data(line, from, len, elements, params);
+        strict_data::fill_data(line, from, len, elements, params);
     }
     reading_of(judged)
 }

@@ -31,9 +31,9 @@ use Rattle.grammar.proofs.Readers.{text-length}
 use Rattle.grammar.proofs.Header.{header-reads}
 use Rattle.grammar.proofs.Data.{param-reads, element-reads, data-reads}
 use Rattle.grammar.proofs.Lines.{headerOf}
-use Rattle.header.proofs.Stamps.{four-digits}
-use Rattle.header.proofs.Callers.{offset-small}
-use Rattle.elements.proofs.Filling.{params-length, param-length, elements-many, all-many}
+use Rattle.strict_header.proofs.Stamps.{four-digits}
+use Rattle.strict_header.proofs.Callers.{offset-small}
+use Rattle.strict_data.proofs.Filling.{params-length, param-length, elements-many, all-many}
 use Rattle.strict.proofs.Scans.{header-size}
 use Rattle.strict.proofs.Readings.{header-ok}
 use Rattle.timestamp.proofs.Answers.{StampIn}

@@ -28,7 +28,7 @@ use Rattle.record.specs.declared.Stamp.the-variants.{Unstamped, Stamped}
 use Rattle.record.specs.declared.Timestamp.{Timestamp}
 use Rattle.grammar.specs.Line.{Each}
 use Rattle.output.specs.Numerals.{fixed, numeral, width}
-use Rattle.stamps.specs.Stamps.{dateText, timeText, clockText, fractionText, signOf, offsetText, shownText, stampText}
+use Rattle.message_stamp.specs.Stamps.{dateText, timeText, clockText, fractionText, signOf, offsetText, shownText, stampText}
 use Rattle.message.specs.Message.{levelOr, priText, versionText, placeText, fieldText, tagText, namesText, paramText, paramsText, otherParams, openText, elementsText, dataText, headText, printed}
 use Rattle.texts.specs.Texts.{OfRecord, OfElement, OfParam}
 

@@ -1,5 +1,5 @@
 -- `lookup::lookup` meets its contract: a derivation by hand. The refusals in order, each in an arm that returns; the tables are handed on, and the output is lent where the value is given.
-use Rattle.rules.specs.Derive.{Asked, Cx, Derived, Laid, Learnt, Lfts, Row, R·, Shares, World, [], _∙_, _∷_, _≡_, _▸_, _▹_, any-gone, ap, at, back, begin, branch, by-mut, by-num, by-shr, by-val, bytes, calls, cites, cx, eT, finish, fix-len, fld, gone, held, here, i32, i64, join, lease, lend, lends, length, lent, lose, lost, muts, nexts, none, off, over, owed, packs, pair, proves, put, refl, returns, room, sBool, same, sc, sc-here, shr, slen, sliceTy, struct, sym, tablesOf, tyBool, tyInt, unmade, w32, w64, world}
+use Rattle.derivation.specs.Derive.{Asked, Cx, Derived, Laid, Learnt, Lfts, Row, R·, Shares, World, [], _∙_, _∷_, _≡_, _▸_, _▹_, any-gone, ap, at, back, begin, branch, by-mut, by-num, by-shr, by-val, bytes, calls, cites, cx, eT, finish, fix-len, fld, gone, held, here, i32, i64, join, lease, lend, lends, length, lent, lose, lost, muts, nexts, none, off, over, owed, packs, pair, proves, put, refl, returns, room, sBool, same, sc, sc-here, shr, slen, sliceTy, struct, sym, tablesOf, tyBool, tyInt, unmade, w32, w64, world}
 use mathlib.Core.Bool.{false, not}
 use Rattle.record.specs.Params.{rows}
 use Rattle.entries.proofs.Contracts as E

@@ -1,6 +1,6 @@
 -- `message::print` meets its contract: a derivation by hand. The refusals in order, each in an arm that returns; the tables are handed on, and the output is lent where the record fits.
 use Rattle.record.specs.Limits.{lineLimit}
-use Rattle.rules.specs.Derive.{Asked, Cx, Derived, Laid, Learnt, Lfts, Row, R·, Shares, World, [], _∙_, _∷_, _≤_, _▸_, _▹_, any-gone, at, back, begin, branch, by-mut, by-num, by-shr, by-val, bytes, calls, cites, cx, eT, finish, fix-len, fld, gone, held, here, i64, join, lease, len, lend, lends, length, lent, lose, ltb-false, ltb-true, muts, nexts, none, off, over, owed, packs, pair, proves, put, refl, returns, room, sBool, same, sc, sc-here, shr, slen, sliceTy, struct, sym, tablesOf, tyBool, tyInt, unmade, w64, world}
+use Rattle.derivation.specs.Derive.{Asked, Cx, Derived, Laid, Learnt, Lfts, Row, R·, Shares, World, [], _∙_, _∷_, _≤_, _▸_, _▹_, any-gone, at, back, begin, branch, by-mut, by-num, by-shr, by-val, bytes, calls, cites, cx, eT, finish, fix-len, fld, gone, held, here, i64, join, lease, len, lend, lends, length, lent, lose, ltb-false, ltb-true, muts, nexts, none, off, over, owed, packs, pair, proves, put, refl, returns, room, sBool, same, sc, sc-here, shr, slen, sliceTy, struct, sym, tablesOf, tyBool, tyInt, unmade, w64, world}
 use Rattle.record.specs.Params.{rows}
 use Rattle.entries.proofs.Contracts as E
 use Rattle.suits.proofs.Contracts as S

@@ -1,5 +1,5 @@
 -- `structured_data::fill_data` meets its contract: a derivation by hand. The invariant: with the rows that are left stored behind them, the rows that are stored are all.
-use Rattle.rules.specs.Derive.{Asked, Cx, Derived, Laid, Learnt, Lfts, Life, List, Row, R·, Shares, World, [], _+_, _-_, _<_, _∙_, _∷_, _≡_, _≤_, _▸_, _▹_, _◂_, add, alive, any-gone, at, back, begin, blocks, branch, by-choice, by-mut, by-num, by-shr, by-val, bytes, calls, choice, chosen-held, cites, cx, eT, exits, finish, fix-len, fld, gone, held, here, i64, join, last, lease, lend, lends, length, lent, lit, loops, lose, lost, lt, ltb-false, ltb-true, made, muts, nexts, none, num, off, over, owed, packs, pair, part, proves, put, puts, refl, returns, room, sBool, sUnit, same, sc, sc-here, shr, sliceTy, slots₃, struct, subst, sym, tablesOf, tyBool, tyInt, tyUnit, unit, unsigned, w64, world, ℕ}
+use Rattle.derivation.specs.Derive.{Asked, Cx, Derived, Laid, Learnt, Lfts, Life, List, Row, R·, Shares, World, [], _+_, _-_, _<_, _∙_, _∷_, _≡_, _≤_, _▸_, _▹_, _◂_, add, alive, any-gone, at, back, begin, blocks, branch, by-choice, by-mut, by-num, by-shr, by-val, bytes, calls, choice, chosen-held, cites, cx, eT, exits, finish, fix-len, fld, gone, held, here, i64, join, last, lease, lend, lends, length, lent, lit, loops, lose, lost, lt, ltb-false, ltb-true, made, muts, nexts, none, num, off, over, owed, packs, pair, part, proves, put, puts, refl, returns, room, sBool, sUnit, same, sc, sc-here, shr, sliceTy, slots₃, struct, subst, sym, tablesOf, tyBool, tyInt, tyUnit, unit, unsigned, w64, world, ℕ}
 use Rattle.record.specs.declared.Param.{Param}
 use Rattle.record.specs.Params.{rows}
 use Rattle.entries.proofs.Contracts as E

@@ -1,5 +1,5 @@
 -- `structured_data::fill_params` meets its contract: a derivation by hand. The invariant: the rows of the parameters that are passed stand in the table.
-use Rattle.rules.specs.Derive.{Asked, Cx, Derived, Laid, Learnt, Lfts, List, Row, R·, Shares, World, [], _+_, _-_, _<_, _∙_, _∷_, _≡_, _▸_, _▹_, add, any-gone, ap, arith, at, back, begin, blocks, branch, by-lit, by-mut, by-num, by-shr, by-val, bytes, calls, cites, cx, eT, eq, eqb-false, eqb-true, finish, fix-len, fld, gone, held, here, i64, join, last, lease, lend, lends, length, lent, lit, loops, lose, lost, lt, muts, nexts, none, num, off, over, owed, packs, part, proves, put, puts, refl, returns, room, sBool, sUnit, same, sc, sc-here, set, shr, sliceTy, slots₂, struct, subst, sym, tablesOf, tyBool, tyInt, tyUnit, unsigned, w64, w8, world, ℕ}
+use Rattle.derivation.specs.Derive.{Asked, Cx, Derived, Laid, Learnt, Lfts, List, Row, R·, Shares, World, [], _+_, _-_, _<_, _∙_, _∷_, _≡_, _▸_, _▹_, add, any-gone, ap, arith, at, back, begin, blocks, branch, by-lit, by-mut, by-num, by-shr, by-val, bytes, calls, cites, cx, eT, eq, eqb-false, eqb-true, finish, fix-len, fld, gone, held, here, i64, join, last, lease, lend, lends, length, lent, lit, loops, lose, lost, lt, muts, nexts, none, num, off, over, owed, packs, part, proves, put, puts, refl, returns, room, sBool, sUnit, same, sc, sc-here, set, shr, sliceTy, slots₂, struct, subst, sym, tablesOf, tyBool, tyInt, tyUnit, unsigned, w64, w8, world, ℕ}
 use mir.Syntax.{bitOr}
 use mathlib.Core.Bool.{true, false, not}
 use Rattle.record.specs.declared.Param.{Param}
