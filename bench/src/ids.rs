@@ -46,10 +46,23 @@ pub fn middle(n: usize) -> Vec<String> {
     elements(&long(&pairs(n), LONGEST / 2 - 1))
 }
 
-/// A `b` at another place in each of the first 32, then pairs at the end, none of which begins with `a` or `b`.
+/// Up to 32 ids, a `b` at another place in each.
+fn spread(n: usize) -> Vec<String> {
+    (0..n.min(LONGEST)).map(|i| format!("{}b{}", "a".repeat(i), "a".repeat(LONGEST - 1 - i))).collect()
+}
+
+/// Then pairs at the end, none of which begins with `a` or `b`.
 pub fn each_elsewhere(n: usize) -> Vec<String> {
-    let spread = |i: usize| format!("{}b{}", "a".repeat(i), "a".repeat(LONGEST - 1 - i));
-    let mut ids: Vec<String> = (0..n.min(LONGEST)).map(spread).collect();
+    let mut ids = spread(n);
     ids.extend(long(&pairs(n - ids.len()), LONGEST - 2));
+    elements(&ids)
+}
+
+/// Then the numbers with two bits or more, in `a` and `b` at the end.
+pub fn binary(n: usize) -> Vec<String> {
+    let bits = |i: u32| (0..8).map(|k| if i >> k & 1 == 1 { 'b' } else { 'a' }).collect::<String>();
+    let mut ids = spread(n);
+    let numbers = (0..256u32).filter(|i| i.count_ones() > 1).take(n - ids.len());
+    ids.extend(numbers.map(|i| format!("{}{}", "a".repeat(LONGEST - 8), bits(i))));
     elements(&ids)
 }

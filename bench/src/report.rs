@@ -33,9 +33,9 @@ fn intro(results: &Results) -> Result<String, String> {
     let about = |name| results.words(&["about", name]);
     Ok(format!(
         "# What reading costs\n\n\
-         `bench/run` makes {} lines as the readers of a gate send them (seed {}), reads them with syslog_loose (\"the Rust\") and with the archive (\"ours\"), and writes this page.\n\
-         Counted are the instructions that the x86-64 program runs, as the difference of two run lengths, so that start-up is not in them. Both are optimised (opt-level 3; for the Rust, with link-time optimisation too in a column of its own), nothing\n\
-         is printed, and the lent tables are not cleared. Before that every line is read by both and compared. Our loose reader checks that the line is UTF-8; the Rust is given text that is known to be. The Rust allocates its lists; ours fills lent tables\n\
+         `bench/run` makes {} lines as the readers of a gate send them (seed {}), reads them with syslog_loose (\"the Rust\") and with the archive (\"ours\"), and writes this page. \
+         Counted are the instructions that the x86-64 program runs, as the difference of two run lengths, so that start-up is not in them. Both are optimised (opt-level 3; for the Rust, with link-time optimisation too in a column of its own), nothing \
+         is printed, and the lent tables are not cleared. Before that every line is read by both and compared. Our loose reader checks that the line is UTF-8; the Rust is given text that is known to be. The Rust allocates its lists; ours fills lent tables \
          and writes the record's bytes.\n\n\
          Measured on a machine of the kind {}, against {}. The archive is {}.\n\n\
          ![Three of the tables as a plot](bench.svg)\n\n",
@@ -137,8 +137,28 @@ fn functions(results: &Results) -> Result<String, String> {
     Ok(page)
 }
 
+/// A line of prose as lines of at most 120 columns; a row of a table as it is.
+fn folded(line: &str) -> String {
+    if line.starts_with('|') {
+        return line.to_string();
+    }
+    let mut text = String::new();
+    let mut columns = 0;
+    for word in line.split(' ') {
+        let wide = word.chars().count();
+        if columns > 0 {
+            text.push(if columns + 1 + wide <= 120 { ' ' } else { '\n' });
+            columns = if columns + 1 + wide <= 120 { columns + 1 } else { 0 };
+        }
+        text.push_str(word);
+        columns += wide;
+    }
+    text
+}
+
 pub fn page(results: &Results) -> Result<String, String> {
-    Ok(intro(results)? + &lines(results)? + &times(results)? + &growing(results)? + &slow(results)? + &price(results)? + &functions(results)?)
+    let page = intro(results)? + &lines(results)? + &times(results)? + &growing(results)? + &slow(results)? + &price(results)? + &functions(results)?;
+    Ok(page.lines().map(|line| folded(line) + "\n").collect())
 }
 
 /// The line that the bench ends with.

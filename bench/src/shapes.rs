@@ -73,12 +73,13 @@ pub const SLOW: [Shape; 15] = [
 ];
 
 /// Lines made to be slow for the strict reader, which asks that ids differ.
-pub const IDS: [Shape; 6] = [
+pub const IDS: [Shape; 7] = [
     listed("ids-in-order", "different ids of two bytes, in order", ids::in_order),
     listed("ids-shuffled", "the same, shuffled", ids::shuffled),
     listed("ids-late", "ids of 32 bytes that differ in the last two", ids::late),
     listed("ids-middle", "ids of 32 bytes that differ in the two of the middle", ids::middle),
     listed("ids-elsewhere", "ids of 32 bytes, `b` at another place in each of the first 32, the rest differ in the last two", ids::each_elsewhere),
+    listed("ids-binary", "the same first 32, the rest of `a` and `b` in the last eight", ids::binary),
     shape("ids-same", "`[a]` again and again", (HEAD, ""), "[a]", ' ', " x"),
 ];
 

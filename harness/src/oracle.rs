@@ -1,4 +1,4 @@
-//! What the Rust answers, in the words of the archive's record, and what 01 fixes around it.
+//! What the Rust answers, in the words of the archive's record, and what docs/RULES.md fixes around it.
 //!
 //! Places are computed from the pointers of the Rust's texts. Two texts have none: an empty value is a static text there, and a process id that
 //! parses is a number. For those the place is found in the line, behind the text that stands before it.

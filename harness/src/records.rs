@@ -34,7 +34,7 @@ fn is_record(w: &[u64]) -> bool {
         && if w[6] == 1 { w[8] < 1 << 32 && offset } else { w[7..10] == [0, 0, 0] }
 }
 
-/// 01's conditions on a record's own numbers and on the places in it.
+/// Refusal 7's conditions on a record's own numbers and on the places in it (RULES Suits).
 fn suits_line(line: &[u8], w: &[u64]) -> bool {
     let local = w[7] as i64 as i128 + w[9] as i64 as i128 * 60;
     let stamp = w[6] == 0
@@ -45,7 +45,7 @@ fn suits_line(line: &[u8], w: &[u64]) -> bool {
     w[3] <= 23 && w[5] <= 7 && stamp && places.iter().all(|&(start, len)| within(line, start, len))
 }
 
-/// 01's conditions on counts and tables.
+/// Refusal 7's conditions on counts and tables.
 fn tables_suit(g: Given, w: &[u64]) -> bool {
     if w[24] > g.elements.len() as u64 || w[25] > g.params.len() as u64 {
         return false;

@@ -1,5 +1,5 @@
-//! A list of cases with their answers, for a program that has no Rust beside it. Every answer is the Rust's or follows from 01's rule; none is the
-//! archive's. Lines of the classes D1 to D6 are left out.
+//! A list of cases with their answers, for a program that has no Rust beside it. Every answer is the Rust's or follows from docs/RULES.md; none
+//! is the archive's. Lines of the classes D1 to D6 are left out.
 //!
 //! One case a line, fields separated by one space, numbers decimal (signed ones as two's complement in 64 bits), bytes as hex, `-` for none:
 //!

@@ -8,13 +8,13 @@ use lib.ListN.{length, drop, length-append, length-drop}
 use Rattle.base.specs.Choose.{isAt}
 use Rattle.base.specs.Runs.{run}
 use Rattle.base.proofs.Tests.{by-if}
-use Rattle.parsers.specs.Steps.{isBlank}
+use Rattle.record.specs.Limits.{lineLimit}
+use Rattle.parsers.specs.Steps.{isBlank, isInside}
 use Rattle.structured_data.specs.Param.{paramAt}
 use Rattle.structured_data.specs.Element.{Params, Element, idLen, paramAnd, moreParams, paramsFrom, elementFrom}
 use Rattle.structured_data.specs.Element.Element.{noElement, isElement}
 use Rattle.structured_data.specs.Data.{Rows, endAt, Item, itemOf, itemAnd, itemFrom, elementsFrom, Data, dataFrom, rowsOr}
 use Rattle.structured_data.specs.Data.Item.{taken, skipped, ended}
-use Rattle.structured_data.specs.Steps.{isInside}
 use Rattle.structured_data.specs.declared.Param.{Param}
 use Rattle.structured_data.specs.declared.Param.the-variants.{NoParam, IsParam}
 use Rattle.structured_data.specs.declared.Rules.{Rules}
@@ -24,7 +24,7 @@ use Rattle.grammar.specs.Line.{Each, eachThen, paramThen, elementThen, dataThen
 use Rattle.grammar.specs.Reading.{paramCount}
 use Rattle.grammar.proofs.Readers.{text-length}
 use Rattle.grammar.proofs.Data.{param-reads, element-reads}
-use Rattle.elements.proofs.Filling.{params-length, param-length}
+use Rattle.strict_data.proofs.Filling.{params-length, param-length}
 
 -- ---- the loose readers
 
@@ -47,7 +47,7 @@ abbrev ElementFew : Element → Type 0
 ElementFew noElement = Unit {0}
 ElementFew (isElement row params next) = length params ≤ 8193
 
-element-few : (e at : ℕ) (t : List ℕ) → length t ≤ 8192 → ElementFew (elementFrom e at t)
+element-few : (e at : ℕ) (t : List ℕ) → length t ≤ lineLimit → ElementFew (elementFrom e at t)
 unfolding elementFrom paramsFrom
 element-few e at t l =
     let n = idLen (drop 1 t) in
@@ -82,7 +82,7 @@ and-few e at n (skipped next) more h k =
     record { elements-to = omega (arith, m .elements-to); params-to = omega (arith, m .params-to) }
 and-few e at n ended more h k = record { elements-to = omega arith; params-to = omega arith }
 
-elements-few : (rules : Rules) (e k at : ℕ) (t : List ℕ) → length t ≤ 8192 → Few (length t) (elementsFrom rules e k at t)
+elements-few : (rules : Rules) (e k at : ℕ) (t : List ℕ) → length t ≤ lineLimit → Few (length t) (elementsFrom rules e k at t)
 unfolding elementsFrom itemFrom
 elements-few rules e k at [] l = record { elements-to = omega arith; params-to = omega arith }
 elements-few rules e (suc k) at (b ∷ t) l =
@@ -93,15 +93,15 @@ elements-few rules e zero at (b ∷ t) l =
     (item-few rules at (b ∷ t) (elementFrom e at (b ∷ t)) (element-few e at (b ∷ t) l)) (λ f next. elements-few rules f (next - at - 1) (at + 1) t (omega arith)) in
     record { elements-to = omega (arith, m .elements-to); params-to = omega (arith, m .params-to) }
 
-pub none-few : (at : ℕ) → Few 8192 (endAt at)
+pub none-few : (at : ℕ) → Few lineLimit (endAt at)
 none-few at = record { elements-to = omega arith; params-to = omega arith }
 
-pub data-few : (rules : Rules) (s : List ℕ) (at : ℕ) → length s ≤ 8192 → Few 8192 (rowsOr at (dataFrom rules s at))
+pub data-few : (rules : Rules) (s : List ℕ) (at : ℕ) → length s ≤ lineLimit → Few lineLimit (rowsOr at (dataFrom rules s at))
 unfolding dataFrom
 data-few rules s at l =
     let m = elements-few rules 0 0 at (drop at s) (omega (arith, length-drop at s)) in
-    by-if (λ (d : Data). Few 8192 (rowsOr at d)) (isAt s at 45) _ _ (λ q. none-few (at + 1)) (λ q.
-    by-if (λ (d : Data). Few 8192 (rowsOr at d)) (eqb (elementsFrom rules 0 0 at (drop at s) .next) at) _ _ (λ q. none-few at)
+    by-if (λ (d : Data). Few lineLimit (rowsOr at d)) (isAt s at 45) _ _ (λ q. none-few (at + 1)) (λ q.
+    by-if (λ (d : Data). Few lineLimit (rowsOr at d)) (eqb (elementsFrom rules 0 0 at (drop at s) .next) at) _ _ (λ q. none-few at)
     (λ q. record { elements-to = omega (arith, m .elements-to, length-drop at s); params-to = omega (arith, m .params-to, length-drop at s) }))
 
 -- ---- the strict reader

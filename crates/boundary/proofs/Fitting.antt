@@ -13,12 +13,14 @@ use borrow.Author.Tests.{leb-true, ltb-false}
 use Rattle.base.specs.Diff.{up, down}
 use Rattle.base.proofs.Tests.{both}
 use Rattle.base.proofs.Diffs.{pos-sub, join-fits}
+use Rattle.calendar.specs.Calendar.{offsetLimit}
 use Rattle.calendar.specs.Instant.{epoch, localSeconds, secondsOf, shown}
 use Rattle.calendar.specs.declared.DateTime.{DateTime}
 use Rattle.calendar.specs.declared.Shown.the-variants.{At}
 use Rattle.calendar.proofs.Clocks.{local-below}
 use Rattle.calendar.proofs.Instants.{minus-diff, up-room, down-room}
 use Rattle.calendar.proofs.ThereAndBack.{there}
+use Rattle.record.specs.Limits.{lineLimit}
 use Rattle.record.specs.declared.Level.{Level}
 use Rattle.record.specs.declared.Level.the-variants.{Unset, Set}
 use Rattle.record.specs.declared.Stamp.{Stamp}
@@ -27,7 +29,8 @@ use Rattle.record.specs.declared.Record.{Record}
 use Rattle.suits.specs.Suits.{levelSuits, stampSuits, recordSuits, suits}
 use Rattle.suits.proofs.Suited as suited
 use Rattle.layout.proofs.Back.{LevelIn, StampIn, InTypes}
-use Rattle.suited.proofs.AfterReading.{Left, left-short, left-suits}
+use Rattle.suited.specs.Served.{Left}
+use Rattle.suited.proofs.AfterReading.{left-short, left-suits}
 use Rattle.boundary.proofs.Outcomes.{left-sized}
 
 level-in : (most : ℕ) (l : Level) → most ≤ 255 → levelSuits most l ≡ true → LevelIn l
@@ -36,7 +39,7 @@ level-in most (Set n) m h = omega (arith, leb-true n most h)
 
 -- ---- the timestamp
 
-offset-in : (o : ℤ) → natAbs o ≤ 1439 → SFits w32 o
+offset-in : (o : ℤ) → natAbs o ≤ offsetLimit → SFits w32 o
 offset-in (pos n) h = record { sfits = omega arith }
 offset-in (negsuc n) h = record { sfits = omega arith }
 
@@ -72,7 +75,7 @@ record-in line r e p elements params h = suited.record-in line r (both (recordSu
 
 pub left-in : {line : List ℕ} {r : Record} {e p : ℕ} {elements params : List (List ℕ)} → Left line r e p elements params → InTypes r e p
 left-in {line} {r} {e} {p} {elements} {params} left =
-    let short : length line ≤ 8192 = ltb-false 8192 (length line) (left-short left) in
+    let short : length line ≤ lineLimit = ltb-false lineLimit (length line) (left-short left) in
     let i = record-in line r e p elements params (left-suits left) in
     let s = left-sized short left in
     record {

@@ -12,6 +12,7 @@ use Rattle.digits.specs.declared.Number.{Number}
 use Rattle.digits.specs.declared.Number.the-variants.{Nothing, Value}
 use Rattle.digits.proofs.Numbers.{number-len}
 use Rattle.digits.proofs.Decimals.{decimal-lt}
+use Rattle.record.specs.Limits.{lineLimit}
 use Rattle.record.specs.declared.Record.{Record}
 use Rattle.pri.specs.Pri.{priAt}
 use Rattle.parsers.specs.Steps.{blanksFrom, someBlanksFrom, moved, numberFrom}
@@ -23,22 +24,22 @@ use Rattle.timestamp.specs.declared.Stamping.{Stamping}
 use Rattle.timestamp.specs.declared.Stamping.the-variants.{NoStamp, IsStamp}
 use Rattle.timestamp.proofs.Onward.{on-num, on-pos}
 use Rattle.structured_data.specs.Data.{dataFrom}
-use Rattle.structured_data.specs.Outcome.{Outcome}
-use Rattle.structured_data.specs.Outcome.Outcome.{noReading, isReading}
 use Rattle.structured_data.specs.declared.Rules.the-variants.{Rfc3164Rules, Rfc5424Rules}
+use Rattle.draft.specs.Outcome.{Outcome}
+use Rattle.draft.specs.Outcome.Outcome.{noReading, isReading}
 use Rattle.rfc3164.specs.Rfc3164 as rfc3164
 use Rattle.rfc5424.specs.Rfc5424 as rfc5424
 use Rattle.rfc5424.specs.declared.Start.{Start}
 use Rattle.rfc5424.specs.declared.Start.the-variants.{NoStart, IsStart}
 use Rattle.rfc5424.proofs.Lines.{on-start, on-four, on-data}
 use Rattle.loose.specs.Loose.{outcomeOf, orWhole}
+use Rattle.loose.proofs.Variants.{of-variant}
 use Rattle.grammar.specs.Line.{Division, Derives}
 use Rattle.grammar.specs.Reading.{recordOf}
 use Rattle.layout.proofs.Back.{ProtocolIn}
+use Rattle.suited.specs.Served.{Left}
 use Rattle.suited.proofs.Frame.{Judged, reading-judged}
-use Rattle.suited.proofs.Records.{of-variant}
 use Rattle.suited.proofs.Strict.{line-length, reading-divided}
-use Rattle.suited.proofs.AfterReading.{Left}
 use Rattle.boundary.proofs.Counts.{Few, none-few, data-few, division-few}
 
 -- ---- the loose readers: a version is what numberFrom reads
@@ -72,9 +73,9 @@ start-in s at =
 
 abbrev OutcomeIn : Outcome → Type 0
 OutcomeIn noReading = Unit {0}
-OutcomeIn (isReading r at rows) = ProtocolIn (r .protocol) × Few 8192 rows
+OutcomeIn (isReading r at rows) = ProtocolIn (r .protocol) × Few lineLimit rows
 
-module _ (s : List ℕ) (short : length s ≤ 8192) (start : ℕ) where
+module _ (s : List ℕ) (short : length s ≤ lineLimit) (start : ℕ) where
   rfc5424-in : OutcomeIn (rfc5424.rfc5424 s start)
   unfolding rfc5424.rfc5424 rfc5424.bodyFrom
   rfc5424-in =
@@ -92,12 +93,12 @@ module _ (s : List ℕ) (short : length s ≤ 8192) (start : ℕ) where
       go NoStamp = tt
       go (IsStamp t a) = (tt, data-few Rfc3164Rules s _ short)
 
-outcome-in : (line : List ℕ) → length line ≤ 8192 → (variant year : ℕ) (offset : ℤ) → OutcomeIn (outcomeOf line variant year offset)
+outcome-in : (line : List ℕ) → length line ≤ lineLimit → (variant year : ℕ) (offset : ℤ) → OutcomeIn (outcomeOf line variant year offset)
 unfolding outcomeOf
 outcome-in line short variant year offset =
     let ends = trimmed line in
     let s = take (ends .end) line in
-    let l : length s ≤ 8192 = omega (arith, length-take (ends .end) line) in
+    let l : length s ≤ lineLimit = omega (arith, length-take (ends .end) line) in
     of-variant OutcomeIn variant year offset s (ends .start) (rfc5424-in s l (ends .start)) (rfc3164-in s l (ends .start) year offset)
 
 whole-in : (line : List ℕ) (o : Outcome) → OutcomeIn o → OutcomeIn (orWhole line o)
@@ -117,15 +118,15 @@ division-in line d h =
 
 pub record Sized (r : Record) (e p : ℕ) : Type 0 where
   pub version-in : ProtocolIn (r .protocol)
-  pub elements-to : e ≤ 8192
-  pub params-to : p ≤ 8192 * 8193
+  pub elements-to : e ≤ lineLimit
+  pub params-to : p ≤ lineLimit * (lineLimit + 1)
 
 judged-sized : {o : Outcome} {r : Record} {e p : ℕ} → Judged o r e p → OutcomeIn o → Sized r e p
 judged-sized j h =
     let (v, f) = rw (j .outcome) at h in
     record { version-in = v; elements-to = omega (arith, j .elements-many, f .elements-to); params-to = omega (arith, j .params-many, f .params-to) }
 
-pub left-sized : {line : List ℕ} {r : Record} {e p : ℕ} {elements params : List (List ℕ)} → length line ≤ 8192 → Left line r e p elements params → Sized r e p
+pub left-sized : {line : List ℕ} {r : Record} {e p : ℕ} {elements params : List (List ℕ)} → length line ≤ lineLimit → Left line r e p elements params → Sized r e p
 left-sized {line} {elements} {params} short (Left.by-exact {variant} {year} {offset} {e₀} {p₀} h) =
     judged-sized (reading-judged line e₀ p₀ elements params variant year offset _ h) (outcome-in line short variant year offset)
 left-sized {line} {elements} {params} short (Left.by-fallback {variant} {year} {offset} {e₀} {p₀} h) =

@@ -9,7 +9,7 @@ use lib.ListN.{getD}
 use borrow.Author.Tests.{ne-eqb, le-leb, lt-leb, leb-true, not-true, not-false}
 use Rattle.base.proofs.Tests.{both}
 use Rattle.base.proofs.Ranges.{inside, below, above}
-use Rattle.calendar.specs.Calendar.{leap, months, row, monthDays, validDate, validTime, valid}
+use Rattle.calendar.specs.Calendar.{lastYear, leap, months, row, monthDays, validDate, validTime, valid}
 use Rattle.calendar.specs.declared.DateTime.{DateTime}
 
 pub leap-not4 : (y : ℕ) → (y % 4 ≡ 0 → ⊥) → eqb (y % 4) 0 ≡ leap y
@@ -65,22 +65,22 @@ unfolding validTime
 time-is h m s = refl
 
 module _ (t : DateTime) where
-  pub valid-late : 9999 < t .year → false ≡ valid t
+  pub valid-late : lastYear < t .year → false ≡ valid t
   unfolding valid
-  valid-late h = rw (lt-leb (t .year) 9999 h)
+  valid-late h = rw (lt-leb (t .year) lastYear h)
 
-  module _ (h : t .year ≤ 9999) (b : Bool) (e : b ≡ validDate (t .year) (t .month) (t .day)) where
+  module _ (h : t .year ≤ lastYear) (b : Bool) (e : b ≡ validDate (t .year) (t .month) (t .day)) where
     pub valid-no : not b ≡ true → false ≡ valid t
     unfolding valid
-    valid-no n = rw (le-leb (t .year) 9999 h, ← e, not-true b n)
+    valid-no n = rw (le-leb (t .year) lastYear h, ← e, not-true b n)
 
     pub valid-yes : not b ≡ false → (c : Bool) → c ≡ validTime (t .hour) (t .minute) (t .second) → c ≡ valid t
     unfolding valid
-    valid-yes n c q = rw (le-leb (t .year) 9999 h, ← e, not-false b n, q)
+    valid-yes n c q = rw (le-leb (t .year) lastYear h, ← e, not-false b n, q)
 
 -- What a valid date and clock hold, a number at a time
 pub record Parts (t : DateTime) : Type 0 where
-  pub year-to : t .year ≤ 9999
+  pub year-to : t .year ≤ lastYear
   pub month-from : 1 ≤ t .month
   pub month-to : t .month ≤ 12
   pub day-from : 1 ≤ t .day

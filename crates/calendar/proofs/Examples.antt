@@ -1,10 +1,11 @@
 -- Worked examples, computed from the definitions.
-use Prim.Native.Nat.{ℕ}
+use Prim.Native.Nat.{ℕ, suc}
 use mathlib.Core.Path.{_≡_, refl}
 use mathlib.Core.List.{List, [], _∷_, map}
 use mathlib.Core.Bool.{Bool, true, false}
 use lib.IntN.{ℤ, pos, negℤ}
-use Rattle.calendar.specs.Calendar.{leap, monthDays, validDate, validTime, valid, yearDays, daysBeforeYear, daysOfMonths, dayNumber}
+use lib.ListN.{replicate}
+use Rattle.calendar.specs.Calendar.{leap, monthDays, validDate, validTime, validOffset, valid, yearDays, daysBeforeYear, daysOfMonths, dayNumber}
 use Rattle.calendar.specs.Instant.{localSeconds, secondsOf, spanFrom, yearOf, monthOf, clockOf, shown}
 use Rattle.calendar.specs.Order.{before, earlier}
 use Rattle.calendar.specs.declared.DateTime.{DateTime}
@@ -90,3 +91,23 @@ order : map (λ (e : DateTime × DateTime). earlier (e .0) (e .1))
     ≡ true ∷ false ∷ false ∷ true ∷ []
 unfolding before
 order = refl
+
+-- of each month: day 0, the first, the last, and the day after it
+abbrev ends : ℕ → ℕ → ℕ → List Bool
+ends y m last = map (validDate y m) (0 ∷ 1 ∷ last ∷ suc last ∷ [])
+
+abbrev inside : List Bool
+inside = false ∷ true ∷ true ∷ false ∷ []
+
+months-end : (ends 2023 1 31 ∷ ends 2023 2 28 ∷ ends 2023 3 31 ∷ ends 2023 4 30 ∷ ends 2023 5 31 ∷ ends 2023 6 30
+    ∷ ends 2023 7 31 ∷ ends 2023 8 31 ∷ ends 2023 9 30 ∷ ends 2023 10 31 ∷ ends 2023 11 30 ∷ ends 2023 12 31 ∷ []
+    ≡ replicate 12 inside)
+    × (ends 2024 1 31 ∷ ends 2024 2 29 ∷ ends 2024 3 31 ∷ ends 2024 4 30 ∷ ends 2024 5 31 ∷ ends 2024 6 30
+    ∷ ends 2024 7 31 ∷ ends 2024 8 31 ∷ ends 2024 9 30 ∷ ends 2024 10 31 ∷ ends 2024 11 30 ∷ ends 2024 12 31 ∷ []
+    ≡ replicate 12 inside)
+unfolding validDate monthDays leap
+months-end = (refl, refl)
+
+-- an offset is within 1,439 minutes, to the west and to the east
+offsets : map validOffset (minus 1440 ∷ minus 1439 ∷ pos 0 ∷ pos 1439 ∷ pos 1440 ∷ []) ≡ false ∷ true ∷ true ∷ true ∷ false ∷ []
+offsets = refl

@@ -1,9 +1,10 @@
 -- Signed seconds, computed by differences.
 use Prim.Native.Nat.{ℕ, zero, suc, _+_, _-_, _*_, _^_, _≤_, _<_}
 use mathlib.Core.Path.{_≡_, refl, sym, ap, _∙_}
-use mathlib.Core.Bool.{true}
+use mathlib.Core.Bool.{true, _&&_, and-true}
 use native.Mathlib.Omega.{arith}
 use native.Mathlib.Nat.{add-zero}
+use lib.Dec.{leb}
 use lib.IntN.{ℤ, pos, negsuc, negℤ, subℕ, _+ℤ_, _-ℤ_, _*ℤ_}
 use lib.Signed.{mag}
 use mir.Syntax.{w32, w64}
@@ -13,7 +14,7 @@ use borrow.Author.Tests.{lt-ltb, le-ltb}
 use Rattle.base.specs.Diff.{up, down, diffOf}
 use Rattle.base.specs.declared.Diff.{Diff}
 use Rattle.base.proofs.Diffs.{pos-sub, as-diff, add-diff, sub-ge, sub-lt}
-use Rattle.calendar.specs.Calendar.{valid}
+use Rattle.calendar.specs.Calendar.{offsetLimit, validOffset, valid}
 use Rattle.calendar.specs.Instant.{epoch, localSeconds, secondsOf, clockOf, allSeconds, shown}
 use Rattle.calendar.specs.declared.DateTime.{DateTime}
 use Rattle.calendar.specs.declared.Shown.the-variants.{Outside, At}
@@ -28,6 +29,11 @@ sixty (negsuc n) = neg (suc n * 60)
     neg zero = refl
     neg (suc m) = refl
 
+-- one of the two parts is 0
+near : (o : ℤ) → (leb (up o) offsetLimit && leb (down o) offsetLimit) ≡ validOffset o
+near (pos n) = and-true (leb n offsetLimit)
+near (negsuc n) = refl
+
 -- how large the two parts are
 record Small (b : ℕ) (d : Diff) : Type 0 where
   up-to : d .up < b
@@ -40,6 +46,9 @@ small (negsuc n) b h = record { up-to = omega arith; down-to = h }
 module _ (o w : ℤ) (fo : SFits w32 o) (fw : SFits w64 w) (ew : w ≡ toZ w32 (ofZ w32 o)) (q : Diff) (eq : q ≡ diffOf (toZ w64 (ofZ w64 w))) where
   apart : q ≡ diffOf o
   apart = eq ∙ ap diffOf (toZ-ofZ w64 w fw ∙ ew ∙ toZ-ofZ w32 o fo)
+
+  pub offset-is : (leb (q .up) offsetLimit && leb (q .down) offsetLimit) ≡ validOffset o
+  offset-is = rw apart (near o)
 
   pub shift-up : Fits w64 (q .up * 60)
   shift-up = rw apart (record { fits = omega (arith, small o (2 ^ 31) (fo .sfits)) })

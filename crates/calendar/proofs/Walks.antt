@@ -6,7 +6,7 @@ use native.Mathlib.Omega.{arith}
 use native.Mathlib.Numerals.{add-one}
 use mir.Syntax.{w32}
 use mir.Val.{Fits}
-use Rattle.calendar.specs.Calendar.{monthDays, yearDays, daysBeforeYear, daysOfMonths, dayNumber}
+use Rattle.calendar.specs.Calendar.{lastYear, monthDays, yearDays, daysBeforeYear, daysOfMonths, dayNumber}
 use Rattle.calendar.specs.Instant.{yearOf, monthOf}
 use Rattle.calendar.proofs.Years.{years}
 use Rattle.calendar.proofs.Days.{months-none, months-more, months-to, months-all, month-found, years-to, year-found}
@@ -60,7 +60,7 @@ module _ (y n k left d : ℕ) (i : MonthAt y n k left) (e : d ≡ monthDays y (k
 
 -- the year of day `n`: the guess is never late, and at most four years early
 pub record YearAt (n y : ℕ) : Type 0 where
-  pub one-of : y ≤ 9999
+  pub one-of : y ≤ lastYear
   pub near : y ≤ n / 1461 * 4 + 4
   pub from : daysBeforeYear y ≤ n
 
@@ -80,7 +80,7 @@ module _ (y m d a b : ℕ) (p : a ≡ daysBeforeYear y) (q : b ≡ daysOfMonths 
   unfolding dayNumber
   day-is = rw (p, q)
 
-  module _ (hy : y ≤ 9999) (hm : m ≤ 12) where
+  module _ (hy : y ≤ lastYear) (hm : m ≤ 12) where
     pub day-first : Fits w32 (a + b)
     day-first = record { fits = omega (arith, years-to y (omega arith), months-to y (m - 1) (omega arith)) }
 

@@ -3,9 +3,14 @@ use Prim.Native.Nat.{ℕ, zero, suc, _+_, _-_, _%_}
 use mathlib.Core.List.{List, [], _∷_}
 use mathlib.Core.Bool.{Bool, _&&_, _||_, not}
 use lib.Dec.{leb, ltb, eqb}
+use lib.IntN.{ℤ, natAbs}
 use lib.ListN.{getD}
 use Rattle.base.specs.Choose.{if_then_else_, within}
 use Rattle.calendar.specs.declared.DateTime.{DateTime}
+
+-- the last year of the calendar
+abbrev pub lastYear : ℕ
+lastYear = 9999
 
 -- every fourth year, of the hundredth ones only every fourth
 unfoldable pub leap : ℕ → Bool
@@ -32,9 +37,16 @@ validDate y m d = within 1 12 m && within 1 (monthDays y m) d
 unfoldable pub validTime : ℕ → ℕ → ℕ → Bool
 validTime h m s = ltb h 24 && ltb m 60 && ltb s 60
 
+-- an offset is less than a day, in minutes
+abbrev pub offsetLimit : ℕ
+offsetLimit = 1439
+
+abbrev pub validOffset : ℤ → Bool
+validOffset offset = leb (natAbs offset) offsetLimit
+
 -- a date of the years 0 to 9999, and a clock
 unfoldable pub valid : DateTime → Bool
-valid t = leb (t .year) 9999 && validDate (t .year) (t .month) (t .day) && validTime (t .hour) (t .minute) (t .second)
+valid t = leb (t .year) lastYear && validDate (t .year) (t .month) (t .day) && validTime (t .hour) (t .minute) (t .second)
 
 unfoldable pub yearDays : ℕ → ℕ
 yearDays y = if leap y then 366 else 365

@@ -1,4 +1,4 @@
--- The order of dates and clocks, by the numbers of a timestamp as it is read.
+-- For private contracts alone: the order of dates and clocks, by the numbers of a timestamp as it is read.
 use Prim.Native.Nat.{ℕ}
 use mathlib.Core.List.{List, [], _∷_}
 use mathlib.Core.Bool.{Bool, false}

@@ -4,7 +4,7 @@ ghost use mathlib.Core.Bool.{true};
 ghost use Prim.Native.Nat.{_≤_, _<_};
 ghost use lib.IntN.{pos, _*ℤ_};
 ghost use Rattle.base.specs.Diff.{diffOf};
-ghost use Rattle.calendar.specs.Calendar.{leap, row, monthDays, validDate, validTime, valid, yearDays, daysBeforeYear, daysOfMonths, dayNumber};
+ghost use Rattle.calendar.specs.Calendar.{lastYear, leap, row, monthDays, validDate, validTime, validOffset, valid, yearDays, daysBeforeYear, daysOfMonths, dayNumber};
 ghost use Rattle.calendar.specs.Instant.{localSeconds, secondsOf, yearOf, monthOf, clockOf, allSeconds, shown, isShown};
 
 // The days of the twelve months, of a common year and of a leap year.
@@ -12,6 +12,12 @@ const MONTHS: [[u32; 12]; 2] = [
     [31, 28, 31, 30, 31, 30, 31, 31, 30, 31, 30, 31],
     [31, 29, 31, 30, 31, 30, 31, 31, 30, 31, 30, 31],
 ];
+
+// The last year; the first is 0.
+pub const LAST_YEAR: u32 = 9999;
+
+// How far an offset may be from UTC, in minutes: less than a day.
+pub const OFFSET_LIMIT: u64 = 1439;
 
 // A local date and clock.
 pub struct DateTime {
@@ -29,6 +35,7 @@ pub enum Shown {
     At(DateTime),
 }
 
+// Whether the local year is one of 0 to 9999.
 pub fn is_shown(x: Shown) -> bool
     ensures { λ r. ⌜ r ≡ isShown x ⌝ }
 {
@@ -62,6 +69,7 @@ fn month_days(y: u32, m: u32) -> u32
     MONTHS[l][k]
 }
 
+// Whether year `y` has such a month and such a day.
 pub fn is_date(y: u32, m: u32, d: u32) -> bool
     ensures { λ r. ⌜ r ≡ validDate y m d ⌝ }
 {
@@ -77,17 +85,26 @@ pub fn is_date(y: u32, m: u32, d: u32) -> bool
     d <= month_days(y, m)
 }
 
+// Whether a day has such a clock: no hour 24, no second 60.
 pub fn is_time(h: u32, m: u32, s: u32) -> bool
     ensures { λ r. ⌜ r ≡ validTime h m s ⌝ }
 {
     (h < 24) & (m < 60) & (s < 60)
 }
 
+// Whether an offset is one of -1439 to 1439 minutes.
+pub fn is_offset(offset: i32) -> bool
+    ensures { λ r. ⌜ r ≡ validOffset offset ⌝ }
+{
+    let minutes = base::split(base::widen(offset));
+    (minutes.up <= OFFSET_LIMIT) & (minutes.down <= OFFSET_LIMIT)
+}
+
 // A date of the years 0 to 9999, and a clock.
 pub fn is_valid(t: DateTime) -> bool
     ensures { λ r. ⌜ r ≡ valid t ⌝ }
 {
-    if 9999 < t.year {
+    if LAST_YEAR < t.year {
         return false;
     }
     if !is_date(t.year, t.month, t.day) {
@@ -120,7 +137,7 @@ fn days_of_months(y: u32, n: u32) -> u32
 
 // Days since 0000-01-01.
 fn day_number(y: u32, m: u32, d: u32) -> u32
-    requires { ⌜ (y ≤ 9999) × (1 ≤ m) × (m ≤ 12) × (1 ≤ d) × (d ≤ 31) ⌝ }
+    requires { ⌜ (y ≤ lastYear) × (1 ≤ m) × (m ≤ 12) × (1 ≤ d) × (d ≤ 31) ⌝ }
     ensures { λ r. ⌜ r ≡ dayNumber y m d ⌝ }
 {
     days_before_year(y) + days_of_months(y, m - 1) + (d - 1)

@@ -1,19 +1,15 @@
 // Runs the cases of standard input and writes each answer in words. A case is a line: `E` or `F` for an exact or a fallback reading with
-// variant, year and offset, `S` for a strict one; then, behind one space, the line that is read.
+// variant, year and offset, `S` for a strict one; then, after one space, the line that is read.
+use case_text::words::say;
 use libc::STDIN_FILENO;
-use libc::STDOUT_FILENO;
-
-fn say(text: &[u8]) -> bool {
-    io::write_all(STDOUT_FILENO, text)
-}
 
 fn show(text: &[u8], fallback: bool) {
-    let s = replayer::case::settings(text, 2, fallback);
+    let s = case_text::case::settings(text, 2, fallback);
     let start = s.next;
     if text.len() < start {
         return;
     }
-    shows::show_reading(&text[start..], s.settings);
+    case_words::show_reading(&text[start..], s.settings);
 }
 
 fn show_case(text: &[u8]) {
@@ -25,7 +21,7 @@ fn show_case(text: &[u8]) {
     match text[0] {
         b'E' => show(text, false),
         b'F' => show(text, true),
-        _ => shows::show_strict(&text[2..]),
+        _ => case_words::show_strict(&text[2..]),
     }
 }
 
@@ -34,7 +30,7 @@ fn main() {
     let n = io::read_full(STDIN_FILENO, &mut list);
     let mut at = 0;
     while at < n {
-        let end = at + replayer::text::line_len(&list[at..n]);
+        let end = at + case_text::text::line_len(&list[at..n]);
         show_case(&list[at..end]);
         at = end + 1;
     }

@@ -1,12 +1,9 @@
 -- The demands of specs/Demands.antt, proved of the contracts.
 use Prim.Native.Nat.{ℕ, _<_, _≤_}
-use mathlib.Core.Path.{_≡_, refl, sym, ap, ap₂, _∙_, subst}
-use mathlib.Core.Bool.{false}
+use mathlib.Core.Path.{_≡_, refl, ap, ap₂, _∙_, subst}
 use mathlib.Core.List.{List}
 use lib.ListN.{length}
-use lib.Dec.{eqb}
-use borrow.Author.Tests.{eq-eqb}
-use Rattle.base.proofs.Tests.{clash}
+use Rattle.record.specs.Limits.{lineLimit}
 use Rattle.record.specs.Answers.{answerOf, strictAnswerOf, outputAnswerOf}
 use Rattle.record.specs.declared.StrictReading.{StrictReading}
 use Rattle.record.specs.declared.StrictReading.the-variants as strict
@@ -14,7 +11,8 @@ use Rattle.record.specs.declared.Reading.{Reading}
 use Rattle.record.specs.declared.Reading.the-variants as loose
 use Rattle.record.specs.declared.Written.{Written}
 use Rattle.record.specs.declared.Written.the-variants as written
-use Rattle.record.specs.declared.Refusal.the-variants.{LineTooLong, NoReading}
+use Rattle.record.specs.declared.Refusal.{Refusal}
+use Rattle.record.specs.declared.Refusal.the-variants.{LineTooLong, BadSetting, NotUtf8, NoReading, TooManyElements, TooManyParams, Unsuitable, NotFound, OutputShort}
 use Rattle.output.specs.Output.{outputAfter}
 use Rattle.loose.specs.Loose.{tableAfter}
 use Rattle.grammar.specs.Line.{Division}
@@ -23,9 +21,9 @@ use Rattle.grammar.specs.Reading.StrictReads.{too-long, underivable, elements-o
 use Rattle.grammar.proofs.Lines.{unambiguous}
 use Rattle.grammar.proofs.Readings.{strict-determined}
 use Rattle.contracts.specs.Services.{Service, Elements, Params, Lent}
-use Rattle.contracts.specs.Demands.{RefusedChangesNothing, Accepted, Derivable, Underivable, Holds, StrictCall, Demand3}
+use Rattle.contracts.specs.Demands.{RefusedChangesNothing, refusedWith, RefusedIsEmpty, Derivable, ElementsOver, ParamsOver, Underivable, Holds, StrictCall, Demand3}
 
--- ---- demand 1
+-- ---- RULES Demands 1
 
 tables-kept : (r : Reading) (rows old : List (List ℕ)) → (answerOf r .number ≡ 0 → ⊥) → tableAfter r rows old ≡ old
 tables-kept (loose.Read x e p) rows old n = absurd (n refl)
@@ -52,49 +50,81 @@ refused-changes-nothing Service.strict i x h n = strict-kept h n
 refused-changes-nothing Service.print i x h n = ap Lent.output (h .output ∙ output-kept (x .answer) _ (i .output) n)
 refused-changes-nothing Service.lookup i x h n = ap Lent.output (h .output ∙ output-kept (x .answer) _ (i .printing .output) n)
 
--- ---- demand 3
+-- ---- RULES Numbers d
 
--- an answer has one number
-apart : {A : Type 0} {r s t : StrictReading} → r ≡ s → r ≡ t → eqb (strictAnswerOf s .number) (strictAnswerOf t .number) ≡ false → A
-apart a b h = clash (sym (eq-eqb _ _ (ap (λ (r : StrictReading). strictAnswerOf r .number) (sym a ∙ b))) ∙ h)
+loose-empty : (r : Reading) → (answerOf r .number ≡ 0 → ⊥) → answerOf r ≡ refusedWith Service.exact (answerOf r .number)
+loose-empty (loose.Read x e p) n = absurd (n refl)
+loose-empty (loose.Refused f) n = refl
 
-module _ {line : List ℕ} {e₀ : Elements} {p₀ : Params} {r : StrictReading} {e₁ : Elements} {p₁ : Params} where
-  derivable : StrictReads line e₀ p₀ r e₁ p₁ → Accepted r → Derivable line e₀ p₀
-  derivable (too-long l a b c) w = apart a (w .is) refl
-  derivable (underivable l h a b c) w = apart a (w .is) refl
-  derivable (elements-over d l h m a b c) w = apart a (w .is) refl
-  derivable (params-over d l h k m a b c) w = apart a (w .is) refl
-  derivable (accepted d l h k m a b c) w = record { division = d; derived = h; short = l; elements-fit = k; params-fit = m }
+strict-empty : (r : StrictReading) → (strictAnswerOf r .number ≡ 0 → ⊥) → strictAnswerOf r ≡ refusedWith Service.strict (strictAnswerOf r .number)
+strict-empty (strict.Read x e p) n = absurd (n refl)
+strict-empty (strict.Refused f) n = refl
 
-  holds : StrictReads line e₀ p₀ r e₁ p₁ → (f : Derivable line e₀ p₀) → Holds (f .division) e₀ p₀ r e₁ p₁
-  holds call f =
-      let q = strict-determined call (accepted (f .division) (f .short) (f .derived) (f .elements-fit) (f .params-fit) refl refl refl) in
-      record { answer = q .0; elements = q .1; params = q .2 }
+output-empty : (w : Written) → (outputAnswerOf w .number ≡ 0 → ⊥) → outputAnswerOf w ≡ refusedWith Service.print (outputAnswerOf w .number)
+output-empty (written.Done k) n = absurd (n refl)
+output-empty (written.Refused f) n = refl
 
-  no-reading : StrictReads line e₀ p₀ r e₁ p₁ → r ≡ strict.Refused NoReading → (length line ≤ 8192) × Underivable line
-  no-reading (too-long l a b c) q = apart a q refl
-  no-reading (underivable l h a b c) q = (l, h)
-  no-reading (elements-over d l h m a b c) q = apart a q refl
-  no-reading (params-over d l h k m a b c) q = apart a q refl
-  no-reading (accepted d l h k m a b c) q = apart a q refl
+pub refused-is-empty : RefusedIsEmpty
+refused-is-empty Service.exact x n = loose-empty (x .answer) n
+refused-is-empty Service.fallback x n = loose-empty (x .answer) n
+refused-is-empty Service.strict x n = strict-empty (x .answer) n
+refused-is-empty Service.print x n = output-empty (x .answer) n
+refused-is-empty Service.lookup x n = output-empty (x .answer) n
 
-  longer : StrictReads line e₀ p₀ r e₁ p₁ → r ≡ strict.Refused LineTooLong → 8192 < length line
-  longer (too-long l a b c) q = l
-  longer (underivable l h a b c) q = apart a q refl
-  longer (elements-over d l h m a b c) q = apart a q refl
-  longer (params-over d l h k m a b c) q = apart a q refl
-  longer (accepted d l h k m a b c) q = apart a q refl
+-- ---- RULES Demands 3
 
-  strict-call : StrictReads line e₀ p₀ r e₁ p₁ → StrictCall line e₀ p₀ r e₁ p₁
-  strict-call call =
-      record {
-        accepts-exactly = record { only = derivable call; whenever = λ f. record { reading = _; elements = _; params = _; is = holds call f .answer } };
-        refuses-exactly = record { only = no-reading call; whenever = λ h. strict-determined call (underivable (h .0) (h .1) refl refl refl) .0 };
-        holds-the-one = λ w d h.
-            let f = derivable call w in
-            subst (λ (c : Division). Holds c e₀ p₀ r e₁ p₁) (unambiguous line (f .division) d (f .derived) h) (holds call f);
-        at-most-8192 = record { only = longer call; whenever = λ l. strict-determined call (too-long l refl refl refl) .0 };
-      }
+module _ (line : List ℕ) (e₀ : Elements) (p₀ : Params) where
+  -- why a call is answered so
+  abbrev WhyRefused : Refusal → Type 0
+  WhyRefused LineTooLong = lineLimit < length line
+  WhyRefused NoReading = (length line ≤ lineLimit) × Underivable line
+  WhyRefused TooManyElements = ElementsOver line e₀
+  WhyRefused TooManyParams = ParamsOver line e₀ p₀
+  WhyRefused BadSetting = ⊥
+  WhyRefused NotUtf8 = ⊥
+  WhyRefused Unsuitable = ⊥
+  WhyRefused NotFound = ⊥
+  WhyRefused OutputShort = ⊥
+
+  abbrev Why : StrictReading → Type 0
+  Why (strict.Read s e p) = Derivable line e₀ p₀
+  Why (strict.Refused f) = WhyRefused f
+
+  module _ {r : StrictReading} {e₁ : Elements} {p₁ : Params} where
+    why : StrictReads line e₀ p₀ r e₁ p₁ → Why r
+    why (too-long l a b c) = rw a l
+    why (underivable l h a b c) = rw a (l, h)
+    why (elements-over d l h m a b c) = rw a (record { division = d; derived = h; short = l; many = m })
+    why (params-over d l h k m a b c) = rw a (record { division = d; derived = h; short = l; many = (k, m) })
+    why (accepted d l h k m a b c) = rw a (record { division = d; derived = h; short = l; many = (k, m) })
+
+    module _ (call : StrictReads line e₀ p₀ r e₁ p₁) where
+      because : {s : StrictReading} → r ≡ s → Why s
+      because q = subst Why q (why call)
+
+      holds : (f : Derivable line e₀ p₀) → Holds (f .division) e₀ p₀ r e₁ p₁
+      holds f =
+          let q = strict-determined call (accepted (f .division) (f .short) (f .derived) (f .many .0) (f .many .1) refl refl refl) in
+          record { answer = q .0; elements = q .1; params = q .2 }
+
+      over-elements : ElementsOver line e₀ → r ≡ strict.Refused TooManyElements
+      over-elements f = strict-determined call (elements-over (f .division) (f .short) (f .derived) (f .many) refl refl refl) .0
+
+      over-params : ParamsOver line e₀ p₀ → r ≡ strict.Refused TooManyParams
+      over-params f = strict-determined call (params-over (f .division) (f .short) (f .derived) (f .many .0) (f .many .1) refl refl refl) .0
+
+      strict-call : StrictCall line e₀ p₀ r e₁ p₁
+      strict-call =
+          record {
+            accepts-exactly = record { only = λ w. because (w .is); whenever = λ f. record { reading = _; elements = _; params = _; is = holds f .answer } };
+            refuses-exactly = record { only = because; whenever = λ h. strict-determined call (underivable (h .0) (h .1) refl refl refl) .0 };
+            five-exactly = record { only = because; whenever = over-elements };
+            six-exactly = record { only = because; whenever = over-params };
+            holds-the-one = λ w d h.
+                let f : Derivable line e₀ p₀ = because (w .is) in
+                subst (λ (c : Division). Holds c e₀ p₀ r e₁ p₁) (unambiguous line (f .division) d (f .derived) h) (holds f);
+            limit-exactly = record { only = because; whenever = λ l. strict-determined call (too-long l refl refl refl) .0 };
+          }
 
 pub demand-3 : Demand3
-demand-3 = record { one-division = unambiguous; each-call = strict-call }
+demand-3 = record { one-division = unambiguous; each-call = strict-call _ _ _ }

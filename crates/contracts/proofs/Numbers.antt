@@ -8,15 +8,17 @@ use lib.ListN.{length, take}
 use lib.IntN.{ℤ}
 use Rattle.base.specs.Choose.{if_then_else_}
 use Rattle.utf8.specs.Lead.{isUtf8}
+use Rattle.record.specs.Limits.{lineLimit}
+use Rattle.record.specs.Records.{messageAlone}
 use Rattle.record.specs.Answers.{answerOf, strictAnswerOf, outputAnswerOf}
 use Rattle.record.specs.declared.Record.{Record}
 use Rattle.record.specs.declared.Reading.{Reading}
 use Rattle.record.specs.declared.StrictReading.{StrictReading}
 use Rattle.record.specs.declared.Written.{Written}
 use Rattle.structured_data.specs.Data.{Rows, endAt}
-use Rattle.structured_data.specs.Outcome.{Outcome}
-use Rattle.structured_data.specs.Outcome.Outcome.{noReading, isReading}
-use Rattle.loose.specs.Loose.{outcomeOf, whole, orWhole, settingsOk, judged, Reads}
+use Rattle.draft.specs.Outcome.{Outcome}
+use Rattle.draft.specs.Outcome.Outcome.{noReading, isReading}
+use Rattle.loose.specs.Loose.{outcomeOf, orWhole, settingsOk, judged, Reads}
 use Rattle.grammar.specs.Reading.{StrictReads}
 use Rattle.grammar.specs.Reading.StrictReads.{too-long, underivable, elements-over, params-over, accepted}
 use Rattle.suits.specs.Suits.{suits}
@@ -42,7 +44,7 @@ to w = outputAnswerOf w .number
 
 -- the loose readers, from the numbers that both give
 module _ (s : Service) (done : Gives s 0) (long : Gives s 1) (bad : Gives s 2) (text : Gives s 3) (elements : Gives s 5) (params : Gives s 6) where
-  -- refusals 5 and 6, behind those before them
+  -- refusals 5 and 6, after the others
   judged-gives : (r : Record) (at : ℕ) (rows : Rows) (e p : ℕ) → Gives s (of (judged (isReading r at rows) e p))
   judged-gives r at rows e p =
       either s of (ltb e (length (rows .elements))) _ _ elements (either s of (ltb p (length (rows .params))) _ _ params done)
@@ -51,7 +53,7 @@ module _ (s : Service) (done : Gives s 0) (long : Gives s 1) (bad : Gives s 2) (
       → Reads line variant year offset o e₀ p₀ r e₁ p₁ → ((e p : ℕ) → Gives s (of (judged o e p))) → Gives s (of r)
   loose-gives {line} {variant} {year} {offset} {o} {e₀} {e₁} {p₀} {p₁} h rest =
       rw (h .answer)
-      (either s of (ltb 8192 (length line)) _ _ long
+      (either s of (ltb lineLimit (length line)) _ _ long
       (either s of (not (settingsOk variant year offset)) _ _ bad
       (either s of (not (isUtf8 line)) _ _ text (rest (length e₀) (length p₀)))))
 
@@ -60,7 +62,7 @@ exact-judged noReading e p = refl
 exact-judged (isReading r at rows) e p = judged-gives Service.exact refl refl refl refl refl refl r at rows e p
 
 fallback-judged : (line : List ℕ) (o : Outcome) (e p : ℕ) → Gives Service.fallback (of (judged (orWhole line o) e p))
-fallback-judged line noReading e p = judged-gives Service.fallback refl refl refl refl refl refl (whole (length line)) 0 (endAt 0) e p
+fallback-judged line noReading e p = judged-gives Service.fallback refl refl refl refl refl refl (messageAlone (length line)) 0 (endAt 0) e p
 fallback-judged line (isReading r at rows) e p = judged-gives Service.fallback refl refl refl refl refl refl r at rows e p
 
 strict-gives : {line : List ℕ} {e₀ : Elements} {p₀ : Params} {r : StrictReading} {e₁ : Elements} {p₁ : Params}
@@ -84,13 +86,13 @@ no-other-number Service.strict i x h = strict-gives h
 no-other-number Service.print i x h =
     let text = printed (i .line) (i .reading) (take (i .element-count) (i .elements)) (take (i .param-count) (i .params)) in
     rw (h .answer)
-    (either Service.print to (ltb 8192 (length (i .line))) _ _ refl
+    (either Service.print to (ltb lineLimit (length (i .line))) _ _ refl
     (either Service.print to (not (suits (i .line) (i .reading) (i .element-count) (i .param-count) (i .elements) (i .params))) _ _ refl
     (either Service.print to (ltb (length (i .output)) (length text)) _ _ refl refl)))
 no-other-number Service.lookup i x h =
     let p = i .printing in
     rw (h .answer)
-    (either Service.lookup to (ltb 8192 (length (p .line))) _ _ refl
+    (either Service.lookup to (ltb lineLimit (length (p .line))) _ _ refl
     (either Service.lookup to (ltb 1 (i .kind)) _ _ refl
     (either Service.lookup to (not (suits (p .line) (p .reading) (p .element-count) (p .param-count) (p .elements) (p .params))) _ _ refl
     (value-gives (eqb (i .kind) 0) (found (p .line) (p .elements) (i .id) (i .name) (take (p .param-count) (p .params))) (length (p .output))))))

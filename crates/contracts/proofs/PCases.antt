@@ -27,7 +27,7 @@ use Rattle.rfc3164.specs.Rfc3164.{spacedHost, spacedTag, tagEnd, bodyFrom, rfc3
 use Rattle.rfc5424.specs.Rfc5424.{blankHost, blankPlain, startFrom, fourFrom, bodyFrom as bodyFrom5424, rfc5424}
 use Rattle.loose.specs.Loose.{byVariant, outcomeOf}
 use Rattle.output.specs.Numerals.{fixed as fixedText, widthFrom}
-use Rattle.stamps.specs.Stamps.{dateText, timeText, clockText, fractionText, offsetText}
+use Rattle.message_stamp.specs.Stamps.{dateText, timeText, clockText, fractionText, offsetText}
 use Rattle.message.specs.Message.{priText, fieldText, paramText, paramsText, otherParams, openText, elementsText, headText, printed}
 use Rattle.grammar.specs.Line.{Division}
 use Rattle.grammar.specs.Parse.{Parsed, choose, closed, only, manyFrom, _next_, into, repeat, fixed, stop, untilQuote, allLeft, atEnd, pri, version, priVersion, date, clock, secfrac, zone, offset, full, timestamp, names, value, param, element, listed, structured, message, header, parse}

@@ -1,4 +1,4 @@
--- 01, "Line by line": the nine cases marked P, as one table, and what each of them says of the definitions of loose reading, printing and the strict grammar.
+-- RULES Cases 1 to 9 as one table, and what each says of the definitions of loose reading, printing and the grammar.
 use Prim.Native.Nat.{ℕ}
 use Prim.Native.String.{String}
 use mathlib.Core.Path.{_≡_}
@@ -16,13 +16,13 @@ use Rattle.pri.specs.Pri.{priAt}
 use Rattle.structured_data.specs.declared.Rules.the-variants.{Rfc5424Rules}
 use Rattle.structured_data.specs.Data.{Item, itemFrom}
 use Rattle.structured_data.specs.Data.Item.{taken, skipped, ended}
-use Rattle.structured_data.specs.Outcome.{Outcome}
-use Rattle.structured_data.specs.Outcome.Outcome.{noReading, isReading}
+use Rattle.draft.specs.Outcome.{Outcome}
+use Rattle.draft.specs.Outcome.Outcome.{noReading, isReading}
 use Rattle.loose.specs.Loose.{outcomeOf}
 use Rattle.message.specs.Message.{elementsText, printed}
 use Rattle.grammar.specs.Line.{Division, timestampThen, dataThen, Each, Derives}
 
--- ---- what a line is read as, in texts that can be held beside 01
+-- ---- what a line is read as, in texts that can be held beside the rules
 
 -- a loose line: facility, severity, host, app name, the elements as the line has them, the message
 pub record Loose : Type 0 where
@@ -101,7 +101,7 @@ Says (prints variant line text) = printOf line (outcome variant line) ≡ some t
 Says (strict line (some texts)) = Divides line texts
 Says (strict line none) = (d : Division) → Derives line d → ⊥
 
--- ---- the table, row by row as 01 lists them
+-- ---- the table, row by row as RULES Cases lists them
 
 abbrev texts : Option String → Option (List ℕ)
 texts none = none

@@ -1,12 +1,16 @@
 -- The five services side by side: what a call is given, what it leaves, and the contract between the two. Each contract is the one that its function ensures.
 use Prim.Native.Nat.{ℕ}
 use mathlib.Core.List.{List}
+use lib.ListN.{drop}
 use lib.IntN.{ℤ}
 use Rattle.record.specs.Answers.{answerOf, strictAnswerOf, outputAnswerOf}
 use Rattle.record.specs.declared.Record.{Record}
 use Rattle.record.specs.declared.Reading.{Reading}
 use Rattle.record.specs.declared.StrictReading.{StrictReading}
 use Rattle.record.specs.declared.Written.{Written}
+use Rattle.record.specs.declared.Answer.{Answer}
+use Rattle.record.specs.declared.StrictAnswer.{StrictAnswer}
+use Rattle.record.specs.declared.OutputAnswer.{OutputAnswer}
 use Rattle.loose.specs.Loose.{ReadsExact, ReadsFallback}
 use Rattle.grammar.specs.Reading.{StrictReads}
 use Rattle.message.specs.Prints.{Prints}
@@ -82,13 +86,28 @@ Result Service.strict = Tables StrictReading
 Result Service.print = Output
 Result Service.lookup = Output
 
--- 01's number: 0 where the call is done
+-- ---- the answer in numbers: the number of RULES Numbers, 0 where the call is done, and the values
+
+abbrev pub Values : Service → Type 0
+Values Service.exact = Answer
+Values Service.fallback = Answer
+Values Service.strict = StrictAnswer
+Values Service.print = OutputAnswer
+Values Service.lookup = OutputAnswer
+
+abbrev pub values : (s : Service) → Result s → Values s
+values Service.exact x = answerOf (x .answer)
+values Service.fallback x = answerOf (x .answer)
+values Service.strict x = strictAnswerOf (x .answer)
+values Service.print x = outputAnswerOf (x .answer)
+values Service.lookup x = outputAnswerOf (x .answer)
+
 abbrev pub number : (s : Service) → Result s → ℕ
-number Service.exact x = answerOf (x .answer) .number
-number Service.fallback x = answerOf (x .answer) .number
-number Service.strict x = strictAnswerOf (x .answer) .number
-number Service.print x = outputAnswerOf (x .answer) .number
-number Service.lookup x = outputAnswerOf (x .answer) .number
+number Service.exact x = values Service.exact x .number
+number Service.fallback x = values Service.fallback x .number
+number Service.strict x = values Service.strict x .number
+number Service.print x = values Service.print x .number
+number Service.lookup x = values Service.lookup x .number
 
 -- ---- the contracts
 
@@ -121,3 +140,17 @@ after Service.fallback x = Lent.tables (x .elements) (x .params)
 after Service.strict x = Lent.tables (x .elements) (x .params)
 after Service.print x = Lent.output (x .output)
 after Service.lookup x = Lent.output (x .output)
+
+-- ---- and what of it an answer does not count: the entries past the counts, the bytes past the length
+
+-- without the first `e` and `p` entries of the tables, or the first `n` bytes of the output
+abbrev pub past : (e p n : ℕ) → Lent → Lent
+past e p n (Lent.tables elements params) = Lent.tables (drop e elements) (drop p params)
+past e p n (Lent.output out) = Lent.output (drop n out)
+
+abbrev pub rest : (s : Service) → Result s → Lent → Lent
+rest Service.exact x = past (values Service.exact x .elements) (values Service.exact x .params) 0
+rest Service.fallback x = past (values Service.fallback x .elements) (values Service.fallback x .params) 0
+rest Service.strict x = past (values Service.strict x .elements) (values Service.strict x .params) 0
+rest Service.print x = past 0 0 (values Service.print x .len)
+rest Service.lookup x = past 0 0 (values Service.lookup x .len)

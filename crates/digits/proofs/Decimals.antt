@@ -30,7 +30,7 @@ unfolding decimalFrom
 decimal-append v [] u = refl
 decimal-append v (b ∷ t) u = decimal-append (v * 10 + (b - 48)) t u
 
--- what stands in front counts tenfold for each digit behind it
+-- what stands in front counts tenfold for each digit after it
 pub decimal-front : (v : ℕ) (t : List ℕ) → decimalFrom v t ≡ v * 10 ^ length t + decimal t
 unfolding decimalFrom
 decimal-front v [] = omega arith

@@ -35,3 +35,8 @@ nines = refl
 sixes : map (fractionAt 6) (map bytes ("000003" ∷ "123456" ∷ "1234567" ∷ [])) ≡ Value 3000 6 ∷ Value 123456000 6 ∷ Nothing ∷ []
 unfolding fractionAt run decimalFrom
 sixes = refl
+
+-- the bytes before `0` and after `9` are no digits
+edges : map (numberAt 99) (map bytes ("/" ∷ "0/" ∷ "9:" ∷ ":" ∷ [])) ≡ Nothing ∷ Value 0 1 ∷ Value 9 1 ∷ Nothing ∷ []
+unfolding numberAt run decimalFrom
+edges = refl

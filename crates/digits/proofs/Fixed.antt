@@ -51,12 +51,12 @@ module _ (k : ℕ) (s : List ℕ) where
   pub fixed-stop : (i : ℕ) (d : Bool) → i < k → d ≡ isDigit (getD s i 0) → not d ≡ true → Nothing ≡ fixedAt k s
   fixed-stop i d h e q = fixed-few (omega (arith, run-stop isDigit s i (sym e ∙ not-true d q)))
 
--- digits, whatever stands behind them
+-- digits, whatever stands after them
 pub fixed-text : (k : ℕ) (t r : List ℕ) → All isDigit t → length t ≡ k → fixedAt k (t ++ r) ≡ Value (decimal t) k
 unfolding fixedAt
 fixed-text k t r a h = rw (le-leb k (digitRun (t ++ r)) (omega (arith, run-least isDigit t r a)), take-at t r k h)
 
--- j digits, and behind them k more
+-- j digits, and after them k more
 module _ (j k : ℕ) (s : List ℕ) where
   pub fixed-no-first : fixedAt j s ≡ Nothing → Nothing ≡ fixedAt (j + k) s
   fixed-no-first e = fixed-few (j + k) s (omega (arith, fixed-few-is j s e))

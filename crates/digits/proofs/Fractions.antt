@@ -87,7 +87,7 @@ module _ (most : ℕ) (s : List ℕ) (v n : ℕ) (e : fractionAt most s ≡ Valu
       let z : 1 ≤ p = one-le-pow (9 - n) 10 (omega arith) in
       (i .some, i .few, omega (arith, i .whole, run-le isDigit s), rw (i .value) (omega (arith, q, add-mul 1 d p)))
 
--- digits, and behind them a byte that is none
+-- digits, and after them a byte that is none
 pub fraction-text : (most : ℕ) (t r : List ℕ) → All isDigit t → 1 ≤ length t → length t ≤ most → digitRun r ≡ 0
     → fractionAt most (t ++ r) ≡ Value (decimal t * 10 ^ (9 - length t)) (length t)
 unfolding fractionAt

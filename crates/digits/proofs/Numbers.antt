@@ -6,13 +6,13 @@ use mathlib.Core.List.{List, _++_}
 use native.Mathlib.Numerals.{add-one}
 use native.Mathlib.Omega.{arith}
 use lib.Dec.{leb}
-use lib.ListN.{length, getD, take, drop}
+use lib.ListN.{length, getD, take}
 use lib.Seq.{take-suc, take-append-seam}
-use borrow.Author.Tests.{le-leb, lt-leb, leb-true, not-true}
+use borrow.Author.Tests.{le-leb, lt-leb, leb-true}
 use Rattle.base.specs.Choose.{if_then_else_}
 use Rattle.base.specs.Runs.{All}
 use Rattle.base.proofs.Tests.{both, told}
-use Rattle.base.proofs.Runs.{run-le, run-text, run-on, run-off, run-out}
+use Rattle.base.proofs.Runs.{run-le, run-text, Runs, runs-start, runs-out, runs-on, runs-off}
 use Rattle.digits.specs.Digits.{isDigit, digitRun, decimalFrom, decimal, numberAt}
 use Rattle.digits.specs.declared.Number.{Number}
 use Rattle.digits.specs.declared.Number.the-variants.{Nothing, Value}
@@ -43,7 +43,7 @@ module _ (max : ℕ) (s : List ℕ) (v n : ℕ) (e : numberAt max s ≡ Value v 
   pub number-len : (1 ≤ n) × (n ≤ length s) × (v ≤ max)
   number-len = let i = number-is in (i .some, omega (arith, run-le isDigit s), i .small)
 
--- digits, and behind them a byte that is none
+-- digits, and after them a byte that is none
 pub number-text : (max : ℕ) (t r : List ℕ) → All isDigit t → 1 ≤ length t → decimal t ≤ max → digitRun r ≡ 0
     → numberAt max (t ++ r) ≡ Value (decimal t) (length t)
 unfolding numberAt
@@ -51,14 +51,13 @@ number-text max t r a h g z = rw (run-text isDigit t r a z, take-append-seam t r
 
 -- after the first `i` bytes, which are digits and write `v`
 pub record Passed (s : List ℕ) (max i v : ℕ) : Type 0 where
-  pub within-s : i ≤ length s
+  pub run-is : Runs isDigit s (digitRun s) i
   pub small : v ≤ max
   pub value : v ≡ decimal (take i s)
-  pub count : digitRun s ≡ i + digitRun (drop i s)
 
 pub passed-none : (s : List ℕ) (max : ℕ) → Passed s max 0 0
 unfolding decimalFrom
-passed-none s max = record { within-s = omega arith; small = omega arith; value = refl; count = omega arith }
+passed-none s max = record { run-is = runs-start isDigit s; small = omega arith; value = refl }
 
 module _ (s : List ℕ) (max i v : ℕ) (p : Passed s max i v) where
   ended : (a : Number) → i ≡ digitRun s → a ≡ (if leb 1 i then Value v i else Nothing) → a ≡ numberAt max s
@@ -66,11 +65,11 @@ module _ (s : List ℕ) (max i v : ℕ) (p : Passed s max i v) where
   ended a n e = e ∙ rw (← n, ← p .value, le-leb v max (p .small), and-true)
 
   pub ended-text : (a : Number) → length s ≤ i → a ≡ (if leb 1 i then Value v i else Nothing) → a ≡ numberAt max s
-  ended-text a h e = ended a (run-out isDigit s _ i (p .count) h) e
+  ended-text a h e = ended a (runs-out isDigit s _ i (p .run-is) h) e
 
   module _ (h : i < length s) (d : Bool) (ed : d ≡ isDigit (getD s i 0)) where
     pub ended-digits : (a : Number) → not d ≡ true → a ≡ (if leb 1 i then Value v i else Nothing) → a ≡ numberAt max s
-    ended-digits a q e = ended a (run-off isDigit s _ i (p .count) h (sym ed ∙ not-true d q)) e
+    ended-digits a q e = ended a (runs-off isDigit s _ i (p .run-is) h d ed q) e
 
     -- one digit more
     module _ (q : not d ≡ false) (x : ℕ) (ex : x ≡ getD s i 0 - 48) where
@@ -78,11 +77,11 @@ module _ (s : List ℕ) (max i v : ℕ) (p : Passed s max i v) where
       unfolding decimalFrom
       more = rw (ex, add-one i, take-suc s i 0, decimal-append, ← p .value)
 
-      longer : digitRun s ≡ i + 1 + digitRun (drop (i + 1) s)
-      longer = run-on isDigit s _ i (p .count) h (told d _ ed q)
+      longer : Runs isDigit s (digitRun s) (i + 1)
+      longer = runs-on isDigit s _ i (p .run-is) h d ed q
 
       pub passed-more : v * 10 + x ≤ max → Passed s max (i + 1) (v * 10 + x)
-      passed-more m = record { within-s = omega arith; small = m; value = more; count = longer }
+      passed-more m = record { run-is = longer; small = m; value = more }
 
       pub too-large : max < v * 10 + x → Nothing ≡ numberAt max s
       unfolding numberAt

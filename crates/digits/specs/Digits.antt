@@ -17,7 +17,7 @@ isDigit b = within 48 57 b
 abbrev pub digitRun : List ℕ → ℕ
 digitRun s = run isDigit s
 
--- the number that the digits of `t` write in base ten, behind those that wrote `v`
+-- the number that the digits of `t` write in base ten, after those that wrote `v`
 unfoldable pub decimalFrom : ℕ → List ℕ → ℕ
 decimalFrom v [] = v
 decimalFrom v (b ∷ t) = decimalFrom (v * 10 + (b - 48)) t
@@ -32,7 +32,7 @@ numberAt max s =
     let v = decimal (take n s) in
     if leb 1 n && leb v max then Value v n else Nothing
 
--- The first `k` bytes of `s`, which are digits, as a number. What stands behind them is not asked.
+-- The first `k` bytes of `s`, which are digits, as a number. What stands after them is not asked.
 unfoldable pub fixedAt : ℕ → List ℕ → Number
 fixedAt k s = if leb k (digitRun s) then Value (decimal (take k s)) k else Nothing
 

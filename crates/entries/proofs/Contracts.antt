@@ -9,7 +9,7 @@ use borrow.Kind.MutSlice.{pMutS}
 use borrow.Kind.ShrSlice.{pShrS}
 use Rattle.record.proofs.Param as P
 use Rattle.record.proofs.Param.Laws as P′
-use Rattle.rules.specs.Derive.{Struct, Contract, plainly, pS, rS}
+use Rattle.derivation.specs.Derive.{Struct, Contract, plainly, pS, rS}
 use Rattle.entries.proofs.fetch as fe
 use Rattle.entries.proofs.store as st
 

@@ -24,8 +24,8 @@ use Rattle.record.specs.declared.Reading.the-variants.{Read, Refused}
 use Rattle.record.specs.declared.StrictReading.{StrictReading}
 use Rattle.record.specs.declared.StrictReading.the-variants as strict
 use Rattle.record.specs.declared.Refusal.{Refusal}
-use Rattle.layout.specs.Layout.{recordBytes, strictBytes}
-use Rattle.structured_data.specs.Outcome.{Outcome}
+use Rattle.layout.specs.Layout.{recordSize, strictSize, recordBytes, strictBytes}
+use Rattle.draft.specs.Outcome.{Outcome}
 use Rattle.grammar.specs.Reading.{StrictReads}
 use Rattle.grammar.specs.Reading.StrictReads.{too-long, underivable, elements-over, params-over, accepted}
 use Rattle.loose.specs.Loose.{outcomeOf, orWhole, answered, tableAfter, rowsOf, Reads, ReadsExact, ReadsFallback}
@@ -125,23 +125,23 @@ unread (Read r e p) rows old new h q = clash q
 unread (Refused f) rows old new h q = h
 
 module _ (line : List ℕ) (variant year : ℕ) (o : ℤ) (outcome : Outcome) (e₀ p₀ : List (List ℕ)) (out : List ℕ) where
-  loose-short : length out < 208 → (r : Reading) → r ≡ answered line variant year o outcome (length e₀) (length p₀)
+  loose-short : length out < recordSize → (r : Reading) → r ≡ answered line variant year o outcome (length e₀) (length p₀)
       → (a : Answer) → a ≡ answerOf r → (n : ℕ) → n ≡ shortNumber (a .number)
-      → Leaves numberOf bytesOf 208 (Reads line variant year o outcome e₀ p₀) e₀ p₀ out n e₀ p₀ out
+      → Leaves numberOf bytesOf recordSize (Reads line variant year o outcome e₀ p₀) e₀ p₀ out n e₀ p₀ out
   loose-short l r h a ea n en =
-      leaves-short numberOf bytesOf 208 (Reads line variant year o outcome e₀ p₀) e₀ p₀ out r
+      leaves-short numberOf bytesOf recordSize (Reads line variant year o outcome e₀ p₀) e₀ p₀ out r
       (tableAfter r (rowsOf outcome .elements) e₀) (tableAfter r (rowsOf outcome .params) p₀)
       (record { answer = h; elements = refl; params = refl })
       l n (en ∙ ap (λ (x : Answer). shortNumber (x .number)) ea)
 
-  loose-all : 208 ≤ length out → (r : Reading) (e p : List (List ℕ)) → Reads line variant year o outcome e₀ p₀ r e p → (n : ℕ) (new : List ℕ) → Left r out n new
-      → Leaves numberOf bytesOf 208 (Reads line variant year o outcome e₀ p₀) e₀ p₀ out n e p new
+  loose-all : recordSize ≤ length out → (r : Reading) (e p : List (List ℕ)) → Reads line variant year o outcome e₀ p₀ r e p → (n : ℕ) (new : List ℕ) → Left r out n new
+      → Leaves numberOf bytesOf recordSize (Reads line variant year o outcome e₀ p₀) e₀ p₀ out n e p new
   loose-all l r e p h n new w =
-      leaves-all numberOf bytesOf 208 (Reads line variant year o outcome e₀ p₀) e₀ p₀ out r e p h l
+      leaves-all numberOf bytesOf recordSize (Reads line variant year o outcome e₀ p₀) e₀ p₀ out r e p h l
       (λ q. (unread r (rowsOf outcome .elements) e₀ e (h .elements) q, unread r (rowsOf outcome .params) p₀ p (h .params) q)) n new w
 
 module _ (line : List ℕ) (variant year : ℕ) (o : ℤ) (f : SFits w32 o) (e₀ p₀ : List (List ℕ)) (out : List ℕ) where
-  module _ (l : length out < 208) (r : Reading) (a : Answer) (ea : a ≡ answerOf r) (n : ℕ) (en : n ≡ shortNumber (a .number)) where
+  module _ (l : length out < recordSize) (r : Reading) (a : Answer) (ea : a ≡ answerOf r) (n : ℕ) (en : n ≡ shortNumber (a .number)) where
     pub exact-short : r ≡ answered line variant year (toZ w32 (ofZ w32 o)) (outcomeOf line variant year (toZ w32 (ofZ w32 o))) (length e₀) (length p₀)
         → LeavesExact line variant year o e₀ p₀ out n e₀ p₀ out
     exact-short h = loose-short line variant year o (outcomeOf line variant year o) e₀ p₀ out l r (rw (toZ-ofZ w32 o f) at h) a ea n en
@@ -150,7 +150,7 @@ module _ (line : List ℕ) (variant year : ℕ) (o : ℤ) (f : SFits w32 o) (e�
         → LeavesFallback line variant year o e₀ p₀ out n e₀ p₀ out
     fallback-short h = loose-short line variant year o (orWhole line (outcomeOf line variant year o)) e₀ p₀ out l r (rw (toZ-ofZ w32 o f) at h) a ea n en
 
-  module _ (l : 208 ≤ length out) (r : Reading) (e p : List (List ℕ)) (n : ℕ) (new : List ℕ) (w : Left r out n new) where
+  module _ (l : recordSize ≤ length out) (r : Reading) (e p : List (List ℕ)) (n : ℕ) (new : List ℕ) (w : Left r out n new) where
     pub exact-all : ReadsExact line variant year (toZ w32 (ofZ w32 o)) e₀ p₀ r e p → LeavesExact line variant year o e₀ p₀ out n e p new
     exact-all h = loose-all line variant year o (outcomeOf line variant year o) e₀ p₀ out l r e p (rw (toZ-ofZ w32 o f) at h) n new w
 
@@ -168,13 +168,13 @@ strict-unread (params-over d l h k m a b c) q = (b, c)
 strict-unread (accepted d l h k m a b c) q = clash (rw a at q)
 
 module _ (line : List ℕ) (e₀ p₀ : List (List ℕ)) (out : List ℕ) where
-  pub strict-short : length out < 240 → (r : StrictReading) → r ≡ scan.answered line (length e₀) (length p₀)
+  pub strict-short : length out < strictSize → (r : StrictReading) → r ≡ scan.answered line (length e₀) (length p₀)
       → (a : StrictAnswer) → a ≡ strictAnswerOf r → (n : ℕ) → n ≡ shortNumber (a .number) → LeavesStrict line e₀ p₀ out n e₀ p₀ out
   strict-short l r h a ea n en =
       let t = answers line e₀ p₀ in
-      leaves-short strictNumberOf strictBytesOf 240 (StrictReads line e₀ p₀) e₀ p₀ out r (t .elements) (t .params) (rw h (t .reads))
+      leaves-short strictNumberOf strictBytesOf strictSize (StrictReads line e₀ p₀) e₀ p₀ out r (t .elements) (t .params) (rw h (t .reads))
       l n (en ∙ ap (λ (x : StrictAnswer). shortNumber (x .number)) ea)
 
-  pub strict-all : 240 ≤ length out → (r : StrictReading) (e p : List (List ℕ)) → StrictReads line e₀ p₀ r e p → (n : ℕ) (new : List ℕ) → StrictLeft r out n new
+  pub strict-all : strictSize ≤ length out → (r : StrictReading) (e p : List (List ℕ)) → StrictReads line e₀ p₀ r e p → (n : ℕ) (new : List ℕ) → StrictLeft r out n new
       → LeavesStrict line e₀ p₀ out n e p new
-  strict-all l r e p h n new w = leaves-all strictNumberOf strictBytesOf 240 (StrictReads line e₀ p₀) e₀ p₀ out r e p h l (strict-unread h) n new w
+  strict-all l r e p h n new w = leaves-all strictNumberOf strictBytesOf strictSize (StrictReads line e₀ p₀) e₀ p₀ out r e p h l (strict-unread h) n new w

@@ -7,7 +7,7 @@ use borrow.Fn.Kinds.{PK, pNum, pSNum, rNum}
 use borrow.Fn.Read.{all-models, reads}
 use borrow.Kind.MutSlice.{pMutS}
 use borrow.Kind.ShrSlice.{pShrS}
-use Rattle.rules.specs.Derive.{Struct, Contract, plainly, bytes, pair, rS}
+use Rattle.derivation.specs.Derive.{Struct, Contract, plainly, bytes, pair, rS}
 use Rattle.record.proofs.Param as P
 use Rattle.record.proofs.OutputAnswer as O
 use Rattle.record.proofs.OutputAnswer.Laws as O′

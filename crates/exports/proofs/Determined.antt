@@ -19,6 +19,7 @@ use Rattle.message.specs.Prints.{Prints}
 use Rattle.message.proofs.Laws.{answers-agree, outputs-agree}
 use Rattle.lookup.specs.Lookup.{Looks}
 use Rattle.lookup.proofs.Answers.{looks-one}
+use Rattle.layout.specs.Layout.{recordSize, strictSize}
 use Rattle.layout.specs.Incoming.{recordAt, elementCountAt, paramCountAt}
 use Rattle.exports.specs.Exports.{leftNumber, kept, Leaves, numberOf, bytesOf, strictNumberOf, strictBytesOf, LeavesExact, LeavesFallback, LeavesStrict, Serves, firstRefusal, ServesPrint, ServesLookup}
 use Rattle.exports.specs.Exports.Serves.{held, unheld}
@@ -62,17 +63,17 @@ module _ (bytes : List ℕ) (first : Refusal) (Service : Record → ℕ → ℕ 
 module _ (line : List ℕ) (variant year : ℕ) (offset : ℤ) (e₀ p₀ : List (List ℕ)) (out : List ℕ) (n m : ℕ) (e e′ p p′ : List (List ℕ)) (new new′ : List ℕ) where
   pub exact-one : LeavesExact line variant year offset e₀ p₀ out n e p new → LeavesExact line variant year offset e₀ p₀ out m e′ p′ new′ → Same n m e e′ p p′ new new′
   exact-one =
-      leaves-one numberOf bytesOf 208 (ReadsExact line variant year offset e₀ p₀) (one-reading line variant year offset (outcomeOf line variant year offset) e₀ p₀)
+      leaves-one numberOf bytesOf recordSize (ReadsExact line variant year offset e₀ p₀) (one-reading line variant year offset (outcomeOf line variant year offset) e₀ p₀)
       e₀ p₀ out n m e e′ p p′ new new′
 
   pub fallback-one : LeavesFallback line variant year offset e₀ p₀ out n e p new → LeavesFallback line variant year offset e₀ p₀ out m e′ p′ new′ → Same n m e e′ p p′ new new′
   fallback-one =
-      leaves-one numberOf bytesOf 208 (ReadsFallback line variant year offset e₀ p₀) (one-reading line variant year offset (orWhole line (outcomeOf line variant year offset)) e₀ p₀)
+      leaves-one numberOf bytesOf recordSize (ReadsFallback line variant year offset e₀ p₀) (one-reading line variant year offset (orWhole line (outcomeOf line variant year offset)) e₀ p₀)
       e₀ p₀ out n m e e′ p p′ new new′
 
   pub strict-one : LeavesStrict line e₀ p₀ out n e p new → LeavesStrict line e₀ p₀ out m e′ p′ new′ → Same n m e e′ p p′ new new′
   strict-one =
-      leaves-one strictNumberOf strictBytesOf 240 (StrictReads line e₀ p₀) (λ r s e₁ e₂ p₁ p₂ h k. strict-determined h k) e₀ p₀ out n m e e′ p p′ new new′
+      leaves-one strictNumberOf strictBytesOf strictSize (StrictReads line e₀ p₀) (λ r s e₁ e₂ p₁ p₂ h k. strict-determined h k) e₀ p₀ out n m e e′ p p′ new new′
 
 module _ (line bytes : List ℕ) (elements params : List (List ℕ)) (old : List ℕ) {a b : OutputAnswer} {new other : List ℕ} where
   pub print-one : ServesPrint line bytes elements params old a new → ServesPrint line bytes elements params old b other → (a ≡ b) × (new ≡ other)

@@ -4,6 +4,7 @@ use mathlib.Core.Path.{_≡_}
 use mathlib.Core.Bool.{true}
 use mathlib.Core.List.{List}
 use borrow.Author.Tests.{lt-ltb, le-ltb}
+use Rattle.record.specs.Limits.{lineLimit}
 use Rattle.record.specs.Answers.{outputAnswerOf}
 use Rattle.record.specs.declared.Record.{Record}
 use Rattle.record.specs.declared.Written.{Written}
@@ -16,15 +17,15 @@ use Rattle.exports.specs.Exports.Serves.{held}
 
 -- the refusal of bytes that hold no record
 module _ (n kind : ℕ) where
-  pub first-long : 8192 < n → LineTooLong ≡ firstRefusal n kind
-  first-long h = rw (lt-ltb 8192 n h)
+  pub first-long : lineLimit < n → LineTooLong ≡ firstRefusal n kind
+  first-long h = rw (lt-ltb lineLimit n h)
 
-  module _ (h : n ≤ 8192) where
+  module _ (h : n ≤ lineLimit) where
     pub first-kind : 1 < kind → BadSetting ≡ firstRefusal n kind
-    first-kind k = rw (le-ltb 8192 n h, lt-ltb 1 kind k)
+    first-kind k = rw (le-ltb lineLimit n h, lt-ltb 1 kind k)
 
     pub first-unheld : kind ≤ 1 → Unsuitable ≡ firstRefusal n kind
-    first-unheld k = rw (le-ltb 8192 n h, le-ltb 1 kind k)
+    first-unheld k = rw (le-ltb lineLimit n h, le-ltb 1 kind k)
 
 pub ruleset first-laws = (first-long, first-kind, first-unheld)
 

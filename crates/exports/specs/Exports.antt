@@ -8,6 +8,7 @@ use lib.IntN.{ℤ}
 use lib.ListN.{length}
 use Rattle.base.specs.Choose.{if_then_else_}
 use Rattle.base.specs.Fills.{filled}
+use Rattle.record.specs.Limits.{lineLimit}
 use Rattle.record.specs.Answers.{answerOf, strictAnswerOf, outputAnswerOf}
 use Rattle.record.specs.declared.Record.{Record}
 use Rattle.record.specs.declared.Reading.{Reading}
@@ -19,7 +20,7 @@ use Rattle.record.specs.declared.Written.the-variants as written
 use Rattle.record.specs.declared.Refusal.{Refusal}
 use Rattle.record.specs.declared.Refusal.the-variants.{LineTooLong, BadSetting, Unsuitable}
 use Rattle.record.specs.declared.OutputAnswer.{OutputAnswer}
-use Rattle.layout.specs.Layout.{recordBytes, strictBytes}
+use Rattle.layout.specs.Layout.{recordSize, strictSize, recordBytes, strictBytes}
 use Rattle.layout.specs.Incoming.{holdsRecord, recordAt, elementCountAt, paramCountAt}
 use Rattle.grammar.specs.Reading.{StrictReads}
 use Rattle.loose.specs.Loose.{ReadsExact, ReadsFallback}
@@ -67,13 +68,13 @@ strictBytesOf (strict.Read r e p) = strictBytes r e p
 strictBytesOf (strict.Refused f) = []
 
 abbrev pub LeavesExact : List ℕ → ℕ → ℕ → ℤ → List (List ℕ) → List (List ℕ) → List ℕ → ℕ → List (List ℕ) → List (List ℕ) → List ℕ → Type 0
-LeavesExact line variant year offset e₀ p₀ = Leaves numberOf bytesOf 208 (ReadsExact line variant year offset e₀ p₀) e₀ p₀
+LeavesExact line variant year offset e₀ p₀ = Leaves numberOf bytesOf recordSize (ReadsExact line variant year offset e₀ p₀) e₀ p₀
 
 abbrev pub LeavesFallback : List ℕ → ℕ → ℕ → ℤ → List (List ℕ) → List (List ℕ) → List ℕ → ℕ → List (List ℕ) → List (List ℕ) → List ℕ → Type 0
-LeavesFallback line variant year offset e₀ p₀ = Leaves numberOf bytesOf 208 (ReadsFallback line variant year offset e₀ p₀) e₀ p₀
+LeavesFallback line variant year offset e₀ p₀ = Leaves numberOf bytesOf recordSize (ReadsFallback line variant year offset e₀ p₀) e₀ p₀
 
 abbrev pub LeavesStrict : List ℕ → List (List ℕ) → List (List ℕ) → List ℕ → ℕ → List (List ℕ) → List (List ℕ) → List ℕ → Type 0
-LeavesStrict line e₀ p₀ = Leaves strictNumberOf strictBytesOf 240 (StrictReads line e₀ p₀) e₀ p₀
+LeavesStrict line e₀ p₀ = Leaves strictNumberOf strictBytesOf strictSize (StrictReads line e₀ p₀) e₀ p₀
 
 -- ---- printing and lookup
 
@@ -85,7 +86,7 @@ pub data Serves (bytes : List ℕ) (first : Refusal) (Service : Record → ℕ �
 
 -- the first of the refusals 1, 2 and 7 that applies to a line of `len` bytes, a kind, and bytes that hold no record
 abbrev pub firstRefusal : ℕ → ℕ → Refusal
-firstRefusal len kind = if ltb 8192 len then LineTooLong else if ltb 1 kind then BadSetting else Unsuitable
+firstRefusal len kind = if ltb lineLimit len then LineTooLong else if ltb 1 kind then BadSetting else Unsuitable
 
 -- printing has no kind, and is never refused for one
 abbrev pub ServesPrint : List ℕ → List ℕ → List (List ℕ) → List (List ℕ) → List ℕ → OutputAnswer → List ℕ → Type 0

@@ -1,4 +1,4 @@
--- What is left once a line was read. (For private contracts alone.)
+-- For private contracts alone: what is left once a line was read.
 use Prim.Native.Nat.{ℕ}
 use mathlib.Core.Path.{_≡_}
 use mathlib.Core.List.{List}

@@ -11,6 +11,7 @@ ghost use lib.ListN.{length};
 ghost use Rattle.record.specs.Answers.{outputAnswerOf};
 ghost use Rattle.record.specs.Params.{rows};
 ghost use Rattle.record.specs.declared.Written.the-variants.{Refused};
+ghost use Rattle.layout.specs.Layout.{recordSize, strictSize};
 ghost use Rattle.exports.specs.Exports.{shortNumber, numberOf, strictNumberOf, LeavesExact, LeavesFallback, LeavesStrict, firstRefusal, ServesPrint, ServesLookup};
 ghost use Rattle.exports.specs.Steps.{Left, StrictLeft};
 
@@ -41,7 +42,7 @@ fn short_strict(r: StrictReading) -> u32
 
 // The number of an answer, and its record.
 fn leave(r: Reading, memory: &mut [u8]) -> u32
-    requires { ⌜ 208 ≤ length (now memory) ⌝ }
+    requires { ⌜ recordSize ≤ length (now memory) ⌝ }
     ensures { λ n. ⌜ Left r (now (memory .entry)) n (now (memory .exit)) ⌝ }
 {
     match r {
@@ -54,7 +55,7 @@ fn leave(r: Reading, memory: &mut [u8]) -> u32
 }
 
 fn leave_strict(r: StrictReading, memory: &mut [u8]) -> u32
-    requires { ⌜ 240 ≤ length (now memory) ⌝ }
+    requires { ⌜ strictSize ≤ length (now memory) ⌝ }
     ensures { λ n. ⌜ StrictLeft r (now (memory .entry)) n (now (memory .exit)) ⌝ }
 {
     match r {
@@ -66,6 +67,7 @@ fn leave_strict(r: StrictReading, memory: &mut [u8]) -> u32
     }
 }
 
+// Loose exact reading: the number; where it is 0, the record's 208 bytes in `memory`.
 #[no_mangle]
 pub extern "C" fn khamdoriem_read_exact(
     line: &[u8],
@@ -79,7 +81,7 @@ pub extern "C" fn khamdoriem_read_exact(
     ensures { λ n. ⌜ LeavesExact (now (line .entry)) variant year offset (now (elements .entry)) (rows (now (params .entry))) (now (memory .entry)) n (now (elements .exit)) (rows (now (params .exit))) (now (memory .exit)) ⌝ }
 {
     let room = memory.len();
-    if room < 208 {
+    if room < layout::RECORD_SIZE {
         let e = elements.len();
         let p = params.len();
         return short(loose::answer(line, variant, year, offset, e, p));
@@ -88,6 +90,7 @@ pub extern "C" fn khamdoriem_read_exact(
     leave(r, memory)
 }
 
+// The same by loose fallback reading.
 #[no_mangle]
 pub extern "C" fn khamdoriem_read_fallback(
     line: &[u8],
@@ -101,7 +104,7 @@ pub extern "C" fn khamdoriem_read_fallback(
     ensures { λ n. ⌜ LeavesFallback (now (line .entry)) variant year offset (now (elements .entry)) (rows (now (params .entry))) (now (memory .entry)) n (now (elements .exit)) (rows (now (params .exit))) (now (memory .exit)) ⌝ }
 {
     let room = memory.len();
-    if room < 208 {
+    if room < layout::RECORD_SIZE {
         let e = elements.len();
         let p = params.len();
         return short(loose::answer_fallback(line, variant, year, offset, e, p));
@@ -110,6 +113,7 @@ pub extern "C" fn khamdoriem_read_fallback(
     leave(r, memory)
 }
 
+// Strict reading: the number; where it is 0, the record's 240 bytes in `memory`.
 #[no_mangle]
 pub extern "C" fn khamdoriem_read_strict(
     line: &[u8],
@@ -120,7 +124,7 @@ pub extern "C" fn khamdoriem_read_strict(
     ensures { λ n. ⌜ LeavesStrict (now (line .entry)) (now (elements .entry)) (rows (now (params .entry))) (now (memory .entry)) n (now (elements .exit)) (rows (now (params .exit))) (now (memory .exit)) ⌝ }
 {
     let room = memory.len();
-    if room < 240 {
+    if room < layout::STRICT_SIZE {
         let e = elements.len();
         let p = params.len();
         return short_strict(strict::answer(line, e, p));
@@ -133,7 +137,7 @@ pub extern "C" fn khamdoriem_read_strict(
 fn first_refusal(len: usize, kind: u32) -> Refusal
     ensures { λ f. ⌜ f ≡ firstRefusal len kind ⌝ }
 {
-    if 8192 < len {
+    if record::LINE_LIMIT < len {
         return Refusal::LineTooLong;
     }
     if 1 < kind {
@@ -150,6 +154,7 @@ fn unheld(len: usize, kind: u32) -> OutputAnswer
     record::output_answer_of(Written::Refused(first))
 }
 
+// Printing of the record that the 208 bytes hold: number and length.
 #[no_mangle]
 pub extern "C" fn khamdoriem_print(
     line: &[u8],
@@ -171,6 +176,7 @@ pub extern "C" fn khamdoriem_print(
     unheld(n, 0)
 }
 
+// Lookup in what a reader left: number and length.
 #[no_mangle]
 pub extern "C" fn khamdoriem_lookup(
     line: &[u8],

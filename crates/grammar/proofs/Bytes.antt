@@ -101,7 +101,7 @@ stop-text r nothing = refl
 stop-text r (plain b e h) = rw (b, e) (ap suc (stop-text r h))
 stop-text r (pair h) = ap (λ (n : ℕ). suc (suc n)) (stop-text r h)
 
--- a value, or the rest of one behind the backslash of a pair
+-- a value, or the rest of one after the backslash of a pair
 abbrev Left : Bool → List ℕ → Type 0
 Left false t = Escaped t
 Left true t = Escaped (92 ∷ t)

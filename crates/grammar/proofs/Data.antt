@@ -41,7 +41,7 @@ param-reads =
     (λ p h. (h .name-ok, (h .value-utf8, h .value-escaped)))
     (λ t h. record { name-ok = h .0; value-utf8 = h .1 .0; value-escaped = h .1 .1 })
 
--- what stands behind an id
+-- what stands after an id
 no-name : (ps : List Param) (r : List ℕ) → Each ParamOk ps → Any r → run sdNameByte (eachThen paramThen ps (93 ∷ r)) ≡ 0
 no-name [] r h k = run-no sdNameByte 93 r refl
 no-name (p ∷ ps) r h k = run-no sdNameByte 32 _ refl
@@ -111,7 +111,7 @@ end-to-end s m n e =
     let z : 0 ≡ n = cc in
     rw (← z) (ended s 0 (omega (arith, eqb-true (length s) 0 (u .0))))
 
--- the mark is there, and behind it UTF-8
+-- the mark is there, and after it UTF-8
 message-utf8 : (m u : List ℕ) → isMessage m ≡ true → m ≡ 0xEF ∷ 0xBB ∷ 0xBF ∷ u → Utf8 u
 message-utf8 m u h e = utf8-sound u (ap isMessage (sym e) ∙ h)
 

@@ -63,7 +63,7 @@ pub clock-reads : Reads (λ t r. 84 ∷ threeThen 58 t r) (λ t. ThreeOk 2 t × 
 unfolding clock
 clock-reads = only-reads (next-any (two-reads 83) (next-any (two-reads 57) (two-reads 57))) isTime
 
--- what stands behind a secfrac
+-- what stands after a secfrac
 pub record NoFraction (r : List ℕ) : Type 0 where
   pub no-point : isAt r 0 46 ≡ false
   pub no-digit : run isDigit r ≡ 0

@@ -27,13 +27,13 @@ module _ {A : Type 0} (text : A → List ℕ → List ℕ) (Ok : A → Type 0) w
     pub split : s ≡ text a (drop n s)
     pub size : n ≡ length (text a [])
 
-  -- Each text of a value that is Ok is found, where what stands behind it allows; and what is found is such a text.
+  -- Each text of a value that is Ok is found, where what stands after it allows; and what is found is such a text.
   pub record Reads (After : List ℕ → Type 0) (p : Reader A) : Type 0 where
     pub plain : (a : A) (r : List ℕ) → Ok a → text a r ≡ text a [] ++ r
     pub complete : (a : A) (r : List ℕ) → Ok a → After r → p (text a r) ≡ found a (length (text a []))
     pub sound : (s : List ℕ) (a : A) (n : ℕ) → p s ≡ found a n → Front s a n
 
--- whatever stands behind
+-- whatever stands after
 abbrev pub Any : List ℕ → Type 0
 Any r = Unit {0}
 
@@ -89,7 +89,7 @@ module _ {A : Type 0} {text : A → List ℕ → List ℕ} {Ok : A → Type 0} {
         sound = λ s a n e. let f = P .sound s a n e in record { ok = from a (f .ok); split = f .split; size = f .size };
       }
 
-  -- the same, where more is asked of what stands behind
+  -- the same, where more is asked of what stands after
   pub under : {After′ : List ℕ → Type 0} → ((r : List ℕ) → After′ r → After r) → Reads text Ok After′ p
   under more = record { plain = P .plain; complete = λ a r h k. P .complete a r h (more r k); sound = P .sound }
 
@@ -202,7 +202,7 @@ module _ {A B : Type 0} {ta : A → List ℕ → List ℕ} {tb : B → List ℕ 
             });
       }
 
--- the same behind a reader that asks for nothing there
+-- the same after a reader that asks for nothing there
 pub next-any : {A B : Type 0} {ta : A → List ℕ → List ℕ} {tb : B → List ℕ → List ℕ} {OkA : A → Type 0} {OkB : B → Type 0} {After : List ℕ → Type 0} {p : Reader A} {q : Reader B}
     → Reads ta OkA Any p → Reads tb OkB After q
     → Reads (λ (c : A × B) r. ta (c .0) (tb (c .1) r)) (λ (c : A × B). OkA (c .0) × OkB (c .1)) After (p next q)
@@ -340,7 +340,7 @@ module _ {A : Type 0} {text : A → List ℕ → List ℕ} {Ok : A → Type 0} {
 
 -- ---- readers to the end
 
--- nothing is left behind what is found
+-- nothing is left after what is found
 abbrev pub ToEnd : {A : Type 0} → Reader A → Type 0
 ToEnd {A} p = (s : List ℕ) (a : A) (n : ℕ) → p s ≡ found a n → drop n s ≡ []
 

@@ -7,6 +7,7 @@ use lib.Dec.{leb}
 use borrow.Author.Tests.{le-leb, lt-leb}
 use Rattle.base.specs.Choose.{if_then_else_}
 use Rattle.base.specs.Fills.{filled}
+use Rattle.record.specs.Limits.{lineLimit}
 use Rattle.record.specs.declared.StrictReading.{StrictReading}
 use Rattle.record.specs.declared.StrictReading.the-variants.{Read, Refused}
 use Rattle.record.specs.declared.Refusal.{Refusal}
@@ -44,7 +45,7 @@ module _ (e₀ p₀ : List (List ℕ)) where
 
   -- the outcome of a line
   pub outcome : List ℕ → Outcome
-  outcome line = if leb (length line) 8192 then parsed (parse line) else refused LineTooLong
+  outcome line = if leb (length line) lineLimit then parsed (parse line) else refused LineTooLong
 
   fails : (line : List ℕ) → ((d : Division) → Derives line d → ⊥) → (o : Parsed Division) → parse line ≡ o → parse line ≡ failed
   fails line h failed e = e
@@ -53,16 +54,16 @@ module _ (e₀ p₀ : List (List ℕ)) where
   pub strict-outcome : {line : List ℕ} {r : StrictReading} {e₁ p₁ : List (List ℕ)} → StrictReads line e₀ p₀ r e₁ p₁
       → _≡_ {A = Outcome} (record { reading = r; elements = e₁; params = p₁ }) (outcome line)
   unfolding outcome
-  strict-outcome {line} (too-long l a b c) = rw (a, b, c, lt-leb (length line) 8192 l)
-  strict-outcome {line} (underivable l h a b c) = rw (a, b, c, le-leb (length line) 8192 l, fails line h (parse line) refl)
+  strict-outcome {line} (too-long l a b c) = rw (a, b, c, lt-leb (length line) lineLimit l)
+  strict-outcome {line} (underivable l h a b c) = rw (a, b, c, le-leb (length line) lineLimit l, fails line h (parse line) refl)
   strict-outcome {line} (elements-over d l h m a b c) =
-      rw (a, b, c, le-leb (length line) 8192 l, parse-found line d h, lt-leb (length (d .elements)) (length e₀) m)
+      rw (a, b, c, le-leb (length line) lineLimit l, parse-found line d h, lt-leb (length (d .elements)) (length e₀) m)
   strict-outcome {line} (params-over d l h k m a b c) =
       rw (
         a,
         b,
         c,
-        le-leb (length line) 8192 l,
+        le-leb (length line) lineLimit l,
         parse-found line d h,
         le-leb (length (d .elements)) (length e₀) k,
         lt-leb (paramCount (d .elements)) (length p₀) m,
@@ -72,7 +73,7 @@ module _ (e₀ p₀ : List (List ℕ)) where
         a,
         b,
         c,
-        le-leb (length line) 8192 l,
+        le-leb (length line) lineLimit l,
         parse-found line d h,
         le-leb (length (d .elements)) (length e₀) k,
         le-leb (paramCount (d .elements)) (length p₀) m,

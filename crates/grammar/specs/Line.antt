@@ -1,4 +1,4 @@
--- RFC 5424 section 6 with 01's strict rules, as a relation between a line and its division into fields.
+-- RFC 5424 section 6 (RULES Strict) as a relation between a line and its division into fields.
 -- `xThen f r` is the text of the field f, as the production above it lays it out, and then r.
 use Prim.Native.Nat.{ℕ, _≤_}
 use mathlib.Core.Path.{_≡_}
@@ -164,7 +164,7 @@ abbrev pub TimestampOk : Option Timestamp → Type 0
 TimestampOk none = Unit {0}
 TimestampOk (some t) = FullOk t
 
--- '"' and ']', which stand in a value behind a backslash alone
+-- '"' and ']', which stand in a value after a backslash alone
 abbrev pub bare : ℕ → Bool
 bare b = eqb b 34 || eqb b 93
 

@@ -1,4 +1,4 @@
--- The parser on lists that the code follows: each field is found from the front of what is left, with no second choice, in one pass.
+-- For private contracts alone: the parser on lists that the code follows: each field is found from the front of what is left, with no second choice, in one pass.
 -- No contract of a service names it. proofs/ show that it finds the divisions of Line.antt and no others.
 use Prim.Native.Nat.{ℕ, zero, suc, _+_}
 use mathlib.Core.Bool.{Bool, true, false, not, _&&_}
@@ -215,7 +215,7 @@ param = into paramOf (closed sdName 61 next behind 34 value)
 abbrev pub elementOf : List ℕ × List Param → Element
 elementOf t = record { id = t .0; params = t .1 }
 
--- what is behind the "[" of an SD-ELEMENT
+-- what is after the "[" of an SD-ELEMENT
 unfoldable pub element : Reader Element
 element = into elementOf (sdName next closed (many 32 param) 93)
 
@@ -234,7 +234,7 @@ structured = only idsDiffer listed
 
 -- ---- [SP MSG]
 
--- the byte order mark, and behind it UTF-8; or no mark
+-- the byte order mark, and after it UTF-8; or no mark
 abbrev pub isMessage : List ℕ → Bool
 isMessage m = if isAt m 0 0xEF && isAt m 1 0xBB && isAt m 2 0xBF then isUtf8 (drop 3 m) else true
 

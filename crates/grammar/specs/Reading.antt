@@ -9,6 +9,7 @@ use lib.Dec.{eqb}
 use lib.IntN.{ℤ, pos, negℤ}
 use Rattle.base.specs.Choose.{if_then_else_, isAt}
 use Rattle.base.specs.Fills.{filled}
+use Rattle.record.specs.Limits.{lineLimit}
 use Rattle.digits.specs.Digits.{decimal}
 use Rattle.calendar.specs.Instant.{secondsOf}
 use Rattle.record.specs.Places.{absent, place}
@@ -47,7 +48,7 @@ msgidAt d = procidAt d + length (d .procid) + 1
 abbrev pub dataAt : Division → ℕ
 dataAt d = msgidAt d + length (d .msgid) + 1
 
--- behind the structured data
+-- after the structured data
 abbrev pub dataEnd : Division → ℕ
 dataEnd d = dataAt d + length (dataThen (d .elements) [])
 
@@ -91,7 +92,7 @@ abbrev pub hasMessage : Option (List ℕ) → Bool
 hasMessage none = false
 hasMessage (some m) = true
 
--- the message behind its space; an absent one has start and length 0
+-- the message after its space; an absent one has start and length 0
 abbrev pub messageSpan : ℕ → Option (List ℕ) → Span
 messageSpan at none = record { start = 0; len = 0 }
 messageSpan at (some m) = record { start = at + 1; len = length m }
@@ -140,14 +141,14 @@ paramRows k at (e ∷ es) = rowsOfParams k (at + length (e .id) + 1) (e .params)
 -- ---- the contract: a reading of a line into tables that held e₀ and p₀ and hold e₁ and p₁
 
 pub data StrictReads (line : List ℕ) (e₀ p₀ : List (List ℕ)) (r : StrictReading) (e₁ p₁ : List (List ℕ)) : Type 0 where
-  too-long : 8192 < length line → r ≡ Refused LineTooLong → e₁ ≡ e₀ → p₁ ≡ p₀ → StrictReads line e₀ p₀ r e₁ p₁
-  underivable : length line ≤ 8192 → ((d : Division) → Derives line d → ⊥)
+  too-long : lineLimit < length line → r ≡ Refused LineTooLong → e₁ ≡ e₀ → p₁ ≡ p₀ → StrictReads line e₀ p₀ r e₁ p₁
+  underivable : length line ≤ lineLimit → ((d : Division) → Derives line d → ⊥)
       → r ≡ Refused NoReading → e₁ ≡ e₀ → p₁ ≡ p₀ → StrictReads line e₀ p₀ r e₁ p₁
-  elements-over : (d : Division) → length line ≤ 8192 → Derives line d → length e₀ < length (d .elements)
+  elements-over : (d : Division) → length line ≤ lineLimit → Derives line d → length e₀ < length (d .elements)
       → r ≡ Refused TooManyElements → e₁ ≡ e₀ → p₁ ≡ p₀ → StrictReads line e₀ p₀ r e₁ p₁
-  params-over : (d : Division) → length line ≤ 8192 → Derives line d → length (d .elements) ≤ length e₀ → length p₀ < paramCount (d .elements)
+  params-over : (d : Division) → length line ≤ lineLimit → Derives line d → length (d .elements) ≤ length e₀ → length p₀ < paramCount (d .elements)
       → r ≡ Refused TooManyParams → e₁ ≡ e₀ → p₁ ≡ p₀ → StrictReads line e₀ p₀ r e₁ p₁
-  accepted : (d : Division) → length line ≤ 8192 → Derives line d → length (d .elements) ≤ length e₀ → paramCount (d .elements) ≤ length p₀
+  accepted : (d : Division) → length line ≤ lineLimit → Derives line d → length (d .elements) ≤ length e₀ → paramCount (d .elements) ≤ length p₀
       → r ≡ Read (recordOf d) (length (d .elements)) (paramCount (d .elements))
       → e₁ ≡ filled (elementRows (dataAt d) (d .elements)) e₀
       → p₁ ≡ filled (paramRows 0 (dataAt d) (d .elements)) p₀

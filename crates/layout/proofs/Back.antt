@@ -21,7 +21,7 @@ use Rattle.record.specs.declared.Stamp.{Stamp}
 use Rattle.record.specs.declared.Stamp.the-variants.{Unstamped, Stamped}
 use Rattle.record.specs.declared.Place.{Place}
 use Rattle.record.specs.declared.Record.{Record}
-use Rattle.layout.specs.Layout.{little, wordsBytes, bits, mark, protocolWords, levelWords, stampWords, recordWords, recordBytes}
+use Rattle.layout.specs.Layout.{protocolWord, versionWord, facilityWord, severityWord, timestampWord, secondsWord, nanosWord, offsetWord, hostWord, appWord, procidWord, msgidWord, messageWord, elementsWord, paramsWord, wordCount, recordSize, little, wordsBytes, bits, mark, protocolWords, levelWords, stampWords, recordWords, recordBytes}
 use Rattle.layout.specs.Incoming.{number, wordAt, signed, marked, narrow, stamped, frontHeld, marksHeld, holdsRecord, protocolAt, levelAt, stampAt, placeAt, recordAt, elementCountAt, paramCountAt}
 use Rattle.layout.proofs.Words.{length-little, words-length}
 use Rattle.layout.proofs.Fields.{record-length}
@@ -40,7 +40,7 @@ abbrev AllFit : List ℕ → Type 0
 AllFit [] = Unit {0}
 AllFit (w ∷ ws) = (w < 18446744073709551616) × AllFit ws
 
--- word `i` of some words, whatever stands behind them
+-- word `i` of some words, whatever stands after them
 word-back : (ws rest : List ℕ) (i : ℕ) → AllFit ws → i < length ws → wordAt (wordsBytes ws ++ rest) i ≡ getD ws i 0
 unfolding wordAt wordsBytes
 word-back [] rest i a h = absurd (omega arith)
@@ -297,26 +297,26 @@ module _ (r : Record) (e p : ℕ) (h : InTypes r e p) (rest : List ℕ) where
   abbrev whole : List ℕ
   whole = recordBytes r e p ++ rest
 
-  at : (i : ℕ) → i < 26 → wordAt whole i ≡ getD (listed r e p) i 0
+  at : (i : ℕ) → i < wordCount → wordAt whole i ≡ getD (listed r e p) i 0
   at i l = rw same (word-back (listed r e p) rest i all-fit l)
 
-  long : leb 208 (length whole) ≡ true
-  long = le-leb 208 (length whole) (omega (arith, length-append (recordBytes r e p) rest, words-length (recordWords r e p), record-length r e p))
+  long : leb recordSize (length whole) ≡ true
+  long = le-leb recordSize (length whole) (omega (arith, length-append (recordBytes r e p) rest, words-length (recordWords r e p), record-length r e p))
 
   front : frontHeld whole ≡ true
   unfolding frontHeld
   front =
       rw (
-        at 0 (omega arith),
-        at 1 (omega arith),
-        at 2 (omega arith),
-        at 3 (omega arith),
-        at 4 (omega arith),
-        at 5 (omega arith),
-        at 6 (omega arith),
-        at 7 (omega arith),
-        at 8 (omega arith),
-        at 9 (omega arith),
+        at protocolWord (omega arith),
+        at versionWord (omega arith),
+        at facilityWord (omega arith),
+        at (facilityWord + 1) (omega arith),
+        at severityWord (omega arith),
+        at (severityWord + 1) (omega arith),
+        at timestampWord (omega arith),
+        at secondsWord (omega arith),
+        at nanosWord (omega arith),
+        at offsetWord (omega arith),
         of-protocol .held,
         of-facility .held,
         of-severity .held,
@@ -327,10 +327,10 @@ module _ (r : Record) (e p : ℕ) (h : InTypes r e p) (rest : List ℕ) where
   unfolding marksHeld
   marks =
       rw (
-        at 10 (omega arith),
-        at 13 (omega arith),
-        at 16 (omega arith),
-        at 19 (omega arith),
+        at hostWord (omega arith),
+        at appWord (omega arith),
+        at procidWord (omega arith),
+        at msgidWord (omega arith),
         mark-held (r .host .present),
         mark-held (r .app .present),
         mark-held (r .procid .present),
@@ -342,7 +342,7 @@ module _ (r : Record) (e p : ℕ) (h : InTypes r e p) (rest : List ℕ) where
   laid-held = rw (long, front, marks)
 
   pub laid-counts : (elementCountAt (recordBytes r e p ++ rest) ≡ e) × (paramCountAt (recordBytes r e p ++ rest) ≡ p)
-  laid-counts = (at 24 (omega arith), at 25 (omega arith))
+  laid-counts = (at elementsWord (omega arith), at paramsWord (omega arith))
 
   place-back : (i : ℕ) → (q : Place) → wordAt whole i ≡ mark (q .present) → wordAt whole (i + 1) ≡ q .start → wordAt whole (i + 2) ≡ q .len → placeAt whole i ≡ q
   place-back i q a b c = rw (a, b, c, mark-back (q .present))
@@ -351,22 +351,22 @@ module _ (r : Record) (e p : ℕ) (h : InTypes r e p) (rest : List ℕ) where
   unfolding recordAt
   laid-back =
       rw (
-        place-back 10 (r .host) (at 10 (omega arith)) (at 11 (omega arith)) (at 12 (omega arith)),
-        place-back 13 (r .app) (at 13 (omega arith)) (at 14 (omega arith)) (at 15 (omega arith)),
-        place-back 16 (r .procid) (at 16 (omega arith)) (at 17 (omega arith)) (at 18 (omega arith)),
-        place-back 19 (r .msgid) (at 19 (omega arith)) (at 20 (omega arith)) (at 21 (omega arith)),
-        at 0 (omega arith),
-        at 1 (omega arith),
-        at 2 (omega arith),
-        at 3 (omega arith),
-        at 4 (omega arith),
-        at 5 (omega arith),
-        at 6 (omega arith),
-        at 7 (omega arith),
-        at 8 (omega arith),
-        at 9 (omega arith),
-        at 22 (omega arith),
-        at 23 (omega arith),
+        place-back hostWord (r .host) (at hostWord (omega arith)) (at (hostWord + 1) (omega arith)) (at (hostWord + 2) (omega arith)),
+        place-back appWord (r .app) (at appWord (omega arith)) (at (appWord + 1) (omega arith)) (at (appWord + 2) (omega arith)),
+        place-back procidWord (r .procid) (at procidWord (omega arith)) (at (procidWord + 1) (omega arith)) (at (procidWord + 2) (omega arith)),
+        place-back msgidWord (r .msgid) (at msgidWord (omega arith)) (at (msgidWord + 1) (omega arith)) (at (msgidWord + 2) (omega arith)),
+        at protocolWord (omega arith),
+        at versionWord (omega arith),
+        at facilityWord (omega arith),
+        at (facilityWord + 1) (omega arith),
+        at severityWord (omega arith),
+        at (severityWord + 1) (omega arith),
+        at timestampWord (omega arith),
+        at secondsWord (omega arith),
+        at nanosWord (omega arith),
+        at offsetWord (omega arith),
+        at messageWord (omega arith),
+        at (messageWord + 1) (omega arith),
         of-protocol .back,
         of-facility .back,
         of-severity .back,

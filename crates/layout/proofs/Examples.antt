@@ -1,5 +1,5 @@
 -- Worked examples, computed from the definitions: the layout of docs/INTERFACE.md, and bytes that hold no record.
-use Prim.Native.Nat.{ℕ}
+use Prim.Native.Nat.{ℕ, _*_}
 use mathlib.Core.Path.{_≡_, refl}
 use mathlib.Core.Bool.{Bool, true, false}
 use mathlib.Core.List.{List, [], _∷_, _++_, map}
@@ -11,7 +11,7 @@ use Rattle.record.specs.declared.Record.{Record}
 use Rattle.record.specs.declared.Protocol.the-variants.{Rfc5424}
 use Rattle.record.specs.declared.Level.the-variants.{Set}
 use Rattle.record.specs.declared.Stamp.the-variants.{Stamped}
-use Rattle.layout.specs.Layout.{little, wordsBytes, bits, recordWords, strictWords, recordBytes, strictBytes}
+use Rattle.layout.specs.Layout.{secondsWord, messageWord, elementsWord, paramsWord, recordSize, strictSize, little, wordsBytes, bits, recordWords, strictWords, recordBytes, strictBytes}
 use Rattle.layout.specs.Incoming.{number, wordAt, signed, frontHeld, marksHeld, holdsRecord, recordAt}
 
 -- the least byte first; -2 is all ones but for the last bit
@@ -50,8 +50,14 @@ lengths : map length (recordBytes sample 3 7 ∷ strictBytes emptyStrict 0 0 ∷
 unfolding little wordsBytes recordWords strictWords
 lengths = refl
 
--- bytes 56 to 63 hold the seconds, 192 and 200 the counts
-seconds : map (wordAt (recordBytes sample 3 7)) (7 ∷ 24 ∷ 25 ∷ []) ≡ 18446744073709551615 ∷ 3 ∷ 7 ∷ []
+-- the sizes, and where the seconds, the message and the counts stand
+sizes : recordSize ∷ strictSize ∷ [] ≡ 208 ∷ 240 ∷ []
+sizes = refl
+
+positions : map (λ i. i * 8) (secondsWord ∷ messageWord ∷ elementsWord ∷ paramsWord ∷ []) ≡ 56 ∷ 176 ∷ 192 ∷ 200 ∷ []
+positions = refl
+
+seconds : map (wordAt (recordBytes sample 3 7)) (secondsWord ∷ elementsWord ∷ paramsWord ∷ []) ≡ 18446744073709551615 ∷ 3 ∷ 7 ∷ []
 unfolding little wordsBytes recordWords number wordAt
 seconds = refl
 
@@ -60,7 +66,7 @@ ends : map signed (9223372036854775807 ∷ 9223372036854775808 ∷ 1844674407370
     ≡ pos 9223372036854775807 ∷ negsuc 9223372036854775807 ∷ negsuc 0 ∷ []
 ends = refl
 
--- the record comes back, bytes behind it or not
+-- the record comes back, bytes after it or not
 back : (recordAt (recordBytes sample 3 7 ++ (9 ∷ [])) ≡ sample) × (recordAt (recordBytes emptyRecord 0 0) ≡ emptyRecord)
 unfolding little wordsBytes recordWords number wordAt recordAt
 back = (refl, refl)

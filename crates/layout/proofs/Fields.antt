@@ -21,7 +21,7 @@ use Rattle.record.specs.declared.Timestamp.{Timestamp}
 use Rattle.record.specs.declared.Place.{Place}
 use Rattle.record.specs.declared.Record.{Record}
 use Rattle.record.specs.declared.StrictRecord.{StrictRecord}
-use Rattle.layout.specs.Layout.{bits, mark, protocolWords, levelWords, stampWords, placeWords, frontWords, nameWords, endWords, recordWords, recordBytes, strictWords, strictBytes, Room, Puts}
+use Rattle.layout.specs.Layout.{wordCount, strictWordCount, recordSize, strictSize, bits, mark, protocolWords, levelWords, stampWords, placeWords, frontWords, nameWords, endWords, recordWords, recordBytes, strictWords, strictBytes, Room, Puts}
 use Rattle.layout.proofs.Words.{words-length, words-first, words-next, words-last, words-three}
 
 -- ---- each field
@@ -72,19 +72,19 @@ stamp-length : (s : Stamp) → length (stampWords s) ≡ 4
 stamp-length Unstamped = refl
 stamp-length (Stamped t) = refl
 
-pub record-length : (r : Record) (e p : ℕ) → length (recordWords r e p) ≡ 26
+pub record-length : (r : Record) (e p : ℕ) → length (recordWords r e p) ≡ wordCount
 unfolding recordWords
 record-length r e p =
     simp length-append (omega (arith, protocol-length (r .protocol), level-length (r .facility), level-length (r .severity), stamp-length (r .timestamp)))
 
-pub strict-length : (r : StrictRecord) (e p : ℕ) → length (strictWords r e p) ≡ 30
+pub strict-length : (r : StrictRecord) (e p : ℕ) → length (strictWords r e p) ≡ strictWordCount
 unfolding strictWords
 strict-length r e p = simp length-append (omega (arith, record-length (r .common) e p))
 
-record-room : (o : List ℕ) (r : Record) (e p : ℕ) → 208 ≤ length o → Room o 0 (recordWords r e p)
+record-room : (o : List ℕ) (r : Record) (e p : ℕ) → recordSize ≤ length o → Room o 0 (recordWords r e p)
 record-room o r e p h = record { fits = record { fits = omega (arith, words-length (recordWords r e p), record-length r e p) } }
 
-module _ (o : List ℕ) (r : Record) (e p : ℕ) (h : 208 ≤ length o) where
+module _ (o : List ℕ) (r : Record) (e p : ℕ) (h : recordSize ≤ length o) where
   pub front-room : Room o 0 (frontWords r)
   unfolding recordWords
   front-room = words-first (record-room o r e p h) (starts-more (frontWords r) (frontWords r ++ nameWords r) (endWords r e p) (starts-front (frontWords r) (nameWords r)))
@@ -108,10 +108,10 @@ pub ruleset record-laws = (front-room, names-room, end-room, fields-put)
 pub record-filled : (o : List ℕ) (r : Record) (e p n : ℕ) (q : List ℕ) → Puts o 0 (recordWords r e p) n q → q ≡ filled (recordBytes r e p) o
 record-filled o r e p n q w = w .wrote .holds ∙ written-front o (recordBytes r e p)
 
-pub has-room : (o : List ℕ) → 240 ≤ length o → 208 ≤ length o
+pub has-room : (o : List ℕ) → strictSize ≤ length o → recordSize ≤ length o
 has-room o h = omega (arith, h)
 
-module _ (o : List ℕ) (r : StrictRecord) (e p : ℕ) (h : 240 ≤ length o) where
+module _ (o : List ℕ) (r : StrictRecord) (e p : ℕ) (h : strictSize ≤ length o) where
   strict-room : Room o 0 (strictWords r e p)
   strict-room = record { fits = record { fits = omega (arith, words-length (strictWords r e p), strict-length r e p) } }
 

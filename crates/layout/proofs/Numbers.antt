@@ -17,6 +17,7 @@ use borrow.Author.Tests.{lt-leb, le-leb, leb-true, ltb-true, ne-eqb}
 use Rattle.base.specs.Texts.{textAt}
 use Rattle.base.proofs.Parts.{step}
 use Rattle.base.proofs.Tests.{both}
+use Rattle.layout.specs.Layout.{protocolWord, versionWord, facilityWord, severityWord, timestampWord, secondsWord, nanosWord, offsetWord, wordCount, recordSize}
 use Rattle.layout.specs.Incoming.{number, wordAt, marked, signed, narrow, stamped, frontHeld, marksHeld, holdsRecord, protocolAt, levelAt, stampAt, Holds}
 use Rattle.record.specs.declared.Protocol.the-variants.{Rfc3164, Rfc5424}
 use Rattle.record.specs.declared.Level.the-variants.{Unset, Set}
@@ -52,7 +53,7 @@ module _ (s : List ℕ) (at k m : ℕ) (em : 256 ^ k ≡ m) (h : at + (k + k) �
       let lb : suc b * m ≤ m * m = mul-le-mul-right m (rw em at (hb .below)) in
       record { is = sym n; below = rw (pow-add 256 k k, em) (omega arith) }
 
-pub word-held : (s : List ℕ) (i a b : ℕ) → 208 ≤ length s → i < 26 → Holds s (i * 8) 4 a → Holds s (i * 8 + 4) 4 b → a + b * 4294967296 ≡ wordAt s i
+pub word-held : (s : List ℕ) (i a b : ℕ) → recordSize ≤ length s → i < wordCount → Holds s (i * 8) 4 a → Holds s (i * 8 + 4) 4 b → a + b * 4294967296 ≡ wordAt s i
 unfolding wordAt
 word-held s i a b l h ha hb = halves s (i * 8) 4 4294967296 refl (omega arith) a b ha hb .is
 
@@ -119,29 +120,29 @@ module _ (m s n o : ℕ) (x : ℕ) (em : x ≡ m) where
 
 -- bytes that hold a record
 pub record Held (s : List ℕ) : Type 0 where
-  pub long : 208 ≤ length s
-  pub protocol : marked 4294967296 (wordAt s 0) (wordAt s 1) ≡ true
-  pub facility : marked 256 (wordAt s 2) (wordAt s 3) ≡ true
-  pub severity : marked 256 (wordAt s 4) (wordAt s 5) ≡ true
-  pub timestamp : stamped (wordAt s 6) (wordAt s 7) (wordAt s 8) (wordAt s 9) ≡ true
+  pub long : recordSize ≤ length s
+  pub protocol : marked 4294967296 (wordAt s protocolWord) (wordAt s versionWord) ≡ true
+  pub facility : marked 256 (wordAt s facilityWord) (wordAt s (facilityWord + 1)) ≡ true
+  pub severity : marked 256 (wordAt s severityWord) (wordAt s (severityWord + 1)) ≡ true
+  pub timestamp : stamped (wordAt s timestampWord) (wordAt s secondsWord) (wordAt s nanosWord) (wordAt s offsetWord) ≡ true
 
 pub held : (s : List ℕ) → holdsRecord s ≡ true → Held s
 unfolding holdsRecord frontHeld
 held s h =
     let places = both _ (marksHeld s) h in
-    let front = both (leb 208 (length s)) _ (places .0) in
-    let stamp = both _ (stamped (wordAt s 6) (wordAt s 7) (wordAt s 8) (wordAt s 9)) (front .1) in
-    let severity = both _ (marked 256 (wordAt s 4) (wordAt s 5)) (stamp .0) in
-    let levels = both (marked 4294967296 (wordAt s 0) (wordAt s 1)) (marked 256 (wordAt s 2) (wordAt s 3)) (severity .0) in
-    record { long = leb-true 208 (length s) (front .0); protocol = levels .0; facility = levels .1; severity = severity .1; timestamp = stamp .1 }
+    let front = both (leb recordSize (length s)) _ (places .0) in
+    let stamp = both _ (stamped (wordAt s timestampWord) (wordAt s secondsWord) (wordAt s nanosWord) (wordAt s offsetWord)) (front .1) in
+    let severity = both _ (marked 256 (wordAt s severityWord) (wordAt s (severityWord + 1))) (stamp .0) in
+    let levels = both (marked 4294967296 (wordAt s protocolWord) (wordAt s versionWord)) (marked 256 (wordAt s facilityWord) (wordAt s (facilityWord + 1))) (severity .0) in
+    record { long = leb-true recordSize (length s) (front .0); protocol = levels .0; facility = levels .1; severity = severity .1; timestamp = stamp .1 }
 
 module _ (s : List ℕ) where
-  pub held-short : length s < 208 → false ≡ holdsRecord s
+  pub held-short : length s < recordSize → false ≡ holdsRecord s
   unfolding holdsRecord
-  held-short h = rw (lt-leb 208 (length s) h)
+  held-short h = rw (lt-leb recordSize (length s) h)
 
-  pub held-long : 208 ≤ length s → (a b : Bool) → a ≡ frontHeld s → b ≡ marksHeld s → (a && b) ≡ holdsRecord s
+  pub held-long : recordSize ≤ length s → (a b : Bool) → a ≡ frontHeld s → b ≡ marksHeld s → (a && b) ≡ holdsRecord s
   unfolding holdsRecord
-  held-long h a b ea eb = rw (le-leb 208 (length s) h, ea, eb)
+  held-long h a b ea eb = rw (le-leb recordSize (length s) h, ea, eb)
 
 pub ruleset held-laws = (held-short, held-long)

@@ -1,4 +1,4 @@
--- Words written one behind the other, and a word by its eight bytes.
+-- Words written one after the other, and a word by its eight bytes.
 use Prim.Native.Nat.{ℕ, zero, suc, _+_, _*_, _/_, _%_, _≤_, _<_}
 use mathlib.Core.Path.{_≡_, refl, sym, ap, _∙_}
 use mathlib.Core.List.{List, [], _∷_, _++_, append-assoc}

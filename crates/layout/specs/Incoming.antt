@@ -8,6 +8,7 @@ use lib.IntN.{ℤ, pos, negsuc}
 use lib.ListN.{length}
 use Rattle.base.specs.Choose.{if_then_else_}
 use Rattle.base.specs.Texts.{textAt}
+use Rattle.layout.specs.Layout.{protocolWord, versionWord, facilityWord, severityWord, timestampWord, secondsWord, nanosWord, offsetWord, hostWord, appWord, procidWord, msgidWord, messageWord, elementsWord, paramsWord, recordSize}
 use Rattle.record.specs.declared.Protocol.{Protocol}
 use Rattle.record.specs.declared.Protocol.the-variants.{Rfc3164, Rfc5424}
 use Rattle.record.specs.declared.Level.{Level}
@@ -46,17 +47,18 @@ stamped m s n o = (eqb m 0 && eqb s 0 && eqb n 0 && eqb o 0) || (eqb m 1 && ltb 
 -- the words of the protocol, the levels and the timestamp
 unfoldable pub frontHeld : List ℕ → Bool
 frontHeld bytes =
-    marked 4294967296 (wordAt bytes 0) (wordAt bytes 1)
-    && marked 256 (wordAt bytes 2) (wordAt bytes 3)
-    && marked 256 (wordAt bytes 4) (wordAt bytes 5)
-    && stamped (wordAt bytes 6) (wordAt bytes 7) (wordAt bytes 8) (wordAt bytes 9)
+    marked 4294967296 (wordAt bytes protocolWord) (wordAt bytes versionWord)
+    && marked 256 (wordAt bytes facilityWord) (wordAt bytes (facilityWord + 1))
+    && marked 256 (wordAt bytes severityWord) (wordAt bytes (severityWord + 1))
+    && stamped (wordAt bytes timestampWord) (wordAt bytes secondsWord) (wordAt bytes nanosWord) (wordAt bytes offsetWord)
 
 -- the marks of the places
 unfoldable pub marksHeld : List ℕ → Bool
-marksHeld bytes = ltb (wordAt bytes 10) 2 && ltb (wordAt bytes 13) 2 && ltb (wordAt bytes 16) 2 && ltb (wordAt bytes 19) 2
+marksHeld bytes =
+    ltb (wordAt bytes hostWord) 2 && ltb (wordAt bytes appWord) 2 && ltb (wordAt bytes procidWord) 2 && ltb (wordAt bytes msgidWord) 2
 
 unfoldable pub holdsRecord : List ℕ → Bool
-holdsRecord bytes = leb 208 (length bytes) && frontHeld bytes && marksHeld bytes
+holdsRecord bytes = leb recordSize (length bytes) && frontHeld bytes && marksHeld bytes
 
 abbrev pub protocolAt : ℕ → ℕ → Protocol
 protocolAt m version = if eqb m 0 then Rfc3164 else Rfc5424 version
@@ -78,22 +80,22 @@ spanAt bytes i = record { start = wordAt bytes i; len = wordAt bytes (i + 1) }
 unfoldable pub recordAt : List ℕ → Record
 recordAt bytes =
     record {
-      protocol = protocolAt (wordAt bytes 0) (wordAt bytes 1);
-      facility = levelAt (wordAt bytes 2) (wordAt bytes 3);
-      severity = levelAt (wordAt bytes 4) (wordAt bytes 5);
-      timestamp = stampAt (wordAt bytes 6) (wordAt bytes 7) (wordAt bytes 8) (wordAt bytes 9);
-      host = placeAt bytes 10;
-      app = placeAt bytes 13;
-      procid = placeAt bytes 16;
-      msgid = placeAt bytes 19;
-      message = spanAt bytes 22;
+      protocol = protocolAt (wordAt bytes protocolWord) (wordAt bytes versionWord);
+      facility = levelAt (wordAt bytes facilityWord) (wordAt bytes (facilityWord + 1));
+      severity = levelAt (wordAt bytes severityWord) (wordAt bytes (severityWord + 1));
+      timestamp = stampAt (wordAt bytes timestampWord) (wordAt bytes secondsWord) (wordAt bytes nanosWord) (wordAt bytes offsetWord);
+      host = placeAt bytes hostWord;
+      app = placeAt bytes appWord;
+      procid = placeAt bytes procidWord;
+      msgid = placeAt bytes msgidWord;
+      message = spanAt bytes messageWord;
     }
 
 abbrev pub elementCountAt : List ℕ → ℕ
-elementCountAt bytes = wordAt bytes 24
+elementCountAt bytes = wordAt bytes elementsWord
 
 abbrev pub paramCountAt : List ℕ → ℕ
-paramCountAt bytes = wordAt bytes 25
+paramCountAt bytes = wordAt bytes paramsWord
 
 -- `n` is the number of the `k` bytes from `at` on (for private contracts alone)
 pub record Holds (bytes : List ℕ) (at k n : ℕ) : Type 0 where

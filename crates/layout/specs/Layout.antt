@@ -1,5 +1,5 @@
 -- The record, byte by byte, as docs/INTERFACE.md lays it out: words of 8 bytes, little-endian.
-use Prim.Native.Nat.{ℕ, zero, suc, _-_, _/_, _%_}
+use Prim.Native.Nat.{ℕ, zero, suc, _+_, _-_, _*_, _/_, _%_}
 use mathlib.Core.Bool.{Bool, true, false}
 use mathlib.Core.List.{List, [], _∷_, _++_}
 use lib.IntN.{ℤ, pos, negsuc}
@@ -16,12 +16,73 @@ use Rattle.record.specs.declared.Span.{Span}
 use Rattle.record.specs.declared.Record.{Record}
 use Rattle.record.specs.declared.StrictRecord.{StrictRecord}
 
+-- the number of each field's first word: a field ends where the next one starts
+abbrev pub protocolWord : ℕ
+protocolWord = 0
+
+abbrev pub versionWord : ℕ
+versionWord = protocolWord + 1
+
+abbrev pub facilityWord : ℕ
+facilityWord = versionWord + 1
+
+abbrev pub severityWord : ℕ
+severityWord = facilityWord + 2
+
+abbrev pub timestampWord : ℕ
+timestampWord = severityWord + 2
+
+abbrev pub secondsWord : ℕ
+secondsWord = timestampWord + 1
+
+abbrev pub nanosWord : ℕ
+nanosWord = secondsWord + 1
+
+abbrev pub offsetWord : ℕ
+offsetWord = nanosWord + 1
+
+abbrev pub hostWord : ℕ
+hostWord = offsetWord + 1
+
+abbrev pub appWord : ℕ
+appWord = hostWord + 3
+
+abbrev pub procidWord : ℕ
+procidWord = appWord + 3
+
+abbrev pub msgidWord : ℕ
+msgidWord = procidWord + 3
+
+abbrev pub messageWord : ℕ
+messageWord = msgidWord + 3
+
+-- the counts of elements and of parameters
+abbrev pub elementsWord : ℕ
+elementsWord = messageWord + 2
+
+abbrev pub paramsWord : ℕ
+paramsWord = elementsWord + 1
+
+-- how many words a record has; the strict reader adds the timestamp's text and the mark of a message
+abbrev pub wordCount : ℕ
+wordCount = paramsWord + 1
+
+abbrev pub strictWordCount : ℕ
+strictWordCount = wordCount + 4
+
+-- how many bytes
+abbrev pub recordSize : ℕ
+recordSize = wordCount * 8
+
+abbrev pub strictSize : ℕ
+strictSize = strictWordCount * 8
+
 -- the last `k` bytes of `n`, the least first
 unfoldable pub little : ℕ → ℕ → List ℕ
 little zero n = []
 little (suc k) n = (n % 256) ∷ little k (n / 256)
 
--- words, one behind the other
+-- words, one after the other
 unfoldable pub wordsBytes : List ℕ → List ℕ
 wordsBytes [] = []
 wordsBytes (w ∷ ws) = little 8 w ++ wordsBytes ws
@@ -53,15 +114,15 @@ placeWords p = mark (p .present) ∷ p .start ∷ p .len ∷ []
 abbrev pub spanWords : Span → List ℕ
 spanWords s = s .start ∷ s .len ∷ []
 
--- bytes 0 to 79
+-- the words before `hostWord`
 abbrev pub frontWords : Record → List ℕ
 frontWords r = protocolWords (r .protocol) ++ levelWords (r .facility) ++ levelWords (r .severity) ++ stampWords (r .timestamp)
 
--- bytes 80 to 175
+-- those before `messageWord`
 abbrev pub nameWords : Record → List ℕ
 nameWords r = placeWords (r .host) ++ placeWords (r .app) ++ placeWords (r .procid) ++ placeWords (r .msgid)
 
--- bytes 176 to 207: the message and the counts of elements and parameters
+-- the rest: the message and the counts of elements and parameters
 abbrev pub endWords : Record → ℕ → ℕ → List ℕ
 endWords r e p = spanWords (r .message) ++ (e ∷ p ∷ [])
 

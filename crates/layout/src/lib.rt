@@ -13,10 +13,52 @@ ghost use mathlib.Core.List.{[], _∷_, _++_};
 ghost use Prim.Native.Nat.{_+_, _*_, _≤_, _<_};
 ghost use lib.ListN.{length};
 ghost use Rattle.base.specs.Fills.{filled};
-ghost use Rattle.layout.specs.Layout.{bits, mark, protocolWords, levelWords, stampWords, placeWords, frontWords, nameWords, endWords, recordWords, recordBytes, strictBytes, Room, Puts};
+ghost use Rattle.layout.specs.Layout.{protocolWord, versionWord, facilityWord, severityWord, timestampWord, secondsWord, nanosWord, offsetWord, messageWord, wordCount, recordSize, strictSize, bits, mark, protocolWords, levelWords, stampWords, placeWords, frontWords, nameWords, endWords, recordWords, recordBytes, strictBytes, Room, Puts};
 ghost use Rattle.layout.specs.Incoming.{wordAt, signed, marked, narrow, stamped, frontHeld, marksHeld, holdsRecord, protocolAt, levelAt, stampAt, placeAt, spanAt, recordAt, elementCountAt, paramCountAt, Holds};
 
-// ---- into memory that was lent. Each answers the position behind what it wrote.
+// The number of each field's first word: a field ends where the next one starts.
+pub const PROTOCOL_WORD: usize = 0;
+
+pub const VERSION_WORD: usize = PROTOCOL_WORD + 1;
+
+pub const FACILITY_WORD: usize = VERSION_WORD + 1;
+
+pub const SEVERITY_WORD: usize = FACILITY_WORD + 2;
+
+pub const TIMESTAMP_WORD: usize = SEVERITY_WORD + 2;
+
+pub const SECONDS_WORD: usize = TIMESTAMP_WORD + 1;
+
+pub const NANOS_WORD: usize = SECONDS_WORD + 1;
+
+pub const OFFSET_WORD: usize = NANOS_WORD + 1;
+
+pub const HOST_WORD: usize = OFFSET_WORD + 1;
+
+pub const APP_WORD: usize = HOST_WORD + 3;
+
+pub const PROCID_WORD: usize = APP_WORD + 3;
+
+pub const MSGID_WORD: usize = PROCID_WORD + 3;
+
+pub const MESSAGE_WORD: usize = MSGID_WORD + 3;
+
+// The counts of elements and of parameters.
+pub const ELEMENTS_WORD: usize = MESSAGE_WORD + 2;
+
+pub const PARAMS_WORD: usize = ELEMENTS_WORD + 1;
+
+// How many words a record has; the strict reader adds the timestamp's text and the mark of a message.
+pub const WORD_COUNT: usize = PARAMS_WORD + 1;
+
+pub const STRICT_WORD_COUNT: usize = WORD_COUNT + 4;
+
+// How many bytes.
+pub const RECORD_SIZE: usize = WORD_COUNT * 8;
+
+pub const STRICT_SIZE: usize = STRICT_WORD_COUNT * 8;
+
+// ---- into memory that was lent. Each answers the position after what it wrote.
 
 // Eight stores, which the compiler makes one.
 fn put_word(out: &mut [u8], at: usize, n: u64) -> usize
@@ -183,7 +225,7 @@ fn put_end(out: &mut [u8], at: usize, r: Record, e: usize, p: usize) -> usize
 }
 
 fn put_fields(out: &mut [u8], r: Record, e: usize, p: usize) -> usize
-    requires { ⌜ 208 ≤ length (now out) ⌝ }
+    requires { ⌜ recordSize ≤ length (now out) ⌝ }
     ensures { λ n. ⌜ Puts (now (out .entry)) 0 (recordWords r e p) n (now (out .exit)) ⌝ }
 {
     let a = put_front(out, 0, r);
@@ -193,7 +235,7 @@ fn put_fields(out: &mut [u8], r: Record, e: usize, p: usize) -> usize
 
 // The record of a loose reader, at the front of the memory.
 pub fn put_record(out: &mut [u8], r: Record, e: usize, p: usize)
-    requires { ⌜ 208 ≤ length (now out) ⌝ }
+    requires { ⌜ recordSize ≤ length (now out) ⌝ }
     ensures { λ _. ⌜ now (out .exit) ≡ filled (recordBytes r e p) (now (out .entry)) ⌝ }
 {
     put_fields(out, r, e, p);
@@ -202,7 +244,7 @@ pub fn put_record(out: &mut [u8], r: Record, e: usize, p: usize)
 // The record of the strict reader, at the front of the memory. The common fields are put here too and not by put_fields, so that no record is
 // copied for a call.
 pub fn put_strict(out: &mut [u8], r: StrictRecord, e: usize, p: usize)
-    requires { ⌜ 240 ≤ length (now out) ⌝ }
+    requires { ⌜ strictSize ≤ length (now out) ⌝ }
     ensures { λ _. ⌜ now (out .exit) ≡ filled (strictBytes r e p) (now (out .entry)) ⌝ }
 {
     let common = r.common;
@@ -243,9 +285,10 @@ fn half_at(s: &[u8], at: usize) -> u64
     pair_at(s, at) + pair_at(s, at + 2) * 65536
 }
 
+// Word `i` of the 26, from its eight bytes.
 pub fn word_at(s: &[u8], i: usize) -> u64
-    requires { ⌜ 208 ≤ length (now s) ⌝ }
-    requires { ⌜ i < 26 ⌝ }
+    requires { ⌜ recordSize ≤ length (now s) ⌝ }
+    requires { ⌜ i < wordCount ⌝ }
     ensures { λ r. ⌜ r ≡ wordAt (now (s .entry)) i ⌝ }
 {
     let at = i * 8;
@@ -266,27 +309,47 @@ fn is_stamped(m: u64, s: u64, n: u64, o: u64) -> bool
 }
 
 fn front_held(s: &[u8]) -> bool
-    requires { ⌜ 208 ≤ length (now s) ⌝ }
+    requires { ⌜ recordSize ≤ length (now s) ⌝ }
     ensures { λ r. ⌜ r ≡ frontHeld (now (s .entry)) ⌝ }
 {
-    is_marked(4294967296, word_at(s, 0), word_at(s, 1))
-        & is_marked(256, word_at(s, 2), word_at(s, 3))
-        & is_marked(256, word_at(s, 4), word_at(s, 5))
-        & is_stamped(word_at(s, 6), word_at(s, 7), word_at(s, 8), word_at(s, 9))
+    is_marked(
+        4294967296,
+        word_at(s, PROTOCOL_WORD),
+        word_at(s, VERSION_WORD),
+    )
+        & is_marked(
+            256,
+            word_at(s, FACILITY_WORD),
+            word_at(s, FACILITY_WORD + 1),
+        )
+        & is_marked(
+            256,
+            word_at(s, SEVERITY_WORD),
+            word_at(s, SEVERITY_WORD + 1),
+        )
+        & is_stamped(
+            word_at(s, TIMESTAMP_WORD),
+            word_at(s, SECONDS_WORD),
+            word_at(s, NANOS_WORD),
+            word_at(s, OFFSET_WORD),
+        )
 }
 
 fn marks_held(s: &[u8]) -> bool
-    requires { ⌜ 208 ≤ length (now s) ⌝ }
+    requires { ⌜ recordSize ≤ length (now s) ⌝ }
     ensures { λ r. ⌜ r ≡ marksHeld (now (s .entry)) ⌝ }
 {
-    (word_at(s, 10) < 2) & (word_at(s, 13) < 2) & (word_at(s, 16) < 2) & (word_at(s, 19) < 2)
+    (word_at(s, HOST_WORD) < 2)
+        & (word_at(s, APP_WORD) < 2)
+        & (word_at(s, PROCID_WORD) < 2)
+        & (word_at(s, MSGID_WORD) < 2)
 }
 
 // Do the bytes hold a record?
 pub fn holds_record(s: &[u8]) -> bool
     ensures { λ r. ⌜ r ≡ holdsRecord (now (s .entry)) ⌝ }
 {
-    if s.len() < 208 {
+    if s.len() < RECORD_SIZE {
         return false;
     }
     front_held(s) & marks_held(s)
@@ -302,20 +365,20 @@ fn from_bits(n: u64) -> i64
 }
 
 fn protocol_at(s: &[u8]) -> Protocol
-    requires { ⌜ 208 ≤ length (now s) ⌝ }
-    requires { ⌜ marked 4294967296 (wordAt (now s) 0) (wordAt (now s) 1) ≡ true ⌝ }
-    ensures { λ r. ⌜ r ≡ protocolAt (wordAt (now (s .entry)) 0) (wordAt (now (s .entry)) 1) ⌝ }
+    requires { ⌜ recordSize ≤ length (now s) ⌝ }
+    requires { ⌜ marked 4294967296 (wordAt (now s) protocolWord) (wordAt (now s) versionWord) ≡ true ⌝ }
+    ensures { λ r. ⌜ r ≡ protocolAt (wordAt (now (s .entry)) protocolWord) (wordAt (now (s .entry)) versionWord) ⌝ }
 {
-    if word_at(s, 0) == 0 {
+    if word_at(s, PROTOCOL_WORD) == 0 {
         return Protocol::Rfc3164;
     }
-    Protocol::Rfc5424(word_at(s, 1) as u32)
+    Protocol::Rfc5424(word_at(s, VERSION_WORD) as u32)
 }
 
 // The level whose mark is word `i`.
 fn level_at(s: &[u8], i: usize) -> Level
-    requires { ⌜ 208 ≤ length (now s) ⌝ }
-    requires { ⌜ i + 1 < 26 ⌝ }
+    requires { ⌜ recordSize ≤ length (now s) ⌝ }
+    requires { ⌜ i + 1 < wordCount ⌝ }
     requires { ⌜ marked 256 (wordAt (now s) i) (wordAt (now s) (i + 1)) ≡ true ⌝ }
     ensures { λ r. ⌜ r ≡ levelAt (wordAt (now (s .entry)) i) (wordAt (now (s .entry)) (i + 1)) ⌝ }
 {
@@ -325,6 +388,7 @@ fn level_at(s: &[u8], i: usize) -> Level
     Level::Set(word_at(s, i + 1) as u8)
 }
 
+// An offset from its word, two's complement.
 pub fn offset_of(n: u64) -> i32
     requires { ⌜ narrow n ≡ true ⌝ }
     ensures { λ r. ⌜ r ≡ signed n ⌝ }
@@ -345,20 +409,24 @@ fn time_of(s: u64, n: u64, o: u64) -> Stamp
 }
 
 fn stamp_at(s: &[u8]) -> Stamp
-    requires { ⌜ 208 ≤ length (now s) ⌝ }
-    requires { ⌜ stamped (wordAt (now s) 6) (wordAt (now s) 7) (wordAt (now s) 8) (wordAt (now s) 9) ≡ true ⌝ }
-    ensures { λ r. ⌜ r ≡ stampAt (wordAt (now (s .entry)) 6) (wordAt (now (s .entry)) 7) (wordAt (now (s .entry)) 8) (wordAt (now (s .entry)) 9) ⌝ }
+    requires { ⌜ recordSize ≤ length (now s) ⌝ }
+    requires { ⌜ stamped (wordAt (now s) timestampWord) (wordAt (now s) secondsWord) (wordAt (now s) nanosWord) (wordAt (now s) offsetWord) ≡ true ⌝ }
+    ensures { λ r. ⌜ r ≡ stampAt (wordAt (now (s .entry)) timestampWord) (wordAt (now (s .entry)) secondsWord) (wordAt (now (s .entry)) nanosWord) (wordAt (now (s .entry)) offsetWord) ⌝ }
 {
-    if word_at(s, 6) == 0 {
+    if word_at(s, TIMESTAMP_WORD) == 0 {
         return Stamp::Unstamped;
     }
-    time_of(word_at(s, 7), word_at(s, 8), word_at(s, 9))
+    time_of(
+        word_at(s, SECONDS_WORD),
+        word_at(s, NANOS_WORD),
+        word_at(s, OFFSET_WORD),
+    )
 }
 
 // The place whose mark is word `i`.
 fn place_at(s: &[u8], i: usize) -> Place
-    requires { ⌜ 208 ≤ length (now s) ⌝ }
-    requires { ⌜ i + 2 < 26 ⌝ }
+    requires { ⌜ recordSize ≤ length (now s) ⌝ }
+    requires { ⌜ i + 2 < wordCount ⌝ }
     ensures { λ r. ⌜ r ≡ placeAt (now (s .entry)) i ⌝ }
 {
     Place {
@@ -369,12 +437,12 @@ fn place_at(s: &[u8], i: usize) -> Place
 }
 
 fn message_at(s: &[u8]) -> Span
-    requires { ⌜ 208 ≤ length (now s) ⌝ }
-    ensures { λ r. ⌜ r ≡ spanAt (now (s .entry)) 22 ⌝ }
+    requires { ⌜ recordSize ≤ length (now s) ⌝ }
+    ensures { λ r. ⌜ r ≡ spanAt (now (s .entry)) messageWord ⌝ }
 {
     Span {
-        start: word_at(s, 22) as usize,
-        len: word_at(s, 23) as usize,
+        start: word_at(s, MESSAGE_WORD) as usize,
+        len: word_at(s, MESSAGE_WORD + 1) as usize,
     }
 }
 
@@ -384,13 +452,13 @@ pub fn record_at(s: &[u8]) -> Record
     ensures { λ r. ⌜ r ≡ recordAt (now (s .entry)) ⌝ }
 {
     let protocol = protocol_at(s);
-    let facility = level_at(s, 2);
-    let severity = level_at(s, 4);
+    let facility = level_at(s, FACILITY_WORD);
+    let severity = level_at(s, SEVERITY_WORD);
     let timestamp = stamp_at(s);
-    let host = place_at(s, 10);
-    let app = place_at(s, 13);
-    let procid = place_at(s, 16);
-    let msgid = place_at(s, 19);
+    let host = place_at(s, HOST_WORD);
+    let app = place_at(s, APP_WORD);
+    let procid = place_at(s, PROCID_WORD);
+    let msgid = place_at(s, MSGID_WORD);
     let message = message_at(s);
     Record {
         protocol,
@@ -405,16 +473,18 @@ pub fn record_at(s: &[u8]) -> Record
     }
 }
 
+// The count of elements, the last word but one.
 pub fn element_count(s: &[u8]) -> usize
     requires { ⌜ holdsRecord (now s) ≡ true ⌝ }
     ensures { λ r. ⌜ r ≡ elementCountAt (now (s .entry)) ⌝ }
 {
-    word_at(s, 24) as usize
+    word_at(s, ELEMENTS_WORD) as usize
 }
 
+// The count of parameters, the last word.
 pub fn param_count(s: &[u8]) -> usize
     requires { ⌜ holdsRecord (now s) ≡ true ⌝ }
     ensures { λ r. ⌜ r ≡ paramCountAt (now (s .entry)) ⌝ }
 {
-    word_at(s, 25) as usize
+    word_at(s, PARAMS_WORD) as usize
 }

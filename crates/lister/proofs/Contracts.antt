@@ -5,7 +5,7 @@ use base.Logic.{id⊢}
 use borrow.Fn.Kinds.{rUnit}
 use borrow.Fn.Read.{all-models, reads}
 use borrow.Kind.MutSlice.{pMutS}
-use Rattle.rules.specs.Derive.{Struct, Contract, plainly, bytes, pair}
+use Rattle.derivation.specs.Derive.{Struct, Contract, plainly, bytes, pair}
 use Rattle.lister.proofs.State as St
 use Rattle.lister.proofs.State.Laws as St′
 use Rattle.lister.proofs.run as r

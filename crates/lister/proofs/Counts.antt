@@ -1,4 +1,4 @@
--- A number put behind a text: it fits, and how far it goes.
+-- A number put after a text: it fits, and how far it goes.
 use Prim.Native.Nat.{ℕ, _+_, _≤_}
 use mathlib.Core.Path.{_≡_, _∙_}
 use mathlib.Core.List.{List, [], _∷_}

@@ -19,7 +19,7 @@ struct State {
     left: u64,
 }
 
-// A number, and the byte behind it.
+// A number, and the byte after it.
 fn put_count(out: &mut [u8], at: usize, n: u32, end: u8) -> usize
     requires { ⌜ at + 11 ≤ length (now out) ⌝ }
     ensures { λ r. ⌜ r ≤ at + 11 ⌝ }

@@ -9,6 +9,7 @@ use borrow.Author.Tests.{lt-ltb, le-ltb, ltb-true, ltb-false, not-true, not-fals
 use Rattle.base.specs.Choose.{if_then_else_}
 use Rattle.base.specs.Fills.{filled}
 use Rattle.base.proofs.Tests.{clash}
+use Rattle.record.specs.Limits.{lineLimit}
 use Rattle.record.specs.declared.Place.{Place}
 use Rattle.record.specs.declared.Record.{Record}
 use Rattle.record.specs.declared.Written.{Written}
@@ -43,38 +44,38 @@ module _ (loose : Bool) (line : List ℕ) (at : Place) (out : List ℕ) where
 pub ruleset give-laws = (give-none, give-value)
 
 -- refusals 1 and 2 come first
-pub early-long : (n : ℕ) → 8192 < n → Refused LineTooLong ≡ (if ltb 8192 n then Refused LineTooLong else Refused BadSetting)
-early-long n h = rw (lt-ltb 8192 n h)
+pub early-long : (n : ℕ) → lineLimit < n → Refused LineTooLong ≡ (if ltb lineLimit n then Refused LineTooLong else Refused BadSetting)
+early-long n h = rw (lt-ltb lineLimit n h)
 
-pub early-bad : (n : ℕ) → n ≤ 8192 → Refused BadSetting ≡ (if ltb 8192 n then Refused LineTooLong else Refused BadSetting)
-early-bad n h = rw (le-ltb 8192 n h)
+pub early-bad : (n : ℕ) → n ≤ lineLimit → Refused BadSetting ≡ (if ltb lineLimit n then Refused LineTooLong else Refused BadSetting)
+early-bad n h = rw (le-ltb lineLimit n h)
 
 pub ruleset early-laws = (early-long, early-bad)
 
 pub record Later (n kind : ℕ) : Type 0 where
-  pub short : n ≤ 8192
+  pub short : n ≤ lineLimit
   pub known : kind ≤ 1
 
-pub later : (n kind : ℕ) → (ltb 8192 n || ltb 1 kind) ≡ false → Later n kind
-later n kind h = go (ltb 8192 n) (ltb 1 kind) refl refl h
+pub later : (n kind : ℕ) → (ltb lineLimit n || ltb 1 kind) ≡ false → Later n kind
+later n kind h = go (ltb lineLimit n) (ltb 1 kind) refl refl h
   where
-    go : (a b : Bool) → ltb 8192 n ≡ a → ltb 1 kind ≡ b → (a || b) ≡ false → Later n kind
-    go false false ea eb q = record { short = ltb-false 8192 n ea; known = ltb-false 1 kind eb }
+    go : (a b : Bool) → ltb lineLimit n ≡ a → ltb 1 kind ≡ b → (a || b) ≡ false → Later n kind
+    go false false ea eb q = record { short = ltb-false lineLimit n ea; known = ltb-false 1 kind eb }
     go false true ea eb q = clash q
     go true b ea eb q = clash q
 
 -- the refusals, in order
 module _ (line : List ℕ) (r : Record) (e p : ℕ) (elements params : List (List ℕ)) (id name : List ℕ) (kind : ℕ) (out : List ℕ) where
-  looks-long : 8192 < length line → Looks line r e p elements params id name kind out (Refused LineTooLong) out
-  looks-long h = record { answer = rw (lt-ltb 8192 (length line) h); output = refl }
+  looks-long : lineLimit < length line → Looks line r e p elements params id name kind out (Refused LineTooLong) out
+  looks-long h = record { answer = rw (lt-ltb lineLimit (length line) h); output = refl }
 
-  module _ (hl : length line ≤ 8192) where
+  module _ (hl : length line ≤ lineLimit) where
     looks-bad : 1 < kind → Looks line r e p elements params id name kind out (Refused BadSetting) out
-    looks-bad h = record { answer = rw (le-ltb 8192 (length line) hl, lt-ltb 1 kind h); output = refl }
+    looks-bad h = record { answer = rw (le-ltb lineLimit (length line) hl, lt-ltb 1 kind h); output = refl }
 
     module _ (hk : kind ≤ 1) (t : Bool) (et : t ≡ suits line r e p elements params) where
       pub looks-unsuitable : not t ≡ true → Looks line r e p elements params id name kind out (Refused Unsuitable) out
-      looks-unsuitable h = record { answer = rw (le-ltb 8192 (length line) hl, le-ltb 1 kind hk, ← et, h); output = refl }
+      looks-unsuitable h = record { answer = rw (le-ltb lineLimit (length line) hl, le-ltb 1 kind hk, ← et, h); output = refl }
 
       module _ (h : not t ≡ false) where
         pub looks-tables : tablesSuit line e p elements params ≡ true
@@ -84,17 +85,17 @@ module _ (line : List ℕ) (r : Record) (e p : ℕ) (elements params : List (Lis
             → Gives (eqb kind 0) (foundAt line at) out w after → Looks line r e p elements params id name kind out w after
         looks-given at f w after g =
             record {
-              answer = rw (le-ltb 8192 (length line) hl, le-ltb 1 kind hk, ← et, h, f .is) (g .answer);
+              answer = rw (le-ltb lineLimit (length line) hl, le-ltb 1 kind hk, ← et, h, f .is) (g .answer);
               output = rw (f .is) (g .output);
             }
 
-  pub looks-early : (ltb 8192 (length line) || ltb 1 kind) ≡ true → (w : Written) → w ≡ (if ltb 8192 (length line) then Refused LineTooLong else Refused BadSetting)
+  pub looks-early : (ltb lineLimit (length line) || ltb 1 kind) ≡ true → (w : Written) → w ≡ (if ltb lineLimit (length line) then Refused LineTooLong else Refused BadSetting)
       → Looks line r e p elements params id name kind out w out
-  looks-early h w q = go (ltb 8192 (length line)) (ltb 1 kind) refl refl h
+  looks-early h w q = go (ltb lineLimit (length line)) (ltb 1 kind) refl refl h
     where
-      go : (a b : Bool) → ltb 8192 (length line) ≡ a → ltb 1 kind ≡ b → (a || b) ≡ true → Looks line r e p elements params id name kind out w out
-      go true b ea eb z = rw (q ∙ ap (λ (b : Bool). if b then Refused LineTooLong else Refused BadSetting) ea) (looks-long (ltb-true 8192 (length line) ea))
-      go false true ea eb z = rw (q ∙ ap (λ (b : Bool). if b then Refused LineTooLong else Refused BadSetting) ea) (looks-bad (ltb-false 8192 (length line) ea) (ltb-true 1 kind eb))
+      go : (a b : Bool) → ltb lineLimit (length line) ≡ a → ltb 1 kind ≡ b → (a || b) ≡ true → Looks line r e p elements params id name kind out w out
+      go true b ea eb z = rw (q ∙ ap (λ (b : Bool). if b then Refused LineTooLong else Refused BadSetting) ea) (looks-long (ltb-true lineLimit (length line) ea))
+      go false true ea eb z = rw (q ∙ ap (λ (b : Bool). if b then Refused LineTooLong else Refused BadSetting) ea) (looks-bad (ltb-false lineLimit (length line) ea) (ltb-true 1 kind eb))
       go false false ea eb z = clash (sym z)
 
 -- the contract leaves one answer and one output

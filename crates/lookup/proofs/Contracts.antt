@@ -7,7 +7,7 @@ use borrow.Fn.Kinds.{pNum}
 use borrow.Fn.Read.{all-models, reads}
 use borrow.Kind.MutSlice.{pMutS}
 use borrow.Kind.ShrSlice.{pShrS}
-use Rattle.rules.specs.Derive.{Struct, Contract, plainly, bytes, pair, pS, rS, rE}
+use Rattle.derivation.specs.Derive.{Struct, Contract, plainly, bytes, pair, pS, rS, rE}
 use Rattle.record.proofs.Param as P
 use Rattle.record.proofs.Place as Pl
 use Rattle.record.proofs.Place.Laws as Pl′

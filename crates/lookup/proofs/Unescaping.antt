@@ -22,7 +22,7 @@ use Rattle.lookup.specs.declared.Added.the-variants.{Nothing, One, Pair}
 use Rattle.lookup.specs.Unescape.{isEscaped, unescapedFrom, unescaped}
 use Rattle.lookup.specs.Steps.{adds, bytesOf}
 
--- the rest behind what a byte adds
+-- the rest after what a byte adds
 pair-front : (e n : Bool) (b : ℕ) (t : List ℕ)
     → (if e then b ∷ t else if n then 10 ∷ t else 92 ∷ b ∷ t) ≡ (if e then b ∷ [] else if n then 10 ∷ [] else 92 ∷ b ∷ []) ++ t
 pair-front true n b t = refl
@@ -125,7 +125,7 @@ module _ (loose taken : Bool) where
 
 pub ruleset tail-laws = (tail-kept, tail-gone)
 
--- the walk: what comes next, and the rest behind it
+-- the walk: what comes next, and the rest after it
 module _ (v : List ℕ) (loose taken : Bool) (i : ℕ) (b : Added) where
   next-two : i < length v → bytesOf b ≡ adds loose taken (getD v i 0)
       → Two (bytesOf b) (unescapedFrom loose (not taken && eqb (getD v i 0) 92) (drop (i + 1) v)) (unescapedFrom loose taken (drop i v))

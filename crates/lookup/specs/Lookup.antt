@@ -7,6 +7,7 @@ use lib.Dec.{ltb, eqb}
 use lib.ListN.{length, getD, take}
 use Rattle.base.specs.Choose.{if_then_else_}
 use Rattle.base.specs.Texts.{textAt, sameText}
+use Rattle.record.specs.Limits.{lineLimit}
 use Rattle.record.specs.declared.Record.{Record}
 use Rattle.record.specs.declared.Written.{Written}
 use Rattle.record.specs.declared.Written.the-variants.{Done, Refused}
@@ -39,7 +40,7 @@ valueAnswer loose (Found.value v) out = if ltb out (length (unescaped loose v)) 
 -- kind 0 is loose, 1 strict
 abbrev pub answered : List ℕ → Record → ℕ → ℕ → List (List ℕ) → List (List ℕ) → ℕ → Found → ℕ → Written
 answered line r e p elements params kind f out =
-    if ltb 8192 (length line) then Refused LineTooLong
+    if ltb lineLimit (length line) then Refused LineTooLong
     else if ltb 1 kind then Refused BadSetting
     else if not (suits line r e p elements params) then Refused Unsuitable
     else valueAnswer (eqb kind 0) f out

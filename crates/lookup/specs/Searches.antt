@@ -1,4 +1,4 @@
--- How far the search is, and what an entry makes of it. (For private contracts alone.)
+-- For private contracts alone: how far the search is, and what an entry makes of it.
 use Prim.Native.Nat.{ℕ, _+_, _≤_, _<_}
 use mathlib.Core.Path.{_≡_}
 use mathlib.Core.Bool.{Bool, false, _&&_}

@@ -1,4 +1,4 @@
--- What the contracts of the functions below `lookup` say: one byte of a value, a place that is found, what is given.
+-- For private contracts alone: what the contracts of the functions below `lookup` say: one byte of a value, a place that is found, what is given.
 use Prim.Native.Nat.{ℕ, _+_, _≤_}
 use mathlib.Core.Path.{_≡_}
 use mathlib.Core.List.{List, [], _∷_}

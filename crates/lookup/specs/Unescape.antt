@@ -10,7 +10,7 @@ use Rattle.base.specs.Choose.{if_then_else_}
 abbrev pub isEscaped : ℕ → Bool
 isEscaped b = eqb b 34 || eqb b 92 || eqb b 93
 
--- a byte behind a backslash
+-- a byte after a backslash
 abbrev pub pairOf : Bool → ℕ → List ℕ → List ℕ
 pairOf loose b t = if isEscaped b then b ∷ t else if loose && eqb b 110 then 10 ∷ t else 92 ∷ b ∷ t
 

@@ -11,9 +11,10 @@ ghost use Prim.Native.Nat.{_+_, _≤_, _<_};
 ghost use lib.Dec.{eqb, ltb};
 ghost use lib.ListN.{length, getD, take};
 ghost use Rattle.base.specs.Choose.{if_then_else_};
+ghost use Rattle.record.specs.Limits.{lineLimit};
 ghost use Rattle.record.specs.Params.{rows};
 ghost use Rattle.record.specs.declared.Written.the-variants.{Refused};
-ghost use Rattle.record.specs.declared.Refusal.the-variants.{LineTooLong, BadSetting, Unsuitable};
+ghost use Rattle.record.specs.declared.Refusal.the-variants.{LineTooLong, BadSetting};
 ghost use Rattle.base.specs.Fills.{filled};
 ghost use Rattle.base.specs.Texts.{textAt, sameText};
 ghost use Rattle.output.specs.Fits.{Fits};
@@ -24,7 +25,7 @@ ghost use Rattle.lookup.specs.Lookup.{Found, idText, Looks};
 ghost use Rattle.lookup.specs.Steps.{adds, bytesOf, foundAt, Finds, Gives};
 ghost use Rattle.lookup.specs.Searches.{Asks, searchFrom, searchOf};
 
-// Has the place that text?
+// Whether the place has that text.
 fn text_is(line: &[u8], start: usize, len: usize, text: &[u8]) -> bool
     requires { ⌜ start + len ≤ length (now line) ⌝ }
     ensures { λ r. ⌜ r ≡ sameText (textAt (now (line .entry)) start len) (now (text .entry)) ⌝ }
@@ -264,26 +265,21 @@ fn give_by(line: &[u8], value: Place, kind: u32, out: &mut [u8]) -> Written
 
 // Refusals 1 and 2, of a line of `n` bytes.
 fn is_early(n: usize, kind: u32) -> bool
-    ensures { λ b. ⌜ b ≡ (ltb 8192 n || ltb 1 kind) ⌝ }
+    ensures { λ b. ⌜ b ≡ (ltb lineLimit n || ltb 1 kind) ⌝ }
 {
-    (8192 < n) | (1 < kind)
+    (record::LINE_LIMIT < n) | (1 < kind)
 }
 
 fn early(n: usize) -> Written
-    ensures { λ w. ⌜ w ≡ (if ltb 8192 n then Refused LineTooLong else Refused BadSetting) ⌝ }
+    ensures { λ w. ⌜ w ≡ (if ltb lineLimit n then Refused LineTooLong else Refused BadSetting) ⌝ }
 {
-    if 8192 < n {
+    if record::LINE_LIMIT < n {
         return Written::Refused(Refusal::LineTooLong);
     }
     Written::Refused(Refusal::BadSetting)
 }
 
-fn unsuitable() -> Written
-    ensures { λ w. ⌜ w ≡ Refused Unsuitable ⌝ }
-{
-    Written::Refused(Refusal::Unsuitable)
-}
-
+// The service: the unescaped value of the first parameter with that id and that name, into `out`.
 pub fn lookup(
     line: &[u8],
     r: Record,
@@ -306,5 +302,5 @@ pub fn lookup(
         let value = find(line, element_count, param_count, elements, params, id, name);
         return give_by(line, value, kind, out);
     }
-    unsuitable()
+    suits::unsuitable()
 }

@@ -7,7 +7,7 @@ use borrow.Fn.Kinds.{PK, pNum, pSNum}
 use borrow.Fn.Read.{all-models, reads}
 use borrow.Kind.MutSlice.{pMutS}
 use borrow.Kind.ShrSlice.{pShrS}
-use Rattle.rules.specs.Derive.{Struct, Choice, Contract, plainly, bytes, pair, rE}
+use Rattle.derivation.specs.Derive.{Struct, Choice, Contract, plainly, bytes, pair, rE}
 use Rattle.record.proofs.Param as P
 use Rattle.record.proofs.Reading as R
 use Rattle.record.proofs.Reading.Laws as R′

@@ -4,7 +4,7 @@ use mathlib.Core.Path.{_≡_, sym, ap, _∙_}
 use mathlib.Core.List.{List}
 use lib.IntN.{ℤ}
 use Rattle.record.specs.declared.Reading.{Reading}
-use Rattle.structured_data.specs.Outcome.{Outcome}
+use Rattle.draft.specs.Outcome.{Outcome}
 use Rattle.loose.specs.Loose.{tableAfter, rowsOf, Reads}
 
 module _ (line : List ℕ) (variant year : ℕ) (offset : ℤ) (outcome : Outcome) (e₀ p₀ : List (List ℕ)) where

@@ -1,4 +1,4 @@
--- 01's line by line cases for the loose readers, and each refusal in its order, computed from the definitions.
+-- The lines of RULES Cases for the loose readers, and each refusal in its order, computed from the definitions.
 use Prim.Native.Nat.{ℕ}
 use mathlib.Core.Path.{_≡_, refl}
 use mathlib.Core.List.{List, [], _∷_, map}
@@ -13,6 +13,7 @@ use Rattle.digits.specs.Digits.{decimalFrom, numberAt, fixedAt, fractionAt}
 use Rattle.calendar.specs.Calendar.{leap, monthDays, validDate, validTime, valid, yearDays, daysBeforeYear, daysOfMonths, dayNumber}
 use Rattle.calendar.specs.Instant.{localSeconds, secondsOf, spanFrom, yearOf, monthOf, clockOf, shown}
 use Rattle.record.specs.Places.{absent, place}
+use Rattle.record.specs.Records.{messageAlone}
 use Rattle.record.specs.declared.Protocol.the-variants.{Rfc3164, Rfc5424}
 use Rattle.record.specs.declared.Level.the-variants.{Unset, Set}
 use Rattle.record.specs.declared.Stamp.the-variants.{Unstamped, Stamped}
@@ -26,7 +27,8 @@ use Rattle.timestamp.specs.Timestamp.{dayFrom, withoutYear, withYear, rfc3164Fr
 use Rattle.structured_data.specs.Param.{quotedLen, paramAt}
 use Rattle.structured_data.specs.Element.{idLen, moreParams, paramsFrom, elementFrom}
 use Rattle.structured_data.specs.Data.{itemFrom, elementsFrom, dataFrom}
-use Rattle.structured_data.specs.Outcome.Outcome.{noReading, isReading}
+use Rattle.draft.specs.Outcome.{Outcome}
+use Rattle.draft.specs.Outcome.Outcome.{noReading, isReading}
 use Rattle.rfc3164.specs.Names.{splitAt, splitOf, hostAndTag}
 use Rattle.rfc3164.specs.Rfc3164.{spacedHost, spacedTag, tagEnd, bodyFrom, rfc3164}
 use Rattle.rfc5424.specs.Rfc5424.{blankHost, blankPlain, startFrom, fourFrom, bodyFrom as bodyFrom5424, rfc5424}
@@ -37,8 +39,7 @@ use Rattle.record.specs.declared.Stamp.{Stamp}
 use Rattle.record.specs.declared.Reading.{Reading}
 use Rattle.record.specs.declared.Reading.the-variants.{Read, Refused}
 use Rattle.record.specs.declared.Refusal.the-variants.{LineTooLong, BadSetting, NotUtf8, NoReading, TooManyElements, TooManyParams}
-use Rattle.structured_data.specs.Outcome.{Outcome}
-use Rattle.loose.specs.Loose.{byVariant, outcomeOf, whole, orWhole, answered}
+use Rattle.loose.specs.Loose.{byVariant, outcomeOf, orWhole, answered}
 
 -- what is read, where the structured data stands and ends, and its rows
 abbrev reading : Protocol → Level → Level → Stamp → Place → Place → Place → Place → ℕ → ℕ → ℕ → List (List ℕ) → List (List ℕ) → ℕ → Outcome
@@ -114,7 +115,7 @@ cases : (map read
     × (map (exact 0 2023 (pos 60) 2 1) (bytes "" ∷ (0xC3 ∷ 0x28 ∷ []) ∷ bytes " hello " ∷ [])
     ≡ Refused NoReading ∷ Refused NotUtf8 ∷ Refused NoReading ∷ [])
     × (map (fallback 0 2023 (pos 60) 0 0) (bytes "" ∷ (0xC3 ∷ 0x28 ∷ []) ∷ bytes " hello " ∷ two ∷ [])
-    ≡ Read (whole 0) 0 0 ∷ Refused NotUtf8 ∷ Read (whole 7) 0 0 ∷ Refused TooManyElements ∷ [])
+    ≡ Read (messageAlone 0) 0 0 ∷ Refused NotUtf8 ∷ Read (messageAlone 7) 0 0 ∷ Refused TooManyElements ∷ [])
     × (exact 3 2023 (pos 60) 2 1 two ∷ exact 2 10000 (pos 60) 2 1 two ∷ exact 2 2023 (pos 1440) 2 1 two ∷ exact 2 2023 (negsuc 1439) 2 1 two
     ∷ exact 2 9999 (negsuc 1438) 1 0 two ∷ exact 2 0 (pos 1439) 2 0 two ∷ exact 3 2023 (pos 60) 2 1 (0xFF ∷ []) ∷ []
     ≡ Refused BadSetting ∷ Refused BadSetting ∷ Refused BadSetting ∷ Refused BadSetting
@@ -122,3 +123,17 @@ cases : (map read
     × (map (λ n. answered (replicate n 97) 3 2023 (pos 60) noReading 0 0) (8192 ∷ 8193 ∷ []) ≡ Refused BadSetting ∷ Refused LineTooLong ∷ [])
 unfolding outcomeOf byVariant utf8From trimmed textEnd whiteFrom whiteLen codePoint isWhite charLen wellFormed leadOf run fieldLen decimalFrom numberAt fixedAt fractionAt leap monthDays validDate validTime valid yearDays daysBeforeYear daysOfMonths dayNumber localSeconds secondsOf spanFrom yearOf monthOf clockOf shown priAt plainAt hostAt tagLen tagAt someBlanksFrom byteFrom numberFrom plainFrom hostFrom tagFrom namedFrom monthNumber monthFrom clockFrom fixedFrom eitherFrom dateFrom timeFrom nanosFrom minutesFrom zoneFrom endFrom fullFrom rfc3339From dayFrom withoutYear withYear rfc3164From quotedLen paramAt idLen moreParams paramsFrom elementFrom itemFrom elementsFrom dataFrom splitAt splitOf hostAndTag spacedHost spacedTag tagEnd bodyFrom rfc3164 blankHost blankPlain startFrom fourFrom bodyFrom5424 rfc5424
 cases = (refl, refl, refl, refl, refl)
+
+-- a line that is the message, written out
+whole-line : messageAlone 7 ≡ record {
+  protocol = Rfc3164;
+  facility = Unset;
+  severity = Unset;
+  timestamp = Unstamped;
+  host = absent;
+  app = absent;
+  procid = absent;
+  msgid = absent;
+  message = record { start = 0; len = 7 };
+}
+whole-line = refl

@@ -14,6 +14,8 @@ use mir.ValLaws.{toZ-ofZ}
 use Rattle.base.specs.Choose.{if_then_else_}
 use Rattle.base.proofs.Tests.{clash}
 use Rattle.utf8.specs.Lead.{isUtf8}
+use Rattle.record.specs.Limits.{lineLimit}
+use Rattle.record.specs.Records.{messageAlone}
 use Rattle.record.specs.Refusals.{refusalNumber}
 use Rattle.record.specs.declared.Record.{Record}
 use Rattle.record.specs.declared.Reading.{Reading}
@@ -21,11 +23,12 @@ use Rattle.record.specs.declared.Reading.the-variants.{Read, Refused}
 use Rattle.record.specs.declared.Refusal.{Refusal}
 use Rattle.record.specs.declared.Refusal.the-variants.{LineTooLong, BadSetting, NotUtf8, TooManyElements, TooManyParams}
 use Rattle.structured_data.specs.Data.{Rows, endAt}
-use Rattle.structured_data.specs.Outcome.{Outcome, Room, Fills}
-use Rattle.structured_data.specs.Outcome.Outcome.{noReading, isReading}
+use Rattle.structured_data.specs.Tables.{Room, Fills}
 use Rattle.structured_data.specs.declared.Rules.{Rules}
 use Rattle.structured_data.specs.declared.Rules.the-variants.{Rfc3164Rules}
-use Rattle.loose.specs.Loose.{outcomeOf, whole, orWhole, settingsOk, judged, answered, tableAfter, rowsOf, ReadsExact, ReadsFallback}
+use Rattle.draft.specs.Outcome.{Outcome}
+use Rattle.draft.specs.Outcome.Outcome.{noReading, isReading}
+use Rattle.loose.specs.Loose.{outcomeOf, orWhole, settingsOk, judged, answered, tableAfter, rowsOf, ReadsExact, ReadsFallback}
 use Rattle.loose.specs.Judging.{Fits, Judges, isFitting, dataOf, rulesOf, readingOf, orMessage}
 use Rattle.loose.specs.declared.Data.{Data}
 use Rattle.loose.specs.declared.Judged.{Judged}
@@ -137,7 +140,7 @@ module _ (line : List ℕ) (variant year : ℕ) (o : ℤ) (f : SFits w32 o) (e�
 
 -- The message whole in place of refusal 4
 module _ (len : ℕ) (r : Reading) (f : Refusal) (z : r ≡ Refused f) (k : ℕ) (e : k ≡ refusalNumber f) where
-  pub message-whole : k ≡ 4 → (x : Record) → x ≡ whole len → Read x 0 0 ≡ orMessage len r
+  pub message-whole : k ≡ 4 → (x : Record) → x ≡ messageAlone len → Read x 0 0 ≡ orMessage len r
   message-whole q x w = rw (z, ← e, q, w)
 
   pub message-refused : (k ≡ 4 → ⊥) → Refused f ≡ orMessage len r
@@ -172,7 +175,7 @@ module _ (line : List ℕ) (variant year : ℕ) (o : ℤ) (e p : ℕ) where
   whole-judged (isReading r at rows) = counted (length line) (ltb e (length (rows .elements))) (ltb p (length (rows .params))) _ refl
 
   whole-answered : (x : Outcome) → answered line variant year o (orWhole line x) e p ≡ orMessage (length line) (answered line variant year o x e p)
-  whole-answered x = ladder (length line) (ltb 8192 (length line)) (not (settingsOk variant year o)) (not (isUtf8 line)) (judged x e p) (judged (orWhole line x) e p) (whole-judged x)
+  whole-answered x = ladder (length line) (ltb lineLimit (length line)) (not (settingsOk variant year o)) (not (isUtf8 line)) (judged x e p) (judged (orWhole line x) e p) (whole-judged x)
 
   -- the same tables: `side` is one of the two
   whole-tables : (side : Rows → List (List ℕ)) → side (endAt 0) ≡ [] → (old : List (List ℕ)) (x : Outcome)

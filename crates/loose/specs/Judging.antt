@@ -8,18 +8,18 @@ use lib.ListN.{length, take}
 use lib.IntN.{ℤ}
 use Rattle.base.specs.Choose.{if_then_else_}
 use Rattle.utf8.specs.Lead.{isUtf8}
+use Rattle.record.specs.Limits.{lineLimit}
+use Rattle.record.specs.Records.{messageAlone}
 use Rattle.record.specs.declared.Record.{Record}
 use Rattle.record.specs.Refusals.{refusalNumber}
 use Rattle.record.specs.declared.Reading.{Reading}
 use Rattle.record.specs.declared.Reading.the-variants.{Read, Refused}
 use Rattle.structured_data.specs.Data.{dataFrom, rowsOr}
-use Rattle.structured_data.specs.Outcome.{Outcome}
-use Rattle.structured_data.specs.Outcome.Outcome.{noReading, isReading}
 use Rattle.structured_data.specs.declared.Rules.{Rules}
 use Rattle.structured_data.specs.declared.Rules.the-variants.{Rfc3164Rules}
-use Rattle.loose.specs.Loose.{outcomeOf, whole, settingsOk, answered}
-use Rattle.loose.specs.declared.Found.{Found}
-use Rattle.loose.specs.declared.Found.the-variants.{NotFound, IsFound}
+use Rattle.draft.specs.Outcome.{Outcome}
+use Rattle.draft.specs.Outcome.Outcome.{isReading}
+use Rattle.loose.specs.Loose.{outcomeOf, settingsOk, answered}
 use Rattle.loose.specs.declared.Judged.{Judged}
 use Rattle.loose.specs.declared.Judged.the-variants.{Refuse, Fitting}
 use Rattle.loose.specs.declared.Data.{Data}
@@ -30,16 +30,9 @@ pub record Drafts (s : List ℕ) (o : Outcome) (rules : Rules) (r : Record) (at 
   pub elements-are : e ≡ length (rowsOr at (dataFrom rules s at) .elements)
   pub params-are : p ≡ length (rowsOr at (dataFrom rules s at) .params)
 
-abbrev pub findsOf : List ℕ → Outcome → Found → Type 0
-findsOf s o NotFound = o ≡ noReading
-findsOf s o (IsFound rules r at e p) = Drafts s o rules r at e p
-
-pub record Finds (s : List ℕ) (o : Outcome) (f : Found) : Type 0 where
-  pub is : findsOf s o f
-
 -- none of the refusals 1, 2 and 3
 pub record Passes (line : List ℕ) (variant year : ℕ) (offset : ℤ) : Type 0 where
-  pub short : length line ≤ 8192
+  pub short : length line ≤ lineLimit
   pub settings : settingsOk variant year offset ≡ true
   pub text : isUtf8 line ≡ true
 
@@ -78,4 +71,4 @@ readingOf (Fitting rules r end at n m) = Read r n m
 -- the answer to a line of `len` bytes with the message whole in place of refusal 4
 abbrev pub orMessage : ℕ → Reading → Reading
 orMessage len (Read r e p) = Read r e p
-orMessage len (Refused f) = if eqb (refusalNumber f) 4 then Read (whole len) 0 0 else Refused f
+orMessage len (Refused f) = if eqb (refusalNumber f) 4 then Read (messageAlone len) 0 0 else Refused f

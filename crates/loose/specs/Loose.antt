@@ -5,22 +5,20 @@ use mathlib.Core.List.{List}
 use mathlib.Core.Bool.{Bool, not, _&&_}
 use lib.Dec.{leb, ltb, eqb}
 use lib.ListN.{length, take}
-use lib.IntN.{ℤ, natAbs}
+use lib.IntN.{ℤ}
 use Rattle.base.specs.Choose.{if_then_else_}
 use Rattle.base.specs.Fills.{filled}
 use Rattle.utf8.specs.Lead.{isUtf8}
 use Rattle.white.specs.Trim.{trimmed}
-use Rattle.record.specs.Places.{absent}
-use Rattle.record.specs.declared.Protocol.the-variants.{Rfc3164}
-use Rattle.record.specs.declared.Level.the-variants.{Unset}
-use Rattle.record.specs.declared.Stamp.the-variants.{Unstamped}
-use Rattle.record.specs.declared.Record.{Record}
+use Rattle.calendar.specs.Calendar.{lastYear, validOffset}
+use Rattle.record.specs.Limits.{lineLimit}
+use Rattle.record.specs.Records.{messageAlone}
 use Rattle.record.specs.declared.Reading.{Reading}
 use Rattle.record.specs.declared.Reading.the-variants.{Read, Refused}
 use Rattle.record.specs.declared.Refusal.the-variants.{LineTooLong, BadSetting, NotUtf8, NoReading, TooManyElements, TooManyParams}
 use Rattle.structured_data.specs.Data.{Rows, endAt}
-use Rattle.structured_data.specs.Outcome.{Outcome}
-use Rattle.structured_data.specs.Outcome.Outcome.{noReading, isReading}
+use Rattle.draft.specs.Outcome.{Outcome}
+use Rattle.draft.specs.Outcome.Outcome.{noReading, isReading}
 use Rattle.rfc3164.specs.Rfc3164.{rfc3164}
 use Rattle.rfc5424.specs.Rfc5424.{rfc5424}
 
@@ -41,27 +39,13 @@ unfoldable pub outcomeOf : List ℕ → ℕ → ℕ → ℤ → Outcome
 outcomeOf line variant year offset = let ends = trimmed line in byVariant variant year offset (take (ends .end) line) (ends .start)
 
 -- A line with no reading becomes the message whole and untrimmed, protocol RFC 3164, nothing else set.
-abbrev pub whole : ℕ → Record
-whole len =
-    record {
-      protocol = Rfc3164;
-      facility = Unset;
-      severity = Unset;
-      timestamp = Unstamped;
-      host = absent;
-      app = absent;
-      procid = absent;
-      msgid = absent;
-      message = record { start = 0; len = len };
-    }
-
 abbrev pub orWhole : List ℕ → Outcome → Outcome
-orWhole line noReading = isReading (whole (length line)) 0 (endAt 0)
+orWhole line noReading = isReading (messageAlone (length line)) 0 (endAt 0)
 orWhole line (isReading r at rows) = isReading r at rows
 
 -- variant 0 to 2, year 0 to 9999, offset -1439 to 1439
 abbrev pub settingsOk : ℕ → ℕ → ℤ → Bool
-settingsOk variant year offset = leb variant 2 && leb year 9999 && leb (natAbs offset) 1439
+settingsOk variant year offset = leb variant 2 && leb year lastYear && validOffset offset
 
 -- refusals 4, 5 and 6: tables of `e` and `p` entries
 abbrev pub judged : Outcome → ℕ → ℕ → Reading
@@ -74,7 +58,7 @@ judged (isReading r at rows) e p =
 -- refusals 1, 2 and 3, and then those of the outcome
 abbrev pub answered : List ℕ → ℕ → ℕ → ℤ → Outcome → ℕ → ℕ → Reading
 answered line variant year offset outcome e p =
-    if ltb 8192 (length line) then Refused LineTooLong
+    if ltb lineLimit (length line) then Refused LineTooLong
     else if not (settingsOk variant year offset) then Refused BadSetting
     else if not (isUtf8 line) then Refused NotUtf8
     else judged outcome e p

@@ -1,37 +1,17 @@
 // lib.rs: the loose readers.
-use record::Level;
+use draft::Draft;
 use record::Param;
-use record::Protocol;
 use record::Reading;
 use record::Record;
 use record::Refusal;
-use record::Span;
-use record::Stamp;
-use structured_data::Draft;
 use structured_data::Rules;
 ghost use mathlib.Core.Path.{_≡_};
 ghost use Prim.Native.Nat.{_≤_};
-ghost use lib.Dec.{leb};
-ghost use lib.IntN.{natAbs};
 ghost use lib.ListN.{length};
 ghost use Rattle.record.specs.Params.{rows};
-ghost use Rattle.rfc3164.specs.Rfc3164.{rfc3164};
-ghost use Rattle.rfc5424.specs.Rfc5424.{rfc5424};
-ghost use Rattle.loose.specs.Loose.{byVariant, outcomeOf, whole, orWhole, settingsOk, answered, ReadsExact, ReadsFallback};
-ghost use Rattle.loose.specs.Judging.{Finds, Passes, Judges, isFitting, dataOf, rulesOf, readingOf, orMessage};
-
-// What a reader of lines found: the rules that its structured data is read by, the record, where the structured data stands, and the
-// counts of elements and parameters.
-enum Found {
-    NotFound,
-    IsFound {
-        rules: Rules,
-        read: Record,
-        at: usize,
-        elements: usize,
-        params: usize,
-    },
-}
+ghost use Rattle.draft.specs.Drafts.{draftOf};
+ghost use Rattle.loose.specs.Loose.{byVariant, outcomeOf, orWhole, settingsOk, answered, ReadsExact, ReadsFallback};
+ghost use Rattle.loose.specs.Judging.{Passes, Judges, isFitting, dataOf, rulesOf, readingOf, orMessage};
 
 // What is known of a line before a table is touched. `end` is where the trimmed line ends.
 enum Judged {
@@ -46,67 +26,28 @@ enum Judged {
     },
 }
 
-fn offset_ok(offset: i32) -> bool
-    ensures { λ r. ⌜ r ≡ leb (natAbs offset) 1439 ⌝ }
-{
-    let minutes = base::split(base::widen(offset));
-    (minutes.up <= 1439) & (minutes.down <= 1439)
-}
-
 fn settings_ok(variant: u32, year: u32, offset: i32) -> bool
     ensures { λ r. ⌜ r ≡ settingsOk variant year offset ⌝ }
 {
-    (variant <= 2) & (year <= 9999) & offset_ok(offset)
-}
-
-fn found_5424(s: &[u8], start: usize) -> Found
-    requires { ⌜ start ≤ length (now s) ⌝ }
-    ensures { λ r. ⌜ Finds (now (s .entry)) (rfc5424 (now (s .entry)) start) r ⌝ }
-{
-    let Draft::IsDraft(read, at, elements, params) = rfc5424::rfc5424(s, start) else {
-        return Found::NotFound;
-    };
-    Found::IsFound {
-        rules: Rules::Rfc5424Rules,
-        read,
-        at,
-        elements,
-        params,
-    }
-}
-
-fn found_3164(s: &[u8], start: usize, year: u32, offset: i32) -> Found
-    requires { ⌜ start ≤ length (now s) ⌝ }
-    ensures { λ r. ⌜ Finds (now (s .entry)) (rfc3164 year offset (now (s .entry)) start) r ⌝ }
-{
-    let Draft::IsDraft(read, at, elements, params) = rfc3164::rfc3164(s, start, year, offset) else {
-        return Found::NotFound;
-    };
-    Found::IsFound {
-        rules: Rules::Rfc3164Rules,
-        read,
-        at,
-        elements,
-        params,
-    }
+    (variant <= 2) & (year <= calendar::LAST_YEAR) & calendar::is_offset(offset)
 }
 
 // Variant 0 tries RFC 5424, then RFC 3164; 1 is RFC 3164, 2 RFC 5424.
-fn by_variant(s: &[u8], start: usize, variant: u32, year: u32, offset: i32) -> Found
+fn by_variant(s: &[u8], start: usize, variant: u32, year: u32, offset: i32) -> Draft
     requires { ⌜ start ≤ length (now s) ⌝ }
-    ensures { λ r. ⌜ Finds (now (s .entry)) (byVariant variant year offset (now (s .entry)) start) r ⌝ }
+    ensures { λ r. ⌜ r ≡ draftOf (byVariant variant year offset (now (s .entry)) start) ⌝ }
 {
     if variant == 1 {
-        return found_3164(s, start, year, offset);
+        return rfc3164::rfc3164(s, start, year, offset);
     }
-    let found = found_5424(s, start);
-    let Found::NotFound = found else {
-        return found;
+    let draft = rfc5424::rfc5424(s, start);
+    let Draft::NoDraft = draft else {
+        return draft;
     };
     if variant == 0 {
-        return found_3164(s, start, year, offset);
+        return rfc3164::rfc3164(s, start, year, offset);
     }
-    found
+    draft
 }
 
 // Refusals 4, 5 and 6, where none of the first three is given: tables of `e` and `p` entries.
@@ -116,7 +57,7 @@ fn judge_text(line: &[u8], variant: u32, year: u32, offset: i32, e: usize, p: us
 {
     let ends = white::trim(line);
     let end = ends.end;
-    let Found::IsFound {
+    let Draft::IsDraft {
         rules,
         read,
         at,
@@ -146,7 +87,7 @@ fn judge_text(line: &[u8], variant: u32, year: u32, offset: i32, e: usize, p: us
 fn judge(line: &[u8], variant: u32, year: u32, offset: i32, e: usize, p: usize) -> Judged
     ensures { λ r. ⌜ Judges (now (line .entry)) variant year offset e p r ⌝ }
 {
-    if 8192 < line.len() {
+    if record::LINE_LIMIT < line.len() {
         return Judged::Refuse(Refusal::LineTooLong);
     }
     if !settings_ok(variant, year, offset) {
@@ -274,24 +215,6 @@ pub fn read_exact(
     reading_of(judged)
 }
 
-// The line whole and untrimmed as the message.
-fn whole(len: usize) -> Record
-    ensures { λ r. ⌜ r ≡ whole len ⌝ }
-{
-    let none = record::absent();
-    Record {
-        protocol: Protocol::Rfc3164,
-        facility: Level::Unset,
-        severity: Level::Unset,
-        timestamp: Stamp::Unstamped,
-        host: none,
-        app: none,
-        procid: none,
-        msgid: none,
-        message: Span { start: 0, len },
-    }
-}
-
 // The answer to a line of `len` bytes with the message whole in place of refusal 4.
 fn or_message(len: usize, r: Reading) -> Reading
     ensures { λ x. ⌜ x ≡ orMessage len r ⌝ }
@@ -300,7 +223,7 @@ fn or_message(len: usize, r: Reading) -> Reading
         return r;
     };
     if record::refusal_number(refusal) == 4 {
-        return Reading::Read(whole(len), 0, 0);
+        return Reading::Read(record::message_alone(len), 0, 0);
     }
     r
 }

@@ -1,5 +1,5 @@
 -- Printing: what is measured, what is answered, and what the output holds.
-use Prim.Native.Nat.{ℕ, _+_, _≤_, _<_}
+use Prim.Native.Nat.{ℕ, _+_, _*_, _≤_, _<_}
 use mathlib.Core.Path.{_≡_, refl, sym, ap, _∙_}
 use mathlib.Core.Bool.{Bool, true, false, _&&_}
 use mathlib.Core.List.{List, [], _∷_, _++_}
@@ -11,6 +11,7 @@ use borrow.Author.Tests.{le-leb, lt-leb, lt-ltb, le-ltb, leb-true, leb-false, eq
 use mir.Syntax.{w64}
 use mir.Val
 use Rattle.base.proofs.Tests.{both}
+use Rattle.record.specs.Limits.{lineLimit}
 use Rattle.record.specs.Params.{rowOf}
 use Rattle.record.specs.declared.Param.{Param}
 use Rattle.record.specs.declared.Protocol.{Protocol}
@@ -33,7 +34,7 @@ use Rattle.message.proofs.Texts.{message-in}
 use Rattle.message.proofs.Rooms.{room-over, room-rest, fits-both}
 use Rattle.message.proofs.Lengths.{printed-size}
 
--- behind the elements
+-- after the elements
 module _ (p : Protocol) (n : ℕ) where
   pub end-some : (n ≡ 0 → ⊥) → 32 ∷ [] ≡ endText p n
   unfolding endText
@@ -63,8 +64,8 @@ pub ruleset end-sizes = (end-some-sized, end-none-sized, end-dash-sized)
 
 -- all but the parameters
 module _ (line : List ℕ) (r : Record) (ids : List (List ℕ)) (a b : ℕ)
-    (sa : Sized (headText line r ++ namesText line r (r .protocol)) 32831 a) (sb : Sized (endText (r .protocol) (length ids)) 2 b) where
-  pub others-sum : length line ≤ 8192 → recordSuits line r ≡ true → mir.Val.Fits w64 (a + b + r .message .len)
+    (sa : Sized (headText line r ++ namesText line r (r .protocol)) (4 * lineLimit + 63) a) (sb : Sized (endText (r .protocol) (length ids)) 2 b) where
+  pub others-sum : length line ≤ lineLimit → recordSuits line r ≡ true → mir.Val.Fits w64 (a + b + r .message .len)
   others-sum l s = record { fits = omega (arith, sa .to, sb .to, message-in line r s) }
 
   sum : otherSize line r ids ≡ a + b + r .message .len + total elementSize ids
@@ -122,7 +123,7 @@ module _ (line : List ℕ) (r : Record) (e p : ℕ) (elements params : List (Lis
   size = printed-size line r (take e elements) (take p params) (message-in line r record-suits) ids-suit (rw ids-length params-suit)
 
   -- a parameter's texts are short
-  pub param-short : length line ≤ 8192 → (i : ℕ) → i < p → (x : Param) → rowOf x ≡ getD params i [] → x .«name_len» + x .«value_len» ≤ 16384
+  pub param-short : length line ≤ lineLimit → (i : ℕ) → i < p → (x : Param) → rowOf x ≡ getD params i [] → x .«name_len» + x .«value_len» ≤ 2 * lineLimit
   param-short l i h x ex = let q : ParamIn line e (least 0 params i) (rowOf x) = rw ex (param-suited line e p elements params tables i h) in omega (arith, q .name-in, q .value-in)
 
   -- what is measured
@@ -132,16 +133,16 @@ module _ (line : List ℕ) (r : Record) (e p : ℕ) (elements params : List (Lis
 
 -- the refusals, in the order in which they are checked, and the answer
 module _ (line : List ℕ) (r : Record) (e p : ℕ) (elements params : List (List ℕ)) (out : List ℕ) where
-  pub print-long : 8192 < length line → Prints line r e p elements params out (Refused LineTooLong) out
-  print-long h = record { answer = rw (lt-ltb 8192 (length line) h); output = refl }
+  pub print-long : lineLimit < length line → Prints line r e p elements params out (Refused LineTooLong) out
+  print-long h = record { answer = rw (lt-ltb lineLimit (length line) h); output = refl }
 
-  module _ (l : length line ≤ 8192) where
+  module _ (l : length line ≤ lineLimit) where
     pub print-unsuited : suits line r e p elements params ≡ false → Prints line r e p elements params out (Refused Unsuitable) out
-    print-unsuited s = record { answer = rw (le-ltb 8192 (length line) l, s); output = refl }
+    print-unsuited s = record { answer = rw (le-ltb lineLimit (length line) l, s); output = refl }
 
     module _ (s : suits line r e p elements params ≡ true) where
       pub print-short : leb (length (printed line r (take e elements) (take p params))) (length out) ≡ false → Prints line r e p elements params out (Refused OutputShort) out
-      print-short h = record { answer = rw (le-ltb 8192 (length line) l, s, lt-ltb (length out) _ (leb-false _ (length out) h)); output = refl }
+      print-short h = record { answer = rw (le-ltb lineLimit (length line) l, s, lt-ltb (length out) _ (leb-false _ (length out) h)); output = refl }
 
       module _ (h : leb (length (printed line r (take e elements) (take p params))) (length out) ≡ true) where
         enough : length (printed line r (take e elements) (take p params)) ≤ length out
@@ -154,6 +155,6 @@ module _ (line : List ℕ) (r : Record) (e p : ℕ) (elements params : List (Lis
         print-done n after w =
             let len : n ≡ length (printed line r (take e elements) (take p params)) = omega (arith, w .behind) in
             record {
-              answer = rw (le-ltb 8192 (length line) l, s, le-ltb (length out) _ enough) (ap Done len);
+              answer = rw (le-ltb lineLimit (length line) l, s, le-ltb (length out) _ enough) (ap Done len);
               output = w .holds ∙ written-front out _;
             }

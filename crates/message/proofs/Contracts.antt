@@ -7,7 +7,7 @@ use borrow.Fn.Kinds.{pNum, rNum, rBool}
 use borrow.Fn.Read.{all-models, reads}
 use borrow.Kind.MutSlice.{pMutS}
 use borrow.Kind.ShrSlice.{pShrS}
-use Rattle.rules.specs.Derive.{Choice, Contract, plainly, bytes, pair, pS, rE}
+use Rattle.derivation.specs.Derive.{Choice, Contract, plainly, bytes, pair, pS, rE}
 use Rattle.record.proofs.Param as P
 use Rattle.suits.proofs.Contracts as S
 use Rattle.message.proofs.Room as R

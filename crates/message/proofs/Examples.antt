@@ -1,8 +1,9 @@
 -- Worked examples, computed from the definitions.
 use Prim.Native.Nat.{ℕ}
 use mathlib.Core.Path.{_≡_, refl}
-use mathlib.Core.List.{List, [], _∷_}
+use mathlib.Core.List.{List, [], _∷_, map}
 use lib.IntN.{pos}
+use lib.ListN.{replicate}
 use Rattle.base.specs.Bytes.{bytes}
 use Rattle.calendar.specs.Calendar.{leap, monthDays, yearDays, daysBeforeYear, daysOfMonths}
 use Rattle.calendar.specs.Instant.{spanFrom, yearOf, monthOf, clockOf, shown}
@@ -12,15 +13,15 @@ use Rattle.record.specs.declared.Protocol.the-variants.{Rfc3164, Rfc5424}
 use Rattle.record.specs.declared.Level.the-variants.{Set}
 use Rattle.record.specs.declared.Stamp.the-variants.{Unstamped, Stamped}
 use Rattle.record.specs.declared.Record.{Record}
-use Rattle.record.specs.declared.Refusal.the-variants.{Unsuitable, OutputShort}
+use Rattle.record.specs.declared.Refusal.the-variants.{LineTooLong, Unsuitable, OutputShort}
 use Rattle.record.specs.declared.Written.the-variants.{Done, Refused}
 use Rattle.suits.specs.Suits.{recordSuits, elementsSuit, paramsSuit, tablesSuit, suits}
 use Rattle.output.specs.Numerals.{fixed, widthFrom}
-use Rattle.stamps.specs.Stamps.{dateText, timeText, clockText, fractionText, offsetText}
+use Rattle.message_stamp.specs.Stamps.{dateText, timeText, clockText, fractionText, offsetText}
 use Rattle.message.specs.Message.{priText, fieldText, paramText, paramsText, otherParams, openText, elementsText, headText, printed}
 use Rattle.message.specs.Prints.{answered}
 
--- 01's line, and its record at +60 in 2023
+-- the line of RULES Cases 10, and its record at +60 in 2023
 line : List ℕ
 line = bytes "<13>Feb  5 10:01:02 gate7 reader[42]: tap ok"
 
@@ -87,3 +88,13 @@ empty-printed = refl
 answers : (answered line tap 0 0 [] [] text 55 ≡ Done 55) × (answered line tap 0 0 [] [] text 54 ≡ Refused OutputShort) × (answered line tap 1 0 [] [] text 55 ≡ Refused Unsuitable)
 unfolding line tap text suits recordSuits tablesSuit elementsSuit paramsSuit leap monthDays yearDays daysBeforeYear daysOfMonths spanFrom yearOf monthOf clockOf shown
 answers = (refl, refl, refl)
+
+-- the longest line
+lengths : map (λ n. answered (replicate n 32) emptyRecord 0 0 [] [] [] 0) (8192 ∷ 8193 ∷ []) ≡ Done 0 ∷ Refused LineTooLong ∷ []
+unfolding suits recordSuits tablesSuit elementsSuit paramsSuit
+lengths = refl
+
+-- each parameter with its own element
+own-params : elementsText (bytes "ax1by2") 0 ((0 ∷ 1 ∷ []) ∷ (3 ∷ 1 ∷ []) ∷ []) ((0 ∷ 1 ∷ 1 ∷ 2 ∷ 1 ∷ []) ∷ (1 ∷ 4 ∷ 1 ∷ 5 ∷ 1 ∷ []) ∷ []) ≡ bytes "[a x=\"1\"][b y=\"2\"]"
+unfolding openText paramText paramsText otherParams elementsText
+own-params = refl

@@ -6,6 +6,7 @@ use mathlib.Core.List.{List}
 use native.Mathlib.Omega.{arith}
 use lib.Dec.{ltb}
 use lib.ListN.{length, take}
+use Rattle.record.specs.Limits.{lineLimit}
 use Rattle.record.specs.declared.Record.{Record}
 use Rattle.record.specs.declared.Written.{Written}
 use Rattle.record.specs.declared.Written.the-variants.{Done, Refused}
@@ -28,7 +29,7 @@ module _ (line : List ℕ) (r : Record) (e p : ℕ) (elements params : List (Lis
   -- the answer is the printed length
   pub done-length : (n : ℕ) (after : List ℕ) → Prints line r e p elements params before (Done n) after → n ≡ length (printed line r (take e elements) (take p params))
   done-length n after h =
-      chosen (ltb 8192 (length line)) (not (suits line r e p elements params)) (ltb (length before) (length (printed line r (take e elements) (take p params)))) n _ (h .answer)
+      chosen (ltb lineLimit (length line)) (not (suits line r e p elements params)) (ltb (length before) (length (printed line r (take e elements) (take p params)))) n _ (h .answer)
 
   -- and the output begins with the text
   pub done-output : (n : ℕ) (after : List ℕ) → Prints line r e p elements params before (Done n) after → after ≡ filled (printed line r (take e elements) (take p params)) before

@@ -27,7 +27,7 @@ param-size line e k row h =
     simp length-append
     (omega (arith, text-size line (getD row 1 0) (getD row 2 0) (name-in line e k row h), text-size line (getD row 3 0) (getD row 4 0) (value-in line e k row h)))
 
--- the parameters of element `k` and those behind them are all of them
+-- the parameters of element `k` and those after them are all of them
 record Split (line : List ℕ) (e k : ℕ) (ps : List (List ℕ)) : Type 0 where
   sizes : length (paramsText line k ps) + total paramSize (otherParams k ps) ≡ total paramSize ps
   suited : paramsSuit line e (k + 1) (otherParams k ps) ≡ true
@@ -88,7 +88,7 @@ elements-size line k (row ∷ es) ps h s =
     let next : elementsSuit line es ≡ true = both (placeSuits line (getD row 0 0) (getD row 1 0)) _ h .1 in
     simp length-append (omega (arith, open-size line row here, p .sizes, elements-size line (k + 1) es (otherParams k ps) next (rw n at (p .suited))))
 
--- the elements and what stands behind them
+-- the elements and what stands after them
 pub data-is : (line : List ℕ) (protocol : Protocol) (es ps : List (List ℕ)) → elementsText line 0 es ps ++ endText protocol (length es) ≡ dataText line protocol es ps
 unfolding elementsText endText
 data-is line Rfc3164 [] ps = refl

@@ -105,7 +105,7 @@ after-none : (r : Room) → roomAfter r 0 ≡ r
 after-none Short = refl
 after-none (Left left) = let z : left - 0 ≡ left = omega arith in sym (room-left left 0 (omega arith)) ∙ ap Left z
 
--- `m` is left of the room behind `i` of the first `p` parameters
+-- `m` is left of the room after `i` of the first `p` parameters
 pub record Measured (room p : ℕ) (params : List (List ℕ)) (m : Room) (i : ℕ) : Type 0 where
   pub left : roomAfter m (total paramSize (drop i (take p params))) ≡ roomFor room (total paramSize (take p params))
 
@@ -127,7 +127,7 @@ module _ (room p : ℕ) (params : List (List ℕ)) (m : Room) where
     unfolding total
     measured-all h = sym (after-none m) ∙ ap (λ (l : List (List ℕ)). roomAfter m (total paramSize l)) (sym (rows-ended params p fits i h)) ∙ w .left
 
--- and whether others fit behind them
+-- and whether others fit after them
 pub fits-both : (room a n : ℕ) → fitsIn (roomFor room a) n ≡ leb (n + a) room
 fits-both room a n = go (roomFor room a) refl
   where

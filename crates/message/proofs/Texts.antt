@@ -9,6 +9,7 @@ use borrow.Author.Tests.{not-true, not-false}
 use mir.Syntax.{w64}
 use mir.Val.{Fits}
 use Rattle.base.specs.Texts.{textAt}
+use Rattle.record.specs.Limits.{lineLimit}
 use Rattle.record.specs.declared.Place.{Place}
 use Rattle.record.specs.declared.Protocol.{Protocol}
 use Rattle.record.specs.declared.Protocol.the-variants.{Rfc3164, Rfc5424}
@@ -19,7 +20,7 @@ use Rattle.output.specs.Fits.{Sized}
 use Rattle.output.specs.Numerals.{width, numeral}
 use Rattle.output.proofs.Numerals.{length-fixed, width-le}
 use Rattle.output.proofs.Pieces.{Starts}
-use Rattle.stamps.specs.Stamps.{stampText}
+use Rattle.message_stamp.specs.Stamps.{stampText}
 use Rattle.message.specs.Message.{levelOr, priText, versionText, placeText, fieldText, tagText, namesText, headText}
 
 -- what `&line[start..end]` lends
@@ -93,7 +94,7 @@ module _ (line : List ℕ) (p : Place) where
     pub place-is : textAt line (p .start) (p .len) ≡ placeText line p
     place-is = rw e
 
-    pub place-sized : length line ≤ 8192 → (t : List ℕ) → t ≡ textAt line (p .start) (p .len) → Sized (placeText line p) 8192 (length t)
+    pub place-sized : length line ≤ lineLimit → (t : List ℕ) → t ≡ textAt line (p .start) (p .len) → Sized (placeText line p) lineLimit (length t)
     place-sized h t et =
         let l : length (textAt line (p .start) (p .len)) ≤ length line = simp (length-take, length-drop) (omega arith) in
         record { is = ap length (et ∙ place-is); to = omega (arith, ap length et) }
@@ -101,7 +102,7 @@ module _ (line : List ℕ) (p : Place) where
 pub ruleset place-laws = (place-none, place-is, place-sized)
 
 pub head-sized : (line : List ℕ) (r : Record) (a b c d : ℕ) → Sized (priText r) 12 a → Sized (versionText (r .protocol)) 10 b
-    → Sized (stampText (r .timestamp)) 35 c → Sized (placeText line (r .host)) 8192 d → Sized (headText line r) 8252 (a + b + c + d + 3)
+    → Sized (stampText (r .timestamp)) 35 c → Sized (placeText line (r .host)) lineLimit d → Sized (headText line r) (lineLimit + 60) (a + b + c + d + 3)
 unfolding headText fieldText
 head-sized line r a b c d p v s h = record { is = simp length-append (omega (arith, p .is, v .is, s .is, h .is)); to = omega (arith, p .to, v .to, s .to, h .to) }
 
@@ -110,7 +111,7 @@ module _ (line : List ℕ) (app procid : Place) where
   pub tag-none : not (app .present) ≡ true → 58 ∷ 32 ∷ [] ≡ tagText line app procid
   tag-none e = rw (not-true (app .present) e)
 
-  pub tag-none-sized : not (app .present) ≡ true → Sized (tagText line app procid) 16388 2
+  pub tag-none-sized : not (app .present) ≡ true → Sized (tagText line app procid) (2 * lineLimit + 4) 2
   tag-none-sized e = record { is = ap length (tag-none e); to = omega arith }
 
   module _ (e : not (app .present) ≡ false) where
@@ -127,11 +128,11 @@ module _ (line : List ℕ) (app procid : Place) where
         by-cases true f = record { others = _; is = tag-app f }
         by-cases false f = record { others = _; is = tag-pid f }
 
-    module _ (a : ℕ) (s : Sized (placeText line app) 8192 a) where
-      pub tag-app-sized : not (procid .present) ≡ true → Sized (tagText line app procid) 16388 (a + 2)
+    module _ (a : ℕ) (s : Sized (placeText line app) lineLimit a) where
+      pub tag-app-sized : not (procid .present) ≡ true → Sized (tagText line app procid) (2 * lineLimit + 4) (a + 2)
       tag-app-sized f = rw (← tag-app f) (record { is = simp length-append (omega (arith, s .is)); to = omega (arith, s .to) })
 
-      pub tag-pid-sized : not (procid .present) ≡ false → (b : ℕ) → Sized (placeText line procid) 8192 b → Sized (tagText line app procid) 16388 (a + b + 4)
+      pub tag-pid-sized : not (procid .present) ≡ false → (b : ℕ) → Sized (placeText line procid) lineLimit b → Sized (tagText line app procid) (2 * lineLimit + 4) (a + b + 4)
       tag-pid-sized f b t = rw (← tag-pid f) (record { is = simp length-append (omega (arith, s .is, t .is)); to = omega (arith, s .to, t .to) })
 
 pub ruleset tag-laws = (tag-none, tag-app, tag-pid)
@@ -144,15 +145,15 @@ module _ (line : List ℕ) (r : Record) (p : Protocol) where
     pub names-tag : tagText line (r .app) (r .procid) ≡ namesText line r p
     names-tag = rw e
 
-    pub names-tag-sized : (n : ℕ) → Sized (tagText line (r .app) (r .procid)) 16388 n → Sized (namesText line r p) 24579 n
+    pub names-tag-sized : (n : ℕ) → Sized (tagText line (r .app) (r .procid)) (2 * lineLimit + 4) n → Sized (namesText line r p) (3 * lineLimit + 3) n
     names-tag-sized n s = rw e (record { is = s .is; to = omega (arith, s .to) })
 
   module _ (v : ℕ) (e : p ≡ Rfc5424 v) where
     pub names-ids : fieldText line (r .app) ++ fieldText line (r .procid) ++ fieldText line (r .msgid) ≡ namesText line r p
     names-ids = rw e
 
-    pub names-ids-sized : (a b c : ℕ) → Sized (placeText line (r .app)) 8192 a → Sized (placeText line (r .procid)) 8192 b → Sized (placeText line (r .msgid)) 8192 c
-        → Sized (namesText line r p) 24579 (a + b + c + 3)
+    pub names-ids-sized : (a b c : ℕ) → Sized (placeText line (r .app)) lineLimit a → Sized (placeText line (r .procid)) lineLimit b → Sized (placeText line (r .msgid)) lineLimit c
+        → Sized (namesText line r p) (3 * lineLimit + 3) (a + b + c + 3)
     unfolding fieldText
     names-ids-sized a b c s t u = rw e (record { is = simp length-append (omega (arith, s .is, t .is, u .is)); to = omega (arith, s .to, t .to, u .to) })
 

@@ -13,7 +13,7 @@ use Rattle.record.specs.declared.Protocol.{Protocol}
 use Rattle.record.specs.declared.Protocol.the-variants.{Rfc3164, Rfc5424}
 use Rattle.record.specs.declared.Record.{Record}
 use Rattle.output.specs.Numerals.{numeral}
-use Rattle.stamps.specs.Stamps.{stampText}
+use Rattle.message_stamp.specs.Stamps.{stampText}
 
 -- absent facility counts as 5, absent severity as 7
 abbrev pub levelOr : ℕ → Level → ℕ
@@ -57,7 +57,7 @@ unfoldable pub paramsText : List ℕ → ℕ → List (List ℕ) → List ℕ
 paramsText line k [] = []
 paramsText line k (row ∷ rows) = if eqb (getD row 0 0) k then paramText line row ++ paramsText line k rows else []
 
--- those behind them
+-- those after them
 unfoldable pub otherParams : ℕ → List (List ℕ) → List (List ℕ)
 otherParams k [] = []
 otherParams k (row ∷ rows) = if eqb (getD row 0 0) k then otherParams k rows else row ∷ rows

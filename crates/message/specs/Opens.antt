@@ -1,4 +1,4 @@
--- The elements' text as it is written: what stands between two parameters, and behind the last element.
+-- For private contracts alone: the elements' text as it is written: what stands between two parameters, and after the last element.
 use Prim.Native.Nat.{ℕ, _+_, _-_}
 use mathlib.Core.List.{List, [], _∷_, _++_}
 use lib.Dec.{eqb}
@@ -20,7 +20,7 @@ unfoldable pub opensText : List ℕ → List (List ℕ) → List ℕ
 opensText line [] = []
 opensText line (row ∷ rows) = bytes "]" ++ openText line row ++ opensText line rows
 
--- the same of each element behind `k`, and the last one's end
+-- the same of each element after `k`, and the last one's end
 unfoldable pub closeText : List ℕ → List (List ℕ) → ℕ → List ℕ
 closeText line ids k = if eqb (length ids) 0 then [] else opensText line (take (length ids - 1 - k) (drop (k + 1) ids)) ++ bytes "]"
 
@@ -28,7 +28,7 @@ abbrev pub noneText : Protocol → List ℕ
 noneText Rfc3164 = []
 noneText (Rfc5424 v) = bytes "- "
 
--- a space behind the elements; where there are none, `- ` for RFC 5424 only
+-- a space after the elements; where there are none, `- ` for RFC 5424 only
 unfoldable pub endText : Protocol → ℕ → List ℕ
 endText protocol e = if eqb e 0 then noneText protocol else bytes " "
 

@@ -6,6 +6,7 @@ use mathlib.Core.Bool.{not}
 use lib.Dec.{ltb}
 use lib.ListN.{length, take}
 use Rattle.base.specs.Choose.{if_then_else_}
+use Rattle.record.specs.Limits.{lineLimit}
 use Rattle.record.specs.declared.Record.{Record}
 use Rattle.record.specs.declared.Written.{Written}
 use Rattle.record.specs.declared.Written.the-variants.{Done, Refused}
@@ -16,7 +17,7 @@ use Rattle.message.specs.Message.{printed}
 
 abbrev pub answered : List ℕ → Record → ℕ → ℕ → List (List ℕ) → List (List ℕ) → List ℕ → ℕ → Written
 answered line r e p elements params text out =
-    if ltb 8192 (length line) then Refused LineTooLong
+    if ltb lineLimit (length line) then Refused LineTooLong
     else if not (suits line r e p elements params) then Refused Unsuitable
     else if ltb out (length text) then Refused OutputShort
     else Done (length text)

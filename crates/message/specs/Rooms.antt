@@ -1,4 +1,4 @@
--- What measuring answers. The sizes of many rows may add up to more than any number holds, so each is taken from the room that is left.
+-- For private contracts alone: what measuring answers. The sizes of many rows may add up to more than any number holds, so each is taken from the room that is left.
 use Prim.Native.Nat.{ℕ, _+_, _-_}
 use mathlib.Core.Bool.{Bool, false}
 use mathlib.Core.List.{List, [], _∷_, _++_}

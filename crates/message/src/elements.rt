@@ -7,10 +7,11 @@ use record::Param;
 ghost use mathlib.Core.Path.{_≡_};
 ghost use mathlib.Core.Bool.{true};
 ghost use mathlib.Core.List.{_++_};
-ghost use Prim.Native.Nat.{_+_, _-_, _≤_, _<_};
+ghost use Prim.Native.Nat.{_+_, _-_, _*_, _≤_, _<_};
 ghost use lib.ListN.{length, getD, take, drop};
 ghost use Rattle.base.specs.Bytes.{bytes};
 ghost use Rattle.base.specs.Texts.{textAt};
+ghost use Rattle.record.specs.Limits.{lineLimit};
 ghost use Rattle.record.specs.Params.{rowOf};
 ghost use Rattle.suits.specs.Suits.{elementsSuit, paramSuits};
 ghost use Rattle.output.specs.Fits.{Fits};
@@ -27,6 +28,7 @@ pub fn counted(elements: &[[usize; 2]], count: usize) -> &[[usize; 2]]
     &elements[0..count]
 }
 
+// What is left of a room once `n` bytes are taken from it.
 pub fn room_for(left: usize, n: usize) -> Room
     ensures { λ r. ⌜ r ≡ roomFor left n ⌝ }
 {
@@ -45,6 +47,7 @@ fn element_room(left: usize, row: [usize; 2]) -> Room
     room_for(a, 2)
 }
 
+// The same once the brackets and ids of all elements are taken.
 pub fn elements_room(room: usize, ids: &[[usize; 2]]) -> Room
     ensures { λ r. ⌜ r ≡ roomFor room (total elementSize (now (ids .entry))) ⌝ }
 {
@@ -61,8 +64,9 @@ pub fn elements_room(room: usize, ids: &[[usize; 2]]) -> Room
     Room::Left(left)
 }
 
+// The same once a parameter is taken: a space, the name, `=` and the value in quotes.
 pub fn param_room(room: Room, p: Param) -> Room
-    requires { ⌜ p .«name_len» + p .«value_len» ≤ 16384 ⌝ }
+    requires { ⌜ p .«name_len» + p .«value_len» ≤ 2 * lineLimit ⌝ }
     ensures { λ r. ⌜ r ≡ roomAfter room (paramSize (rowOf p)) ⌝ }
 {
     let Room::Left(left) = room else {
@@ -175,7 +179,7 @@ pub fn put_turn(
     put_param(out, at, line, p)
 }
 
-// The elements behind `k`, which is open, and the last one's end. (Where there is no element, `k` is 0.)
+// The elements after `k`, which is open, and the last one's end. (Where there is no element, `k` is 0.)
 pub fn put_close(out: &mut [u8], at: usize, line: &[u8], ids: &[[usize; 2]], k: usize) -> usize
     requires { ⌜ Fits (now out) at (closeText (now line) (now ids) k) ⌝ }
     requires { ⌜ k ≤ length (now ids) - 1 ⌝ }

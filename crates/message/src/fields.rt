@@ -1,4 +1,4 @@
-// The head of a printed record, `<p>` to the host, and the names behind it; each with its length.
+// The head of a printed record, `<p>` to the host, and the names after it; each with its length.
 use output::put;
 use output::put_number;
 use output::put_text;
@@ -13,10 +13,11 @@ ghost use Prim.Native.Nat.{_+_, _*_, _≤_};
 ghost use lib.ListN.{length};
 ghost use Rattle.base.specs.Bytes.{bytes};
 ghost use Rattle.base.specs.Texts.{textAt};
+ghost use Rattle.record.specs.Limits.{lineLimit};
 ghost use Rattle.suits.specs.Suits.{recordSuits};
 ghost use Rattle.output.specs.Fits.{Fits, Sized};
 ghost use Rattle.output.specs.Output.{Wrote};
-ghost use Rattle.stamps.specs.Stamps.{stampText};
+ghost use Rattle.message_stamp.specs.Stamps.{stampText};
 ghost use Rattle.message.specs.Message.{levelOr, priText, versionText, placeText, fieldText, tagText, namesText, headText};
 
 // A text of the line.
@@ -28,6 +29,7 @@ fn text_at(line: &[u8], start: usize, len: usize) -> &[u8]
     &line[start..end]
 }
 
+// A part of the line.
 pub fn put_part(out: &mut [u8], at: usize, line: &[u8], start: usize, len: usize) -> usize
     requires { ⌜ Fits (now out) at (textAt (now line) start len) ⌝ }
     requires { ⌜ start + len ≤ length (now line) ⌝ }
@@ -102,9 +104,9 @@ fn put_place(out: &mut [u8], at: usize, line: &[u8], p: Place) -> usize
 }
 
 fn place_len(line: &[u8], p: Place) -> usize
-    requires { ⌜ length (now line) ≤ 8192 ⌝ }
+    requires { ⌜ length (now line) ≤ lineLimit ⌝ }
     requires { ⌜ p .start + p .len ≤ length (now line) ⌝ }
-    ensures { λ n. ⌜ Sized (placeText (now (line .entry)) p) 8192 n ⌝ }
+    ensures { λ n. ⌜ Sized (placeText (now (line .entry)) p) lineLimit n ⌝ }
 {
     if p.present {
         return text_at(line, p.start, p.len).len();
@@ -130,13 +132,13 @@ fn put_start(out: &mut [u8], r: Record) -> usize
     put(out, b, b' ')
 }
 
-// The timestamp's printer gets the part of the output behind the version's space.
+// The timestamp's printer gets the part of the output after the version's space.
 fn put_stamp_at(out: &mut [u8], at: usize, r: Record) -> usize
     requires { ⌜ Fits (now out) at (stampText (r .timestamp)) ⌝ }
     ensures { λ n. ⌜ Wrote (now (out .entry)) at (stampText (r .timestamp)) n (now (out .exit)) ⌝ }
 {
     let timestamp = r.timestamp;
-    at + stamps::put_stamp(&mut out[at..], timestamp)
+    at + message_stamp::put_stamp(&mut out[at..], timestamp)
 }
 
 fn put_stamped(out: &mut [u8], r: Record) -> usize
@@ -159,13 +161,13 @@ fn put_head(out: &mut [u8], line: &[u8], r: Record) -> usize
 }
 
 fn head_len(line: &[u8], r: Record) -> usize
-    requires { ⌜ length (now line) ≤ 8192 ⌝ }
+    requires { ⌜ length (now line) ≤ lineLimit ⌝ }
     requires { ⌜ recordSuits (now line) r ≡ true ⌝ }
-    ensures { λ n. ⌜ Sized (headText (now (line .entry)) r) 8252 n ⌝ }
+    ensures { λ n. ⌜ Sized (headText (now (line .entry)) r) (lineLimit + 60) n ⌝ }
 {
     let timestamp = r.timestamp;
     let host = r.host;
-    pri_len(r) + version_len(r) + stamps::stamp_len(timestamp) + place_len(line, host) + 3
+    pri_len(r) + version_len(r) + message_stamp::stamp_len(timestamp) + place_len(line, host) + 3
 }
 
 // `[pid]: `
@@ -223,10 +225,10 @@ fn put_names(out: &mut [u8], at: usize, line: &[u8], r: Record) -> usize
 }
 
 fn tag_len(line: &[u8], app: Place, procid: Place) -> usize
-    requires { ⌜ length (now line) ≤ 8192 ⌝ }
+    requires { ⌜ length (now line) ≤ lineLimit ⌝ }
     requires { ⌜ app .start + app .len ≤ length (now line) ⌝ }
     requires { ⌜ procid .start + procid .len ≤ length (now line) ⌝ }
-    ensures { λ n. ⌜ Sized (tagText (now (line .entry)) app procid) 16388 n ⌝ }
+    ensures { λ n. ⌜ Sized (tagText (now (line .entry)) app procid) (2 * lineLimit + 4) n ⌝ }
 {
     if !app.present {
         return 2;
@@ -238,9 +240,9 @@ fn tag_len(line: &[u8], app: Place, procid: Place) -> usize
 }
 
 fn names_len(line: &[u8], r: Record) -> usize
-    requires { ⌜ length (now line) ≤ 8192 ⌝ }
+    requires { ⌜ length (now line) ≤ lineLimit ⌝ }
     requires { ⌜ recordSuits (now line) r ≡ true ⌝ }
-    ensures { λ n. ⌜ Sized (namesText (now (line .entry)) r (r .protocol)) 24579 n ⌝ }
+    ensures { λ n. ⌜ Sized (namesText (now (line .entry)) r (r .protocol)) (3 * lineLimit + 3) n ⌝ }
 {
     let app = r.app;
     let procid = r.procid;
@@ -265,10 +267,11 @@ pub fn put_front(out: &mut [u8], line: &[u8], r: Record) -> usize
     put_names(out, a, line, r)
 }
 
+// How many bytes head and names take.
 pub fn front_len(line: &[u8], r: Record) -> usize
-    requires { ⌜ length (now line) ≤ 8192 ⌝ }
+    requires { ⌜ length (now line) ≤ lineLimit ⌝ }
     requires { ⌜ recordSuits (now line) r ≡ true ⌝ }
-    ensures { λ n. ⌜ Sized (headText (now (line .entry)) r ++ namesText (now (line .entry)) r (r .protocol)) 32831 n ⌝ }
+    ensures { λ n. ⌜ Sized (headText (now (line .entry)) r ++ namesText (now (line .entry)) r (r .protocol)) (4 * lineLimit + 63) n ⌝ }
 {
     head_len(line, r) + names_len(line, r)
 }

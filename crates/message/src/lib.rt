@@ -25,9 +25,10 @@ ghost use mathlib.Core.List.{_++_};
 ghost use Prim.Native.Nat.{_+_, _-_, _≤_};
 ghost use lib.Dec.{leb, ltb};
 ghost use lib.ListN.{length, take};
+ghost use Rattle.record.specs.Limits.{lineLimit};
 ghost use Rattle.record.specs.Params.{rows};
 ghost use Rattle.record.specs.declared.Written.the-variants.{Done, Refused};
-ghost use Rattle.record.specs.declared.Refusal.the-variants.{LineTooLong, Unsuitable, OutputShort};
+ghost use Rattle.record.specs.declared.Refusal.the-variants.{LineTooLong, OutputShort};
 ghost use Rattle.suits.specs.Suits.{recordSuits, elementsSuit, suits};
 ghost use Rattle.output.specs.Fits.{Fits, Sized};
 ghost use Rattle.output.specs.Output.{Wrote};
@@ -70,7 +71,7 @@ fn end_len(r: Record, count: usize) -> usize
     }
 }
 
-// What stands behind the elements.
+// What stands after the elements.
 fn put_back(out: &mut [u8], at: usize, line: &[u8], r: Record, count: usize) -> usize
     requires { ⌜ Fits (now out) at (backText (now line) r count) ⌝ }
     requires { ⌜ r .message .start + r .message .len ≤ length (now line) ⌝ }
@@ -82,7 +83,7 @@ fn put_back(out: &mut [u8], at: usize, line: &[u8], r: Record, count: usize) -> 
 
 // Does all but the parameters fit into `left` bytes?
 fn others_fit(left: usize, line: &[u8], r: Record, ids: &[[usize; 2]]) -> bool
-    requires { ⌜ length (now line) ≤ 8192 ⌝ }
+    requires { ⌜ length (now line) ≤ lineLimit ⌝ }
     requires { ⌜ recordSuits (now line) r ≡ true ⌝ }
     ensures { λ b. ⌜ b ≡ leb (otherSize (now (line .entry)) r (now (ids .entry))) left ⌝ }
 {
@@ -98,7 +99,7 @@ fn others_fit(left: usize, line: &[u8], r: Record, ids: &[[usize; 2]]) -> bool
 
 // Into what the parameters leave?
 fn rest_fits(room: Room, line: &[u8], r: Record, count: usize, elements: &[[usize; 2]]) -> bool
-    requires { ⌜ length (now line) ≤ 8192 ⌝ }
+    requires { ⌜ length (now line) ≤ lineLimit ⌝ }
     requires { ⌜ recordSuits (now line) r ≡ true ⌝ }
     requires { ⌜ count ≤ length (now elements) ⌝ }
     ensures { λ b. ⌜ b ≡ fitsIn room (otherSize (now (line .entry)) r (take count (now (elements .entry)))) ⌝ }
@@ -126,7 +127,7 @@ fn fits(
     params: &[Param],
     room: usize,
 ) -> bool
-    requires { ⌜ length (now line) ≤ 8192 ⌝ }
+    requires { ⌜ length (now line) ≤ lineLimit ⌝ }
     requires { ⌜ suits (now line) r «element_count» «param_count» (now elements) (rows (now params)) ≡ true ⌝ }
     ensures { λ b. ⌜ b ≡ leb (length (printed (now (line .entry)) r (take «element_count» (now (elements .entry))) (take «param_count» (rows (now (params .entry)))))) room ⌝ }
 {
@@ -158,7 +159,7 @@ fn put_before(
     put_first(out, a, line, counted(elements, count))
 }
 
-// All behind the parameters, of which the last is one of element `k`.
+// All after the parameters, of which the last is one of element `k`.
 fn put_behind(
     out: &mut [u8],
     at: usize,
@@ -207,21 +208,15 @@ fn put_record(
 
 // The tests and the answers of `print`, which names the table and so only calls.
 fn is_long(n: usize) -> bool
-    ensures { λ b. ⌜ b ≡ ltb 8192 n ⌝ }
+    ensures { λ b. ⌜ b ≡ ltb lineLimit n ⌝ }
 {
-    8192 < n
+    record::LINE_LIMIT < n
 }
 
 fn too_long() -> Written
     ensures { λ w. ⌜ w ≡ Refused LineTooLong ⌝ }
 {
     Written::Refused(Refusal::LineTooLong)
-}
-
-fn unsuitable() -> Written
-    ensures { λ w. ⌜ w ≡ Refused Unsuitable ⌝ }
-{
-    Written::Refused(Refusal::Unsuitable)
 }
 
 fn short() -> Written
@@ -236,6 +231,7 @@ fn done(n: usize) -> Written
     Written::Done(n)
 }
 
+// The service: the record as text, into `out`.
 pub fn print(
     line: &[u8],
     r: Record,
@@ -259,5 +255,5 @@ pub fn print(
         }
         return short();
     }
-    unsuitable()
+    suits::unsuitable()
 }

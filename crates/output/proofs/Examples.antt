@@ -5,8 +5,8 @@ use Rattle.base.specs.Bytes.{bytes}
 use Rattle.output.specs.Output.{written}
 use Rattle.output.specs.Numerals.{fixed, widthFrom, numeral}
 
-numerals : map numeral (0 ∷ 7 ∷ 10 ∷ 191 ∷ 1000 ∷ 4294967295 ∷ [])
-    ≡ bytes "0" ∷ bytes "7" ∷ bytes "10" ∷ bytes "191" ∷ bytes "1000" ∷ bytes "4294967295" ∷ []
+numerals : map numeral (0 ∷ 7 ∷ 9 ∷ 10 ∷ 99 ∷ 100 ∷ 191 ∷ 1000 ∷ 4294967295 ∷ [])
+    ≡ bytes "0" ∷ bytes "7" ∷ bytes "9" ∷ bytes "10" ∷ bytes "99" ∷ bytes "100" ∷ bytes "191" ∷ bytes "1000" ∷ bytes "4294967295" ∷ []
 unfolding fixed widthFrom
 numerals = refl
 

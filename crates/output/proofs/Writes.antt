@@ -42,7 +42,7 @@ written-length out at xs h =
     ∙ length-append (take at out ++ xs) (drop (at + length xs) out)
     ∙ omega (arith, front out at xs (omega arith), length-drop (at + length xs) out)
 
--- two texts, one behind the other
+-- two texts, one after the other
 pub written-more : (out : List ℕ) (at : ℕ) (xs ys : List ℕ) → at + length xs ≤ length out
     → written (written out at xs) (at + length xs) ys ≡ written out at (xs ++ ys)
 unfolding written

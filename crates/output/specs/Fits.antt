@@ -1,4 +1,4 @@
--- What functions that write ask for, and what functions that measure say.
+-- For private contracts alone: what functions that write ask for, and what functions that measure say.
 use Prim.Native.Nat.{ℕ, _+_, _≤_}
 use mathlib.Core.Path.{_≡_}
 use mathlib.Core.List.{List}

@@ -11,7 +11,7 @@ use Rattle.record.specs.declared.Written.the-variants.{Done, Refused}
 unfoldable pub written : List ℕ → ℕ → List ℕ → List ℕ
 written out at text = take at out ++ (text ++ drop (at + length text) out)
 
--- a write of `text` at `at` turned `before` into `after` and answered `next`, the position behind it
+-- a write of `text` at `at` turned `before` into `after` and answered `next`, the position after it
 pub record Wrote (before : List ℕ) (at : ℕ) (text : List ℕ) (next : ℕ) (after : List ℕ) : Type 0 where
   pub behind : next ≡ at + length text
   pub holds : after ≡ written before at text

@@ -1,10 +1,11 @@
-// Writing into a lent output: a byte, a number, a text. Each answers the position behind what it wrote.
+// Writing into a lent output: a byte, a number, a text. Each answers the position after what it wrote.
 ghost use mathlib.Core.Path.{_≡_};
 ghost use mathlib.Core.List.{[], _∷_};
 ghost use Rattle.output.specs.Output.{Wrote};
 ghost use Rattle.output.specs.Fits.{Fits};
 ghost use Rattle.output.specs.Numerals.{fixed, width, numeral};
 
+// A byte.
 pub fn put(out: &mut [u8], at: usize, b: u8) -> usize
     requires { ⌜ Fits (now out) at (b ∷ []) ⌝ }
     ensures { λ r. ⌜ Wrote (now (out .entry)) at (b ∷ []) r (now (out .exit)) ⌝ }
@@ -28,6 +29,7 @@ pub fn put_fixed(out: &mut [u8], at: usize, k: usize, n: u32) -> usize
     at + k
 }
 
+// A text.
 pub fn put_text(out: &mut [u8], at: usize, text: &[u8]) -> usize
     requires { ⌜ Fits (now out) at (now text) ⌝ }
     ensures { λ r. ⌜ Wrote (now (out .entry)) at (now (text .entry)) r (now (out .exit)) ⌝ }

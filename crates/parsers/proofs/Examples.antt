@@ -1,15 +1,17 @@
--- 01's sentences on fields and blanks as worked examples, computed from the definitions.
+-- RULES Parsers as worked examples, computed from the definitions.
 use mathlib.Core.Path.{_≡_, refl}
 use mathlib.Core.List.{[], _∷_, _++_, map}
 use Rattle.base.specs.Bytes.{bytes}
 use Rattle.base.specs.Runs.{run}
 use Rattle.utf8.specs.Lead.{leadOf, wellFormed, charLen}
+use Rattle.utf8.specs.Characters.{charRun}
 use Rattle.white.specs.White.{isWhite, codePoint, whiteLen}
 use Rattle.white.specs.Trim.{fieldLen}
 use Rattle.digits.specs.Digits.{decimalFrom, numberAt}
 use Rattle.record.specs.Places.{absent, place}
 use Rattle.parsers.specs.Parsers.{plainAt, hostAt, tagLen, tagAt}
-use Rattle.parsers.specs.Steps.{blanksFrom, someBlanksFrom, byteFrom, numberFrom, plainFrom, hostFrom, tagFrom}
+use Rattle.parsers.specs.Characters.{tagOf}
+use Rattle.parsers.specs.Steps.{blanksFrom, someBlanksFrom, byteFrom, colonFrom, isInside, numberFrom, plainFrom, hostFrom, tagFrom}
 use Rattle.parsers.specs.declared.Text.the-variants.{Fails, Absent, Given}
 use Rattle.parsers.specs.declared.Num.the-variants.{NoNum, IsNum}
 use Rattle.parsers.specs.declared.Pos.the-variants.{NoPos, IsPos}
@@ -60,3 +62,17 @@ numbers : map (λ t. numberFrom t 1) (bytes "x" ∷ bytes "x7 " ∷ bytes "x007:
     ≡ NoNum ∷ IsNum 7 2 ∷ IsNum 7 4 ∷ IsNum 4294967295 11 ∷ NoNum ∷ NoNum ∷ []
 unfolding numberFrom numberAt decimalFrom run
 numbers = refl
+
+-- by characters: é before a `:`; a before U+3000
+tags-by-characters : map tagOf (((0xC3 ∷ 0xA9 ∷ []) ∷ (58 ∷ []) ∷ []) ∷ ((0x61 ∷ []) ∷ (0xE3 ∷ 0x80 ∷ 0x80 ∷ []) ∷ []) ∷ []) ≡ 2 ∷ 1 ∷ []
+unfolding charRun isWhite codePoint
+tags-by-characters = refl
+
+-- a `:` is passed if it stands there, and no other byte
+colons : map (λ t. colonFrom t 1) (bytes "x:" ∷ bytes "x9" ∷ bytes "x;" ∷ bytes "x" ∷ []) ≡ 2 ∷ 1 ∷ 1 ∷ 1 ∷ []
+colons = refl
+
+-- a process id, and what is skipped, ends at `]`
+insides : map (run isInside) (map bytes ("]" ∷ "4[2\\^]" ∷ "42" ∷ [])) ≡ 0 ∷ 5 ∷ 2 ∷ []
+unfolding run
+insides = refl

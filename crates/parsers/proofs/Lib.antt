@@ -1,4 +1,5 @@
 pub mod Texts
 pub mod Steps
 pub mod Fields
+pub mod ByCharacters
 pub mod Examples

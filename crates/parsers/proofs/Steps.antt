@@ -12,13 +12,13 @@ use Rattle.base.specs.Choose.{if_then_else_, isAt}
 use Rattle.base.specs.Runs.{run}
 use Rattle.base.proofs.Tests.{clash, by-if}
 use Rattle.base.proofs.Parts.{ended, at-below}
-use Rattle.base.proofs.Runs.{run-le, run-none, run-yes, run-no, run-on, run-off, run-out}
+use Rattle.base.proofs.Runs.{run-le, run-none, run-yes, run-no}
 use Rattle.digits.specs.declared.Number.{Number}
 use Rattle.digits.specs.declared.Number.the-variants.{Nothing, Value}
 use Rattle.digits.specs.Digits.{numberAt}
 use Rattle.digits.proofs.Numbers.{number-len}
 use Rattle.parsers.specs.Passed.{digitsPassed}
-use Rattle.parsers.specs.Steps.{isBlank, blanksFrom, someBlanksFrom, byteFrom, moved, numberFrom}
+use Rattle.parsers.specs.Steps.{isBlank, blanksFrom, someBlanksFrom, byteFrom, colonFrom, moved, numberFrom}
 use Rattle.parsers.specs.declared.Num.{Num}
 use Rattle.parsers.specs.declared.Num.the-variants.{NoNum, IsNum}
 use Rattle.parsers.specs.declared.Pos.{Pos}
@@ -56,27 +56,24 @@ module _ (s : List ℕ) (at b : ℕ) (p : 0 < b) where
 
 pub ruleset byte-laws = (byte-no, byte-yes, byte-fits)
 
--- Blanks: behind the first of them, up to `i`
-pub record BlanksAt (s : List ℕ) (at i : ℕ) : Type 0 where
-  pub within-s : i ≤ length s
-  pub whole : blanksFrom s at ≡ i + run isBlank (drop i s)
+-- An optional `:`
+module _ (s : List ℕ) (at : ℕ) (t : Bool) (e : t ≡ isAt s at 58) where
+  module _ (h : t ≡ true) where
+    pub colon-yes : at + 1 ≡ colonFrom s at
+    colon-yes = rw (← e, h)
 
-pub blanks-start : (s : List ℕ) (at : ℕ) → at ≤ length s → BlanksAt s at at
-blanks-start s at h = record { within-s = h; whole = refl }
+    pub colon-fits : length s < 2 ^ 64 → Fits w64 (at + 1)
+    colon-fits l = record { fits = omega (arith, at-there s at 58 (omega arith) (sym e ∙ h)) }
 
-module _ (s : List ℕ) (at i : ℕ) (c : BlanksAt s at i) where
-  pub blanks-out : length s ≤ i → i ≡ blanksFrom s at
-  blanks-out h = run-out isBlank s _ i (c .whole) h
+  pub colon-no : t ≡ false → at ≡ colonFrom s at
+  colon-no h = rw (← e, h)
 
-  module _ (h : i < length s) (t : Bool) (e : t ≡ isBlank (getD s i 0)) where
-    pub blanks-off : not t ≡ true → i ≡ blanksFrom s at
-    blanks-off q = run-off isBlank s _ i (c .whole) h (sym e ∙ not-true t q)
+pub ruleset colon-laws = (colon-yes, colon-fits, colon-no)
 
-    pub blanks-on : not t ≡ false → BlanksAt s at (i + 1)
-    blanks-on q = record { within-s = omega arith; whole = run-on isBlank s _ i (c .whole) h (sym e ∙ not-false t q) }
+pub colon-within : (s : List ℕ) (at : ℕ) → at ≤ length s → colonFrom s at ≤ length s
+colon-within s at h = by-if (λ n. n ≤ length s) (isAt s at 58) _ _ (λ t. let l = at-there s at 58 (omega arith) t in omega arith) (λ t. h)
 
-pub ruleset blanks-laws = (blanks-start, blanks-out, blanks-off, blanks-on)
-
+-- Blanks
 pub blanks-within : (s : List ℕ) (at n : ℕ) → n ≡ blanksFrom s at → at ≤ length s → n ≤ length s
 blanks-within s at n e h = omega (arith, simp length-drop at (run-le isBlank (drop at s)))
 

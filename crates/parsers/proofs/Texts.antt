@@ -138,7 +138,7 @@ host-in s =
     by-if (TextIn (length s)) (isAt s (fieldLen s - 1) 58) _ _ (λ t. given-in s (fieldLen s) (length s) (field-le s) z) λ t.
     absent-in s (fieldLen s) (length s) (field-le s) z
 
-tag-le : (s : List ℕ) → tagLen s ≤ length s
+pub tag-le : (s : List ℕ) → tagLen s ≤ length s
 unfolding tagLen
 tag-le [] = omega arith
 tag-le (b ∷ s) =

@@ -1,3 +1,4 @@
 pub mod Parsers
 pub mod Steps
 pub mod Passed
+pub mod Characters

@@ -1,7 +1,7 @@
 -- Steps of a reader at a position of the line: what was read, and the position behind it. `onX x r k` goes on with k, or answers r where x failed.
 use Prim.Native.Nat.{ℕ, _+_}
 use mathlib.Core.List.{List}
-use mathlib.Core.Bool.{Bool, _||_}
+use mathlib.Core.Bool.{Bool, not, _||_}
 use lib.Dec.{eqb}
 use lib.ListN.{getD, drop}
 use Rattle.base.specs.Choose.{if_then_else_, isAt}
@@ -36,6 +36,14 @@ someBlanksFrom s at = if isBlank (getD s at 0) then IsPos (blanksFrom s at) else
 -- the byte `b`, which is not 0
 unfoldable pub byteFrom : List ℕ → ℕ → ℕ → Pos
 byteFrom s at b = if isAt s at b then IsPos (at + 1) else NoPos
+
+-- an optional `:` is passed
+abbrev pub colonFrom : List ℕ → ℕ → ℕ
+colonFrom s at = if isAt s at 58 then at + 1 else at
+
+-- what comes before a `]`
+abbrev pub isInside : ℕ → Bool
+isInside b = not (eqb b 93)
 
 abbrev pub moved : ℕ → Number → Num
 moved at Nothing = NoNum

@@ -4,8 +4,9 @@ use record::Place;
 ghost use mathlib.Core.Path.{_≡_};
 ghost use Prim.Native.Nat.{_+_, _^_, _≤_, _<_};
 ghost use lib.ListN.{length};
+ghost use Rattle.base.specs.Runs.{run};
 ghost use Rattle.parsers.specs.Parsers.{alone, orAbsent, plainAt, hostAt, tagLen, tagAt};
-ghost use Rattle.parsers.specs.Steps.{isBlank, blanksFrom, someBlanksFrom, byteFrom, moved, numberFrom, placed, plainFrom, hostFrom, tagFrom};
+ghost use Rattle.parsers.specs.Steps.{isBlank, blanksFrom, someBlanksFrom, byteFrom, colonFrom, isInside, moved, numberFrom, placed, plainFrom, hostFrom, tagFrom};
 ghost use Rattle.parsers.specs.Passed.{digitsPassed, textPassed};
 
 // A text at the front of a part: its length, and how many bytes are passed.
@@ -153,6 +154,36 @@ pub fn byte_from(s: &[u8], at: usize, b: u8) -> Pos
         return Pos::NoPos;
     }
     Pos::IsPos(at + 1)
+}
+
+// The position after an optional `:`.
+pub fn colon_from(s: &[u8], at: usize) -> usize
+    ensures { λ r. ⌜ r ≡ colonFrom (now (s .entry)) at ⌝ }
+{
+    if base::is_at(s, at, b':') {
+        return at + 1;
+    }
+    at
+}
+
+fn is_inside(b: u8) -> bool
+    ensures { λ r. ⌜ r ≡ isInside b ⌝ }
+{
+    b != b']'
+}
+
+// How many bytes of `s` come before its first `]`.
+pub fn inside_run(s: &[u8]) -> usize
+    ensures { λ r. ⌜ r ≡ run isInside (now (s .entry)) ⌝ }
+{
+    let mut i = 0;
+    while i < s.len() {
+        if !is_inside(s[i]) {
+            return i;
+        }
+        i += 1;
+    }
+    i
 }
 
 // Digits that were read at `at`, as a number and the position behind it.

@@ -1,4 +1,4 @@
--- 01's priorities, computed from the definition.
+-- RULES Pri as worked examples, computed from the definition.
 use mathlib.Core.Path.{_≡_, refl}
 use mathlib.Core.List.{[], _∷_, map}
 use Rattle.base.specs.Bytes.{bytes}

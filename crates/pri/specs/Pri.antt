@@ -22,7 +22,7 @@ severityOf v = Set (v % 8)
 abbrev pub noPri : Pri
 noPri = record { next = 0; facility = Unset; severity = Unset }
 
--- behind the `<`: a number and the `>`
+-- after the `<`: a number and the `>`
 abbrev pub priAfter : List ℕ → Number → Pri
 priAfter s Nothing = noPri
 priAfter s (Value v n) =

@@ -1,4 +1,4 @@
--- 01's number and values of each case of an answer. Number 0: done; a refusal returns its number, the empty record and zeros.
+-- The number (0: done) and the values of each case of an answer. A refusal has the empty record and zeros (RULES Numbers d).
 use Rattle.record.specs.Refusals.{refusalNumber}
 use Rattle.record.specs.Records.{emptyRecord, emptyStrict}
 use Rattle.record.specs.declared.Reading.{Reading}

@@ -1,3 +1,4 @@
+pub mod Limits
 pub mod Places
 pub mod Params
 pub mod Refusals

@@ -1,4 +1,4 @@
--- The numbers a caller may get back, in the order of 01's table, which is the order in which they are checked.
+-- The numbers a caller may get back, in the order in which they are checked (RULES Numbers).
 use Prim.Native.Nat.{ℕ}
 use Rattle.record.specs.declared.Refusal.{Refusal}
 use Rattle.record.specs.declared.Refusal.the-variants.{LineTooLong, BadSetting, NotUtf8, NoReading, TooManyElements, TooManyParams, Unsuitable, NotFound, OutputShort}

@@ -1,10 +1,13 @@
-// What is read from a line: places, the record, the strict record; and the answers, with 01's refusals.
+// What is read from a line: places, the record, the strict record; and the answers, with their refusals.
 ghost use mathlib.Core.Path.{_≡_};
 ghost use Rattle.record.specs.Places.{absent, place};
 ghost use Rattle.record.specs.Params.{blank};
 ghost use Rattle.record.specs.Refusals.{refusalNumber};
-ghost use Rattle.record.specs.Records.{emptyRecord, emptyStrict};
+ghost use Rattle.record.specs.Records.{messageAlone, emptyRecord, emptyStrict};
 ghost use Rattle.record.specs.Answers.{answerOf, strictAnswerOf, outputAnswerOf};
+
+// How many bytes a line may have.
+pub const LINE_LIMIT: usize = 8192;
 
 // A text of the line. An absent one has start and length 0; an empty one is present.
 pub struct Place {
@@ -71,7 +74,7 @@ pub struct Param {
     pub value_len: usize,
 }
 
-// Why a call is refused, in the order in which 01 checks.
+// Why a call is refused, in the order in which it is checked (RULES Numbers).
 pub enum Refusal {
     LineTooLong,
     BadSetting,
@@ -102,7 +105,7 @@ pub enum Written {
     Refused(Refusal),
 }
 
-// The same answers as 01's number (0: done) and values.
+// The same answers as a number (0: done) and values.
 pub struct Answer {
     pub number: u32,
     pub reading: Record,
@@ -124,6 +127,7 @@ pub struct OutputAnswer {
     pub len: usize,
 }
 
+// The place of a text that is absent.
 pub fn absent() -> Place
     ensures { λ r. ⌜ r ≡ absent ⌝ }
 {
@@ -134,6 +138,7 @@ pub fn absent() -> Place
     }
 }
 
+// The place of a text that is present.
 pub fn place_at(start: usize, len: usize) -> Place
     ensures { λ r. ⌜ r ≡ place start len ⌝ }
 {
@@ -144,6 +149,7 @@ pub fn place_at(start: usize, len: usize) -> Place
     }
 }
 
+// An entry of zeros, as a table has it before it is filled.
 pub fn blank() -> Param
     ensures { λ r. ⌜ r ≡ blank ⌝ }
 {
@@ -156,8 +162,9 @@ pub fn blank() -> Param
     }
 }
 
-pub fn empty_record() -> Record
-    ensures { λ r. ⌜ r ≡ emptyRecord ⌝ }
+// The first `len` bytes of the line as the message, and nothing else.
+pub fn message_alone(len: usize) -> Record
+    ensures { λ r. ⌜ r ≡ messageAlone len ⌝ }
 {
     let none = absent();
     Record {
@@ -169,10 +176,18 @@ pub fn empty_record() -> Record
         app: none,
         procid: none,
         msgid: none,
-        message: Span { start: 0, len: 0 },
+        message: Span { start: 0, len },
     }
 }
 
+// The record of a refusal.
+pub fn empty_record() -> Record
+    ensures { λ r. ⌜ r ≡ emptyRecord ⌝ }
+{
+    message_alone(0)
+}
+
+// The strict record of a refusal.
 pub fn empty_strict() -> StrictRecord
     ensures { λ r. ⌜ r ≡ emptyStrict ⌝ }
 {
@@ -183,6 +198,7 @@ pub fn empty_strict() -> StrictRecord
     }
 }
 
+// The number of a refusal (RULES Numbers).
 pub fn refusal_number(r: Refusal) -> u32
     ensures { λ n. ⌜ n ≡ refusalNumber r ⌝ }
 {
@@ -199,6 +215,7 @@ pub fn refusal_number(r: Refusal) -> u32
     }
 }
 
+// A reading's number and values; a refusal has the empty record and zeros.
 pub fn answer_of(r: Reading) -> Answer
     ensures { λ a. ⌜ a ≡ answerOf r ⌝ }
 {
@@ -218,6 +235,7 @@ pub fn answer_of(r: Reading) -> Answer
     }
 }
 
+// The same of a strict reading.
 pub fn strict_answer_of(r: StrictReading) -> StrictAnswer
     ensures { λ a. ⌜ a ≡ strictAnswerOf r ⌝ }
 {
@@ -237,6 +255,7 @@ pub fn strict_answer_of(r: StrictReading) -> StrictAnswer
     }
 }
 
+// The same of what printing and lookup answer.
 pub fn output_answer_of(w: Written) -> OutputAnswer
     ensures { λ a. ⌜ a ≡ outputAnswerOf w ⌝ }
 {

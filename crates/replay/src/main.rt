@@ -1,6 +1,6 @@
 // Replays a list of the Rust's answers: each line of standard input is a call and what it must answer. Writes what was compared, and each case that differs.
+use case_text::words::say_number;
 use libc::STDIN_FILENO;
-use libc::STDOUT_FILENO;
 ghost use mathlib.Core.Path.{_≡_};
 ghost use Prim.Native.Nat.{_≤_};
 ghost use lib.ListN.{length};
@@ -17,35 +17,25 @@ struct Tally {
 fn reads(text: &[u8], fallback: bool) -> bool {
     let mut line = [0u8; 8704];
     let mut numbers = [0u64; 2048];
-    replayer::case::reading_case(text, fallback, &mut line, &mut numbers)
+    case_text::case::reading_case(text, fallback, &mut line, &mut numbers)
 }
 
 fn prints(text: &[u8]) -> bool {
     let mut line = [0u8; 8704];
     let mut out = [0u8; 16384];
     let mut wanted = [0u8; 16384];
-    replayer::case::printing_case(text, &mut line, &mut out, &mut wanted)
+    case_text::case::printing_case(text, &mut line, &mut out, &mut wanted)
 }
 
 fn looks(text: &[u8]) -> bool {
     let mut line = [0u8; 8704];
     let mut out = [0u8; 8704];
     let mut wanted = [0u8; 8704];
-    replayer::case::looking_case(text, &mut line, &mut out, &mut wanted)
+    case_text::case::looking_case(text, &mut line, &mut out, &mut wanted)
 }
 
 fn one_more(n: u64) -> u64 {
     if n < u64::MAX { n + 1 } else { n }
-}
-
-fn say(text: &[u8]) -> bool {
-    io::write_all(STDOUT_FILENO, text)
-}
-
-fn say_number(before: &[u8], n: u64, behind: &[u8]) {
-    say(before);
-    io::print_decimal(STDOUT_FILENO, n);
-    say(behind);
 }
 
 // Is the case as it should be?
@@ -114,7 +104,7 @@ fn replay_lines(s: State, text: &[u8]) -> State
     let mut t = one_start(s);
     let mut at = 0;
     loop {
-        let end = at + replayer::text::line_len(&text[at..]);
+        let end = at + case_text::text::line_len(&text[at..]);
         if end == text.len() {
             return t;
         }

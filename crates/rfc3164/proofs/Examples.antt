@@ -1,4 +1,4 @@
--- 01's lines, and what runs showed of the Rust, computed from the definitions.
+-- The lines of RULES Cases, and what runs showed of the Rust, computed from the definitions.
 use Prim.Native.Nat.{ℕ}
 use mathlib.Core.Path.{_≡_, refl}
 use mathlib.Core.List.{[], _∷_, map}
@@ -29,8 +29,8 @@ use Rattle.timestamp.specs.Timestamp.{dayFrom, withoutYear, withYear, rfc3164Fr
 use Rattle.structured_data.specs.Param.{quotedLen, paramAt}
 use Rattle.structured_data.specs.Element.{idLen, moreParams, paramsFrom, elementFrom}
 use Rattle.structured_data.specs.Data.{Rows, endAt, itemFrom, elementsFrom, dataFrom}
-use Rattle.structured_data.specs.Outcome.{Outcome}
-use Rattle.structured_data.specs.Outcome.Outcome.{noReading, isReading}
+use Rattle.draft.specs.Outcome.{Outcome}
+use Rattle.draft.specs.Outcome.Outcome.{noReading, isReading}
 use Rattle.rfc3164.specs.Names.{splitAt, splitOf, hostAndTag}
 use Rattle.rfc3164.specs.Rfc3164.{spacedHost, spacedTag, tagEnd, bodyFrom, rfc3164}
 use Rattle.rfc3164.specs.declared.Split.the-variants.{Whole, Parts}

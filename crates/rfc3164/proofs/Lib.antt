@@ -2,5 +2,6 @@ pub mod Splits
 pub mod Hosts
 pub mod Spaced
 pub mod Lines
+pub mod ByCharacters
 pub mod Within
 pub mod Examples

@@ -17,24 +17,27 @@ use Rattle.record.specs.declared.Record.{Record}
 use Rattle.pri.specs.Pri.{priAt}
 use Rattle.pri.specs.declared.Pri.{Pri}
 use Rattle.pri.proofs.Readers.{pri-next}
-use Rattle.parsers.specs.Steps.{blanksFrom}
+use Rattle.parsers.specs.Steps.{blanksFrom, colonFrom}
 use Rattle.parsers.specs.declared.Field.{Field}
+use Rattle.parsers.proofs.Steps as steps
 use Rattle.parsers.proofs.Steps.{blanks-within}
-use Rattle.timestamp.specs.Timestamp.{colonFrom, rfc3164From}
+use Rattle.timestamp.specs.Timestamp.{rfc3164From}
 use Rattle.timestamp.specs.declared.Stamping.{Stamping}
 use Rattle.timestamp.specs.declared.Stamping.the-variants.{NoStamp, IsStamp}
 use Rattle.timestamp.proofs.Answers.{rfc3164-within}
-use Rattle.timestamp.proofs.Within as within
 use Rattle.structured_data.specs.Data.{Data, dataFrom, rowsOr}
 use Rattle.structured_data.specs.Data.Data.{noData, isData}
-use Rattle.structured_data.specs.Outcome.{countsOf, draftOf}
+use Rattle.structured_data.specs.Tables.{countsOf}
 use Rattle.structured_data.specs.declared.Rules.the-variants.{Rfc3164Rules}
 use Rattle.structured_data.specs.declared.Counts.{Counts}
 use Rattle.structured_data.specs.declared.Counts.the-variants.{NoData, IsData}
-use Rattle.structured_data.specs.declared.Draft.{Draft}
-use Rattle.structured_data.specs.declared.Draft.the-variants.{NoDraft, IsDraft}
+use Rattle.draft.specs.Outcome.Outcome.{noReading}
+use Rattle.draft.specs.Drafts.{draftOf}
+use Rattle.draft.specs.declared.Draft.{Draft}
+use Rattle.draft.specs.declared.Draft.the-variants.{NoDraft, IsDraft}
+use Rattle.draft.proofs.Outcomes.{RowsIn}
 use Rattle.rfc3164.specs.Names.{hostAndTag}
-use Rattle.rfc3164.specs.Rfc3164.{spacedHost, spacedTag, behindField, tagEnd, bodyFrom, rfc3164}
+use Rattle.rfc3164.specs.Rfc3164.{spacedHost, spacedTag, behindField, tagEnd, bodyFrom, onStamping, rfc3164}
 use Rattle.rfc3164.specs.Steps.{taggedFrom, headerFrom, restOf, restFrom, recordOf}
 use Rattle.rfc3164.specs.declared.Names.{Names}
 use Rattle.rfc3164.specs.declared.Header.{Header}
@@ -45,7 +48,7 @@ use Rattle.structured_data.proofs.Within.{data-within}
 -- behind the tag
 module _ (s : List ℕ) (at a b : ℕ) (ea : a ≡ blanksFrom s at) (eb : b ≡ colonFrom s a) where
   pub colon-within : at ≤ length s → b ≤ length s
-  colon-within h = rw eb (within.colon-within s a (blanks-within s at a ea h))
+  colon-within h = rw eb (steps.colon-within s a (blanks-within s at a ea h))
 
   pub tag-end-is : (n : ℕ) → n ≡ blanksFrom s b → n ≡ tagEnd s at
   unfolding tagEnd
@@ -128,7 +131,7 @@ record-is pri stamp names message n e = rw e
 
 pub body-is : (pri : Pri) (stamp : Stamp) (s : List ℕ) (at : ℕ) (h : Header) → h ≡ headerFrom s at → (r : Rest) → r ≡ restFrom s (h .next)
     → (x : Record) → x ≡ recordOf pri stamp (h .names) (record { start = r .message; len = length s - r .message })
-    → IsDraft x (h .next) (r .elements) (r .params) ≡ draftOf (bodyFrom pri stamp s at)
+    → IsDraft Rfc3164Rules x (h .next) (r .elements) (r .params) ≡ draftOf (bodyFrom pri stamp s at)
 unfolding bodyFrom
 body-is pri stamp s at h eh r er x ex = rw (ex, er, eh)
 
@@ -163,3 +166,12 @@ module _ (year : ℕ) (o : ℤ) (s : List ℕ) (start : ℕ) (u : List ℕ) (eu 
         line-is r e = e ∙ rw (← eu, ← ep, ← en, ← stamping, z)
 
 pub ruleset line-laws = (pri-within, pri-fits, stamp-at, line-none, stamp-within, line-is)
+
+-- the rows of a reading
+pub line-rows : (year : ℕ) (o : ℤ) (s : List ℕ) (start : ℕ) → RowsIn s (rfc3164 year o s start)
+unfolding rfc3164 bodyFrom
+line-rows year o s start = go (rfc3164From year o s (blanksFrom s (start + priAt (drop start s) .next)))
+  where
+    go : (g : Stamping) → RowsIn s (onStamping g noReading (λ stamp a. bodyFrom (priAt (drop start s)) stamp s a))
+    go NoStamp = tt
+    go (IsStamp t a) = refl

@@ -15,7 +15,7 @@ use Rattle.base.proofs.Tests.{clash}
 use Rattle.base.proofs.Parts.{at-below}
 use Rattle.base.proofs.Runs.{run-le}
 use Rattle.record.specs.declared.Place.{Place}
-use Rattle.structured_data.specs.Steps.{isInside}
+use Rattle.parsers.specs.Steps.{isInside}
 use Rattle.rfc3164.specs.Names.{isApp, splitAt, splitOf}
 use Rattle.rfc3164.specs.Steps.{closesAt}
 use Rattle.rfc3164.specs.declared.Split.{Split}

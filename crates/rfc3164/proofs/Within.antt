@@ -3,27 +3,18 @@ use Prim.Native.Nat.{ℕ, _+_, _≤_}
 use mathlib.Core.Path.{_≡_, refl}
 use mathlib.Core.List.{List}
 use native.Mathlib.Omega.{arith}
-use lib.ListN.{length, drop}
-use lib.IntN.{ℤ}
+use lib.ListN.{length}
 use Rattle.base.proofs.Tests.{by-if}
 use Rattle.record.specs.declared.Place.{Place}
 use Rattle.record.specs.declared.Stamp.{Stamp}
 use Rattle.record.specs.declared.Record.{Record}
-use Rattle.pri.specs.Pri.{priAt}
 use Rattle.pri.specs.declared.Pri.{Pri}
-use Rattle.parsers.specs.Steps.{blanksFrom}
 use Rattle.parsers.specs.declared.Field.{Field}
 use Rattle.parsers.specs.declared.Field.the-variants.{NoField, IsField}
-use Rattle.timestamp.specs.Timestamp.{rfc3164From}
-use Rattle.timestamp.specs.declared.Stamping.{Stamping}
-use Rattle.timestamp.specs.declared.Stamping.the-variants.{NoStamp, IsStamp}
-use Rattle.timestamp.proofs.Answers.{rfc3164-within}
-use Rattle.structured_data.specs.Outcome.{draftOf}
-use Rattle.structured_data.specs.Outcome.Outcome.{noReading}
-use Rattle.structured_data.specs.declared.Draft.{Draft}
-use Rattle.structured_data.specs.declared.Draft.the-variants.{NoDraft, IsDraft}
+use Rattle.draft.specs.Outcome.{Outcome}
+use Rattle.draft.specs.Outcome.Outcome.{noReading, isReading}
 use Rattle.rfc3164.specs.Names.{splitOf, noNames, withTag, onlyField, hostAndTag}
-use Rattle.rfc3164.specs.Rfc3164.{spacedHost, spacedTag, behindField, bodyFrom, onStamping, rfc3164}
+use Rattle.rfc3164.specs.Rfc3164.{spacedHost, spacedTag, behindField, bodyFrom}
 use Rattle.rfc3164.specs.Steps.{FieldWithin, headerFrom, restFrom}
 use Rattle.rfc3164.specs.declared.Split.{Split}
 use Rattle.rfc3164.specs.declared.Split.the-variants.{Whole, Parts}
@@ -74,11 +65,11 @@ pub record RecordIn (n : ℕ) (r : Record) (at : ℕ) : Type 0 where
   pub msgid-in : PlaceIn n (r .msgid)
   pub message-in : r .message .start + r .message .len ≤ n
 
-abbrev pub DraftIn : ℕ → Draft → Type 0
-DraftIn n NoDraft = Unit {0}
-DraftIn n (IsDraft r at e p) = RecordIn n r at
+abbrev OutcomeIn : ℕ → Outcome → Type 0
+OutcomeIn n noReading = Unit {0}
+OutcomeIn n (isReading r at rows) = RecordIn n r at
 
-pub body-in : (pri : Pri) (stamp : Stamp) (s : List ℕ) (at : ℕ) → at ≤ length s → DraftIn (length s) (draftOf (bodyFrom pri stamp s at))
+pub body-in : (pri : Pri) (stamp : Stamp) (s : List ℕ) (at : ℕ) → at ≤ length s → OutcomeIn (length s) (bodyFrom pri stamp s at)
 unfolding bodyFrom
 body-in pri stamp s at h =
     let host = spacedHost s at in
@@ -94,19 +85,3 @@ body-in pri stamp s at h =
       msgid-in = omega arith;
       message-in = omega arith;
     }
-
-pub rfc3164-in : (year : ℕ) (o : ℤ) (s : List ℕ) (start : ℕ) → DraftIn (length s) (draftOf (rfc3164 year o s start))
-unfolding rfc3164
-rfc3164-in year o s start = go (rfc3164From year o s n) refl
-  where
-    n : ℕ
-    n = blanksFrom s (start + (priAt (drop start s)) .next)
-
-    go : (g : Stamping) → g ≡ rfc3164From year o s n → DraftIn (length s) (draftOf (onStamping g noReading (λ stamp a. bodyFrom (priAt (drop start s)) stamp s a)))
-    go NoStamp e = tt
-    go (IsStamp t a) e = body-in (priAt (drop start s)) t s a (rfc3164-within s n (IsStamp t a) t a refl year o e)
-
--- as a caller needs it
-pub record-in : (year : ℕ) (o : ℤ) (s : List ℕ) (start : ℕ) (g : Draft) → g ≡ draftOf (rfc3164 year o s start)
-    → (r : Record) (at e p : ℕ) → g ≡ IsDraft r at e p → RecordIn (length s) r at
-record-in year o s start g eg r at e p z = rw (← eg, z) at (rfc3164-in year o s start)

@@ -1,3 +1,4 @@
 pub mod Names
 pub mod Rfc3164
 pub mod Steps
+pub mod Characters

@@ -8,6 +8,7 @@ use Rattle.base.specs.Choose.{if_then_else_, isAt}
 use Rattle.base.specs.Runs.{run}
 use Rattle.record.specs.Places.{absent, place}
 use Rattle.record.specs.declared.Place.{Place}
+use Rattle.parsers.specs.Steps.{isInside}
 use Rattle.parsers.specs.declared.Field.{Field}
 use Rattle.parsers.specs.declared.Field.the-variants.{NoField, IsField}
 use Rattle.rfc3164.specs.declared.Split.{Split}
@@ -23,7 +24,7 @@ isApp b = not (eqb b 58 || eqb b 91)
 unfoldable pub splitAt : List ℕ → Split
 splitAt t =
     let a = run isApp t in
-    let p = run (λ b. not (eqb b 93)) (drop (a + 1) t) in
+    let p = run isInside (drop (a + 1) t) in
     if isAt t a 91 && leb 1 p && isAt t (a + 1 + p) 93 && eqb (a + p + 2) (length t) then Parts a p else Whole
 
 -- the split of a place of the line

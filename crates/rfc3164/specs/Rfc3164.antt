@@ -9,16 +9,16 @@ use Rattle.record.specs.declared.Stamp.{Stamp}
 use Rattle.record.specs.declared.Protocol.the-variants.{Rfc3164}
 use Rattle.pri.specs.Pri.{priAt}
 use Rattle.pri.specs.declared.Pri.{Pri}
-use Rattle.parsers.specs.Steps.{blanksFrom, byteFrom, hostFrom, tagFrom, onPos}
+use Rattle.parsers.specs.Steps.{blanksFrom, byteFrom, colonFrom, hostFrom, tagFrom, onPos}
 use Rattle.parsers.specs.declared.Field.{Field}
 use Rattle.parsers.specs.declared.Field.the-variants.{NoField, IsField}
-use Rattle.timestamp.specs.Timestamp.{colonFrom, rfc3164From}
+use Rattle.timestamp.specs.Timestamp.{rfc3164From}
 use Rattle.timestamp.specs.declared.Stamping.{Stamping}
 use Rattle.timestamp.specs.declared.Stamping.the-variants.{NoStamp, IsStamp}
 use Rattle.structured_data.specs.Data.{dataFrom, rowsOr}
-use Rattle.structured_data.specs.Outcome.{Outcome}
-use Rattle.structured_data.specs.Outcome.Outcome.{noReading, isReading}
 use Rattle.structured_data.specs.declared.Rules.the-variants.{Rfc3164Rules}
+use Rattle.draft.specs.Outcome.{Outcome}
+use Rattle.draft.specs.Outcome.Outcome.{noReading, isReading}
 use Rattle.rfc3164.specs.Names.{hostAndTag}
 
 -- one space and a field

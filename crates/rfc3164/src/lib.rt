@@ -1,4 +1,5 @@
 // rfc3164.rs: a line by the rules of RFC 3164.
+use draft::Draft;
 use parsers::Field;
 use parsers::Pos;
 use pri::Pri;
@@ -8,7 +9,6 @@ use record::Record;
 use record::Span;
 use record::Stamp;
 use structured_data::Counts;
-use structured_data::Draft;
 use structured_data::Rules;
 use timestamp::Stamping;
 ghost use mathlib.Core.Path.{_≡_};
@@ -16,7 +16,7 @@ ghost use Prim.Native.Nat.{_+_, _≤_};
 ghost use lib.ListN.{length};
 ghost use Rattle.base.specs.Choose.{if_then_else_};
 ghost use Rattle.base.specs.Runs.{run};
-ghost use Rattle.structured_data.specs.Outcome.{draftOf};
+ghost use Rattle.draft.specs.Drafts.{draftOf};
 ghost use Rattle.rfc3164.specs.Names.{isApp, splitAt, splitOf, noNames, withTag, onlyField, hostAndTag};
 ghost use Rattle.rfc3164.specs.Rfc3164.{spacedHost, spacedTag, behindField, tagEnd, bodyFrom, rfc3164};
 ghost use Rattle.rfc3164.specs.Steps.{closesAt, FieldWithin, taggedFrom, headerFrom, restFrom, recordOf};
@@ -86,7 +86,7 @@ fn split_at(s: &[u8]) -> Split
         return Split::Whole;
     }
     let start = app + 1;
-    let pid = structured_data::inside_run(base::past(s, start));
+    let pid = parsers::inside_run(base::past(s, start));
     if pid == 0 {
         return Split::Whole;
     }
@@ -216,7 +216,7 @@ fn tag_end(s: &[u8], at: usize) -> usize
     ensures { λ r. ⌜ r ≡ tagEnd (now (s .entry)) at ⌝ }
 {
     let colon = parsers::blanks_from(s, at);
-    let next = timestamp::colon_from(s, colon);
+    let next = parsers::colon_from(s, colon);
     parsers::blanks_from(s, next)
 }
 
@@ -304,7 +304,13 @@ fn body_from(pri: Pri, stamp: Stamp, s: &[u8], at: usize) -> Draft
         len: s.len() - start,
     };
     let read = record_of(pri, stamp, names, message);
-    Draft::IsDraft(read, data, rest.elements, rest.params)
+    Draft::IsDraft {
+        rules: Rules::Rfc3164Rules,
+        read,
+        at: data,
+        elements: rest.elements,
+        params: rest.params,
+    }
 }
 
 // The line from `start` on.

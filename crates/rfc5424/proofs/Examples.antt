@@ -1,4 +1,4 @@
--- 01's sentences on RFC 5424 lines as worked examples, computed from the definition.
+-- RULES Rfc5424 as worked examples, computed from the definition.
 use Prim.Native.Nat.{ℕ}
 use mathlib.Core.Path.{_≡_, refl}
 use mathlib.Core.List.{List, [], _∷_, map}
@@ -25,8 +25,8 @@ use Rattle.timestamp.specs.Rfc3339.{fixedFrom, eitherFrom, dateFrom, timeFrom, 
 use Rattle.structured_data.specs.Param.{quotedLen, paramAt}
 use Rattle.structured_data.specs.Element.{idLen, moreParams, paramsFrom, elementFrom}
 use Rattle.structured_data.specs.Data.{itemFrom, elementsFrom, dataFrom}
-use Rattle.structured_data.specs.Outcome.{Outcome}
-use Rattle.structured_data.specs.Outcome.Outcome.{noReading, isReading}
+use Rattle.draft.specs.Outcome.{Outcome}
+use Rattle.draft.specs.Outcome.Outcome.{noReading, isReading}
 use Rattle.rfc5424.specs.Rfc5424.{blankHost, blankPlain, startFrom, fourFrom, bodyFrom, rfc5424}
 
 -- priority, version, timestamp, host, app, process id and message id; where the structured data stands, its rows and its end; the message

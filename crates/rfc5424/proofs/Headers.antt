@@ -4,6 +4,7 @@ use mathlib.Core.Path.{_≡_, refl, _∙_}
 use mathlib.Core.List.{List}
 use native.Mathlib.Omega.{arith}
 use lib.ListN.{length}
+use Rattle.calendar.specs.Calendar.{offsetLimit}
 use Rattle.record.specs.declared.Place.{Place}
 use Rattle.record.specs.declared.Stamp.{Stamp}
 use Rattle.parsers.specs.Steps.{someBlanksFrom, numberFrom, hostFrom, plainFrom, onPos, onField}
@@ -76,7 +77,7 @@ FieldWithin n (IsField p k) = FieldIn n p k
 
 abbrev StartWithin : ℕ → Start → Type 0
 StartWithin n NoStart = Unit {0}
-StartWithin n (IsStart v t k) = StampIn 1439 t × (k ≤ n)
+StartWithin n (IsStart v t k) = StampIn offsetLimit t × (k ≤ n)
 
 pub record FourIn (n : ℕ) (h a p m : Place) (k : ℕ) : Type 0 where
   pub host-in : h .start + h .len ≤ n
@@ -110,12 +111,12 @@ module _ (s : List ℕ) (at : ℕ) where
       on-pos (StartWithin (length s)) (someBlanksFrom s a) _ _ tt λ b f.
       go v (rfc3339From s b) (λ t n z. (rfc3339-stamp s b _ t n z refl, rfc3339-within s b _ t n z refl))
     where
-      go : (v : ℕ) (r : Stamping) → ((t : Stamp) (n : ℕ) → r ≡ IsStamp t n → StampIn 1439 t × (n ≤ length s)) → StartWithin (length s) (startOf v r)
+      go : (v : ℕ) (r : Stamping) → ((t : Stamp) (n : ℕ) → r ≡ IsStamp t n → StampIn offsetLimit t × (n ≤ length s)) → StartWithin (length s) (startOf v r)
       go v NoStamp h = tt
       go v (IsStamp t n) h = h t n refl
 
   module _ (g : Start) (e : g ≡ startFrom s at) (v : ℕ) (t : Stamp) (n : ℕ) (z : g ≡ IsStart v t n) where
-    pub start-stamp : StampIn 1439 t
+    pub start-stamp : StampIn offsetLimit t
     start-stamp = (rw (← e, z) at start-in) .0
 
     pub start-within : n ≤ length s

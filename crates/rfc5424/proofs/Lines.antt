@@ -1,4 +1,4 @@
--- A line: behind the timestamp, and from its start; by what decides each, and what a reading says of its structured data.
+-- A line: behind the timestamp, and from its start; by what decides each, and the rows of a reading.
 use Prim.Native.Nat.{ℕ, _+_, _-_, _^_, _≤_, _<_}
 use mathlib.Core.Path.{_≡_, refl, sym, _∙_}
 use mathlib.Core.List.{List}
@@ -8,7 +8,6 @@ use mir.Syntax.{w64}
 use mir.Val.{Fits}
 use Rattle.record.specs.declared.Place.{Place}
 use Rattle.record.specs.declared.Stamp.{Stamp}
-use Rattle.record.specs.declared.Record.{Record}
 use Rattle.record.specs.declared.Protocol.the-variants.{Rfc5424}
 use Rattle.pri.specs.Pri.{priAt}
 use Rattle.pri.specs.declared.Pri.{Pri}
@@ -17,13 +16,16 @@ use Rattle.parsers.specs.Steps.{blanksFrom}
 use Rattle.parsers.proofs.Steps.{blanks-within}
 use Rattle.structured_data.specs.Data.{Rows, Data, dataFrom}
 use Rattle.structured_data.specs.Data.Data.{noData, isData}
-use Rattle.structured_data.specs.Outcome.{Outcome, countsOf, draftOf}
-use Rattle.structured_data.specs.Outcome.Outcome.{noReading, isReading}
+use Rattle.structured_data.specs.Tables.{countsOf}
 use Rattle.structured_data.specs.declared.Rules.the-variants.{Rfc5424Rules}
 use Rattle.structured_data.specs.declared.Counts.{Counts}
 use Rattle.structured_data.specs.declared.Counts.the-variants.{NoData, IsData}
-use Rattle.structured_data.specs.declared.Draft.{Draft}
-use Rattle.structured_data.specs.declared.Draft.the-variants.{NoDraft, IsDraft}
+use Rattle.draft.specs.Outcome.{Outcome}
+use Rattle.draft.specs.Outcome.Outcome.{noReading}
+use Rattle.draft.specs.Drafts.{draftOf}
+use Rattle.draft.specs.declared.Draft.{Draft}
+use Rattle.draft.specs.declared.Draft.the-variants.{NoDraft, IsDraft}
+use Rattle.draft.proofs.Outcomes.{RowsIn}
 use Rattle.rfc5424.specs.Rfc5424.{startFrom, onStart, fourFrom, onFour, onData, bodyFrom, rfc5424}
 use Rattle.rfc5424.specs.declared.Start.{Start}
 use Rattle.rfc5424.specs.declared.Start.the-variants.{NoStart, IsStart}
@@ -61,7 +63,7 @@ module _ (pri : Pri) (version : ℕ) (stamp : Stamp) (s : List ℕ) (at : ℕ) (
           (λ rows ed en em ex. rw ex (rows-within Rfc5424Rules s b rows ed (blanks-within s a b eb (four-within s at f e host app procid msgid a z))))
 
       pub body-is : (message : ℕ) → message ≡ blanksFrom s next
-          → IsDraft (record {
+          → IsDraft Rfc5424Rules (record {
             protocol = Rfc5424 version;
             facility = pri .facility;
             severity = pri .severity;
@@ -100,15 +102,7 @@ module _ (s : List ℕ) (start : ℕ) (h : start ≤ length s) (p : List ℕ) (e
 
 pub ruleset line-laws = (line-pri, line-fits, line-no-start, line-is, start-within)
 
--- What a reading says of its structured data: where it stands lies in the line, and the rows are those of the rules there.
-pub record Found (s : List ℕ) (at : ℕ) (rows : Rows) : Type 0 where
-  pub within-line : at ≤ length s
-  pub are : dataFrom Rfc5424Rules s at ≡ isData rows
-
-abbrev FoundIn : List ℕ → Outcome → Type 0
-FoundIn s noReading = Unit {0}
-FoundIn s (isReading r at rows) = Found s at rows
-
+-- What holds of a failure, and of whatever a step's answer leads to, holds of the whole.
 module _ (P : Outcome → Type 0) where
   pub on-start : (x : Start) (r : Outcome) (k : ℕ → Stamp → ℕ → Outcome) → P r
       → ((v : ℕ) (t : Stamp) (n : ℕ) → x ≡ IsStart v t n → P (k v t n)) → P (onStart x r k)
@@ -124,17 +118,15 @@ module _ (P : Outcome → Type 0) where
   on-data noData r k a b = a
   on-data (isData rows) r k a b = b rows refl
 
-body-found : (pri : Pri) (version : ℕ) (stamp : Stamp) (s : List ℕ) (at : ℕ) → FoundIn s (bodyFrom pri version stamp s at)
+body-rows : (pri : Pri) (version : ℕ) (stamp : Stamp) (s : List ℕ) (at : ℕ) → RowsIn s (bodyFrom pri version stamp s at)
 unfolding bodyFrom
-body-found pri version stamp s at =
-    on-four (FoundIn s) (fourFrom s at) _ _ tt λ host app procid msgid a e.
-    on-data (FoundIn s) (dataFrom Rfc5424Rules s (blanksFrom s a)) _ _ tt λ rows f.
-    record { within-line = blanks-within s a _ refl (four-within s at _ refl host app procid msgid a e); are = f }
+body-rows pri version stamp s at =
+    on-four (RowsIn s) (fourFrom s at) _ _ tt λ host app procid msgid a e.
+    on-data (RowsIn s) (dataFrom Rfc5424Rules s (blanksFrom s a)) _ _ tt λ rows f.
+    rw f
 
-module _ (s : List ℕ) (start : ℕ) where
-  line-found : FoundIn s (rfc5424 s start)
-  unfolding rfc5424
-  line-found = on-start (FoundIn s) (startFrom s (start + priAt (drop start s) .next)) _ _ tt λ version stamp a e. body-found _ version stamp s a
-
-  pub found : (r : Record) (at : ℕ) (rows : Rows) → rfc5424 s start ≡ isReading r at rows → Found s at rows
-  found r at rows e = rw e at line-found
+pub line-rows : (s : List ℕ) (start : ℕ) → RowsIn s (rfc5424 s start)
+unfolding rfc5424
+line-rows s start =
+    on-start (RowsIn s) (startFrom s (start + priAt (drop start s) .next)) _ _ tt λ version stamp a e.
+    body-rows (priAt (drop start s)) version stamp s a

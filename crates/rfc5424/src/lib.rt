@@ -1,4 +1,5 @@
 // rfc5424.rs: a line by the loose rules of RFC 5424.
+use draft::Draft;
 use parsers::Field;
 use parsers::Num;
 use parsers::Pos;
@@ -9,13 +10,12 @@ use record::Record;
 use record::Span;
 use record::Stamp;
 use structured_data::Counts;
-use structured_data::Draft;
 use structured_data::Rules;
 use timestamp::Stamping;
 ghost use mathlib.Core.Path.{_≡_};
 ghost use Prim.Native.Nat.{_≤_};
 ghost use lib.ListN.{length};
-ghost use Rattle.structured_data.specs.Outcome.{draftOf};
+ghost use Rattle.draft.specs.Drafts.{draftOf};
 ghost use Rattle.rfc5424.specs.Rfc5424.{blankHost, blankPlain, startFrom, fourFrom, bodyFrom, rfc5424};
 
 // The version, the timestamp, and the position behind them.
@@ -123,7 +123,13 @@ fn body_from(pri: Pri, version: u32, stamp: Stamp, s: &[u8], at: usize) -> Draft
             len: s.len() - message,
         },
     };
-    Draft::IsDraft(read, b, elements, params)
+    Draft::IsDraft {
+        rules: Rules::Rfc5424Rules,
+        read,
+        at: b,
+        elements,
+        params,
+    }
 }
 
 // The line from `start` on, where the trimmed line starts.

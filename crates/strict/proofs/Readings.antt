@@ -11,6 +11,7 @@ use borrow.Author.Tests.{lt-ltb, le-ltb, ltb-true, ltb-false}
 use Rattle.base.specs.Choose.{if_then_else_, isAt}
 use Rattle.base.specs.Fills.{filled}
 use Rattle.base.proofs.Tests.{clash}
+use Rattle.record.specs.Limits.{lineLimit}
 use Rattle.grammar.specs.Line.{Division, Element, dataThen, messageText, Derives}
 use Rattle.grammar.specs.Parse.{Parsed, parse, structured}
 use Rattle.grammar.specs.Parse.Parsed.{failed, found}
@@ -20,7 +21,7 @@ use Rattle.grammar.proofs.Readers.{text-over}
 use Rattle.grammar.proofs.Header.{headerThen, HeaderOk, header-reads}
 use Rattle.grammar.proofs.Data.{data-reads}
 use Rattle.grammar.proofs.Lines.{headerOf, parse-sound, none-derived}
-use Rattle.elements.specs.Filling.{elementsAt, elementsOf, Fillable}
+use Rattle.strict_data.specs.Filling.{elementsAt, elementsOf, Fillable}
 use Rattle.record.specs.declared.StrictReading.{StrictReading}
 use Rattle.record.specs.declared.StrictReading.the-variants.{Read, Refused}
 use Rattle.record.specs.declared.StrictRecord.{StrictRecord}
@@ -84,28 +85,28 @@ data-found line d h =
 
 -- in the order in which they are checked
 module _ (line : List ℕ) (e p : ℕ) where
-  pub judge-long : 8192 < length line → Refuse LineTooLong ≡ judged line e p
+  pub judge-long : lineLimit < length line → Refuse LineTooLong ≡ judged line e p
   unfolding judged
-  judge-long h = rw (lt-ltb 8192 (length line) h)
+  judge-long h = rw (lt-ltb lineLimit (length line) h)
 
-  module _ (short : length line ≤ 8192) (f : Scan) (q : f ≡ scanOf (parse line)) where
+  module _ (short : length line ≤ lineLimit) (f : Scan) (q : f ≡ scanOf (parse line)) where
     pub judge-none : f ≡ NoScan → Refuse NoReading ≡ judged line e p
     unfolding judged
-    judge-none h = rw (le-ltb 8192 (length line) short, ← q, h)
+    judge-none h = rw (le-ltb lineLimit (length line) short, ← q, h)
 
     module _ (r : StrictRecord) (at len n k : ℕ) (h : f ≡ IsScan r at len n k) where
       pub judge-elements : e < n → Refuse TooManyElements ≡ judged line e p
       unfolding judged
-      judge-elements l = rw (le-ltb 8192 (length line) short, ← q, h, lt-ltb e n l)
+      judge-elements l = rw (le-ltb lineLimit (length line) short, ← q, h, lt-ltb e n l)
 
       module _ (room : n ≤ e) where
         pub judge-params : p < k → Refuse TooManyParams ≡ judged line e p
         unfolding judged
-        judge-params l = rw (le-ltb 8192 (length line) short, ← q, h, le-ltb e n room, lt-ltb p k l)
+        judge-params l = rw (le-ltb lineLimit (length line) short, ← q, h, le-ltb e n room, lt-ltb p k l)
 
         pub judge-fits : k ≤ p → Fitting r at len n k ≡ judged line e p
         unfolding judged
-        judge-fits l = rw (le-ltb 8192 (length line) short, ← q, h, le-ltb e n room, le-ltb p k l)
+        judge-fits l = rw (le-ltb lineLimit (length line) short, ← q, h, le-ltb e n room, le-ltb p k l)
 
 pub ruleset judge-laws = (judge-long, judge-none, judge-elements, judge-params, judge-fits)
 
@@ -140,13 +141,13 @@ answer-is line e p j q x h = h ∙ ap readingOf q
 
 -- what a judgement says of the line
 record Fits (line : List ℕ) (e p : ℕ) (r : StrictRecord) (at len n k : ℕ) : Type 0 where
-  short : length line ≤ 8192
+  short : length line ≤ lineLimit
   division : Divided line r at len n k
   room : n ≤ e
   space : k ≤ p
 
 module _ (line : List ℕ) (e₀ p₀ : List (List ℕ)) where
-  module _ (short : length line ≤ 8192) (r : StrictRecord) (at len n k : ℕ) (w : Divided line r at len n k) where
+  module _ (short : length line ≤ lineLimit) (r : StrictRecord) (at len n k : ℕ) (w : Divided line r at len n k) where
     elements-refused : length e₀ < n → StrictReads line e₀ p₀ (Refused TooManyElements) e₀ p₀
     elements-refused l = elements-over (w .into-fields) short (w .derived) (rw (w .elements-counted) at l) refl refl refl
 
@@ -158,7 +159,7 @@ module _ (line : List ℕ) (e₀ p₀ : List (List ℕ)) where
     abbrev Refuses : Type 0
     Refuses = StrictReads line e₀ p₀ (Refused x) e₀ p₀
 
-    refused-fitting : length line ≤ 8192 → (o : Scan) → o ≡ scanOf (parse line) → fitting o (length e₀) (length p₀) ≡ Refuse x → Refuses
+    refused-fitting : length line ≤ lineLimit → (o : Scan) → o ≡ scanOf (parse line) → fitting o (length e₀) (length p₀) ≡ Refuse x → Refuses
     refused-fitting short NoScan eo h =
         let q : x ≡ NoReading = cc in
         rw q (underivable short (none-derived line (none-scanned (parse line) NoScan eo refl)) refl refl refl)
@@ -176,14 +177,14 @@ module _ (line : List ℕ) (e₀ p₀ : List (List ℕ)) where
 
     refused-reads : judged line (length e₀) (length p₀) ≡ Refuse x → Refuses
     unfolding judged
-    refused-reads h = go (ltb 8192 (length line)) refl h
+    refused-reads h = go (ltb lineLimit (length line)) refl h
       where
-        go : (b : Bool) → ltb 8192 (length line) ≡ b → (if b then Refuse LineTooLong else fitting (scanOf (parse line)) (length e₀) (length p₀)) ≡ Refuse x → Refuses
-        go true eb g = let q : x ≡ LineTooLong = cc in rw q (too-long (ltb-true 8192 (length line) eb) refl refl refl)
-        go false eb g = refused-fitting (ltb-false 8192 (length line) eb) (scanOf (parse line)) refl g
+        go : (b : Bool) → ltb lineLimit (length line) ≡ b → (if b then Refuse LineTooLong else fitting (scanOf (parse line)) (length e₀) (length p₀)) ≡ Refuse x → Refuses
+        go true eb g = let q : x ≡ LineTooLong = cc in rw q (too-long (ltb-true lineLimit (length line) eb) refl refl refl)
+        go false eb g = refused-fitting (ltb-false lineLimit (length line) eb) (scanOf (parse line)) refl g
 
   module _ (r : StrictRecord) (at len n k : ℕ) where
-    fits-scan : length line ≤ 8192 → (o : Scan) → o ≡ scanOf (parse line) → fitting o (length e₀) (length p₀) ≡ Fitting r at len n k → Fits line (length e₀) (length p₀) r at len n k
+    fits-scan : length line ≤ lineLimit → (o : Scan) → o ≡ scanOf (parse line) → fitting o (length e₀) (length p₀) ≡ Fitting r at len n k → Fits line (length e₀) (length p₀) r at len n k
     fits-scan short NoScan eo h = let z : _≡_ {A = ℕ} 0 1 = cc in absurd (omega arith)
     fits-scan short (IsScan r′ at′ len′ n′ k′) eo h = go (ltb (length e₀) n′) (ltb (length p₀) k′) refl refl h
       where
@@ -204,12 +205,12 @@ module _ (line : List ℕ) (e₀ p₀ : List (List ℕ)) where
 
     fits : judged line (length e₀) (length p₀) ≡ Fitting r at len n k → Fits line (length e₀) (length p₀) r at len n k
     unfolding judged
-    fits h = go (ltb 8192 (length line)) refl h
+    fits h = go (ltb lineLimit (length line)) refl h
       where
-        go : (b : Bool) → ltb 8192 (length line) ≡ b → (if b then Refuse LineTooLong else fitting (scanOf (parse line)) (length e₀) (length p₀)) ≡ Fitting r at len n k
+        go : (b : Bool) → ltb lineLimit (length line) ≡ b → (if b then Refuse LineTooLong else fitting (scanOf (parse line)) (length e₀) (length p₀)) ≡ Fitting r at len n k
             → Fits line (length e₀) (length p₀) r at len n k
         go true eb g = let z : _≡_ {A = ℕ} 0 1 = cc in absurd (omega arith)
-        go false eb g = fits-scan (ltb-false 8192 (length line) eb) (scanOf (parse line)) refl g
+        go false eb g = fits-scan (ltb-false lineLimit (length line) eb) (scanOf (parse line)) refl g
 
     module _ (c : Fits line (length e₀) (length p₀) r at len n k) where
       found-there : structured (drop at line) ≡ found (c .division .into-fields .elements) len

@@ -9,6 +9,7 @@ use lib.ListN.{length, drop, length-append, length-drop}
 use mir.Syntax.{w64}
 use mir.Val.{Fits}
 use Rattle.base.proofs.Tests.{clash}
+use Rattle.record.specs.Limits.{lineLimit}
 use Rattle.grammar.specs.Line.{Element, Timestamp, timestampThen, dataThen, TimestampOk, Division}
 use Rattle.grammar.specs.Parse.{Header, header, structured, message, parse, divisionOf, _next_, into, choose, atEnd}
 use Rattle.grammar.specs.Parse.Parsed.{failed, found}
@@ -16,19 +17,19 @@ use Rattle.grammar.specs.Reading.{recordOf, dataAt, timestampAt, timestampPlace
 use Rattle.grammar.proofs.Readers.{text-length}
 use Rattle.grammar.proofs.Header.{full-reads, headerThen, HeaderOk, header-reads}
 use Rattle.grammar.proofs.Data.{data-reads}
-use Rattle.header.specs.Header.{headerAt, heading, textPlace}
-use Rattle.header.specs.declared.HeaderAt.{HeaderAt}
-use Rattle.header.specs.declared.Heading.{Heading}
-use Rattle.header.specs.declared.Heading.the-variants.{NoHeader, IsHeader}
-use Rattle.header.proofs.Callers.{header-none, header-some, header-within, prival-to}
-use Rattle.header.proofs.Steps.{finds-ok}
-use Rattle.elements.specs.Counts.{countsOf, tailOf}
-use Rattle.elements.specs.declared.Counts.{Counts}
-use Rattle.elements.specs.declared.Counts.the-variants.{NoData, IsData}
-use Rattle.elements.specs.declared.Tail.{Tail}
-use Rattle.elements.specs.declared.Tail.the-variants.{NoTail, NoMessage, IsMessage}
-use Rattle.elements.proofs.Answers.{FindsTail, finds-data, misses-data, finds-message, finds-none, misses-tail}
-use Rattle.elements.proofs.Counting.{data-within}
+use Rattle.strict_header.specs.Header.{headerAt, heading, textPlace}
+use Rattle.strict_header.specs.declared.HeaderAt.{HeaderAt}
+use Rattle.strict_header.specs.declared.Heading.{Heading}
+use Rattle.strict_header.specs.declared.Heading.the-variants.{NoHeader, IsHeader}
+use Rattle.strict_header.proofs.Callers.{header-none, header-some, header-within, prival-to}
+use Rattle.strict_header.proofs.Steps.{finds-ok}
+use Rattle.strict_data.specs.Counts.{countsOf, tailOf}
+use Rattle.strict_data.specs.declared.Counts.{Counts}
+use Rattle.strict_data.specs.declared.Counts.the-variants.{NoData, IsData}
+use Rattle.strict_data.specs.declared.Tail.{Tail}
+use Rattle.strict_data.specs.declared.Tail.the-variants.{NoTail, NoMessage, IsMessage}
+use Rattle.strict_data.proofs.Answers.{FindsTail, finds-data, misses-data, finds-message, finds-none, misses-tail}
+use Rattle.strict_data.proofs.Counting.{data-within}
 use Rattle.record.specs.declared.Span.{Span}
 use Rattle.record.specs.declared.StrictRecord.{StrictRecord}
 use Rattle.strict.specs.Scan.{recordWith, scanOf}
@@ -142,5 +143,5 @@ module _ (s : List ℕ) (f : Heading) (e : f ≡ heading (header s)) where
 pub ruleset scan-laws = (header-within, prival-to, data-within, scan-no-header, scan-no-data, scan-no-tail, scan-none, scan-message, start-fits, end-fits)
 
 -- a part of a line is no longer than the line
-pub scan-short : (line u : List ℕ) (at : ℕ) → u ≡ drop at line → length line ≤ 8192 → length u ≤ 8192
+pub scan-short : (line u : List ℕ) (at : ℕ) → u ≡ drop at line → length line ≤ lineLimit → length u ≤ lineLimit
 scan-short line u at e h = omega (arith, ap length e, length-drop at line)

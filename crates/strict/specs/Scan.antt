@@ -1,4 +1,4 @@
--- What the first pass keeps of a line that the parser of `grammar` divides: the record, where the structured data stands, and the counts;
+-- For private contracts alone: what the first pass keeps of a line that the parser of `grammar` divides: the record, where the structured data stands, and the counts;
 -- and what is answered before a table is touched.
 use Prim.Native.Nat.{ℕ, _/_, _%_}
 use mathlib.Core.Bool.{Bool, true, false}
@@ -6,11 +6,12 @@ use mathlib.Core.List.{List, []}
 use lib.Dec.{ltb}
 use lib.ListN.{length}
 use Rattle.base.specs.Choose.{if_then_else_}
+use Rattle.record.specs.Limits.{lineLimit}
 use Rattle.grammar.specs.Line.{Division, dataThen}
 use Rattle.grammar.specs.Parse.{Parsed, parse}
 use Rattle.grammar.specs.Parse.Parsed.{failed, found}
 use Rattle.grammar.specs.Reading.{recordOf, dataAt, paramCount}
-use Rattle.header.specs.declared.HeaderAt.{HeaderAt}
+use Rattle.strict_header.specs.declared.HeaderAt.{HeaderAt}
 use Rattle.record.specs.declared.Level.the-variants.{Set}
 use Rattle.record.specs.declared.Protocol.the-variants.{Rfc5424}
 use Rattle.record.specs.declared.Span.{Span}
@@ -56,7 +57,7 @@ fitting (IsScan r at len n k) e p =
     else Fitting r at len n k
 
 unfoldable pub judged : List ℕ → ℕ → ℕ → Judged
-judged line e p = if ltb 8192 (length line) then Refuse LineTooLong else fitting (scanOf (parse line)) e p
+judged line e p = if ltb lineLimit (length line) then Refuse LineTooLong else fitting (scanOf (parse line)) e p
 
 abbrev pub isFitting : Judged → Bool
 isFitting (Refuse f) = false

@@ -1,8 +1,4 @@
 // The strict reader: RFC 5424 section 6, no trimming, into lent tables.
-use elements::Counts;
-use elements::Tail;
-use header::HeaderAt;
-use header::Heading;
 use record::Level;
 use record::Param;
 use record::Protocol;
@@ -11,9 +7,14 @@ use record::Refusal;
 use record::Span;
 use record::StrictReading;
 use record::StrictRecord;
+use strict_data::Counts;
+use strict_data::Tail;
+use strict_header::HeaderAt;
+use strict_header::Heading;
 ghost use mathlib.Core.Path.{_≡_};
 ghost use Prim.Native.Nat.{_≤_};
 ghost use lib.ListN.{length};
+ghost use Rattle.record.specs.Limits.{lineLimit};
 ghost use Rattle.grammar.specs.Parse as parse;
 ghost use Rattle.grammar.specs.Reading.{StrictReads};
 ghost use Rattle.record.specs.Params.{rows};
@@ -62,10 +63,10 @@ fn record_of(h: HeaderAt, message: Span, present: bool) -> StrictRecord
 
 // The first pass, which touches no table.
 fn scan_line(line: &[u8]) -> Scan
-    requires { ⌜ length (now line) ≤ 8192 ⌝ }
+    requires { ⌜ length (now line) ≤ lineLimit ⌝ }
     ensures { λ r. ⌜ r ≡ scanOf (parse.parse (now (line .entry))) ⌝ }
 {
-    let Heading::IsHeader(h) = header::read_header(line) else {
+    let Heading::IsHeader(h) = strict_header::read_header(line) else {
         return Scan::NoScan;
     };
     let at = h.next;
@@ -74,11 +75,11 @@ fn scan_line(line: &[u8]) -> Scan
         len,
         elements,
         params,
-    } = elements::count_data(s)
+    } = strict_data::count_data(s)
     else {
         return Scan::NoScan;
     };
-    let tail = elements::read_tail(base::past(s, len));
+    let tail = strict_data::read_tail(base::past(s, len));
     match tail {
         Tail::NoTail => Scan::NoScan,
         Tail::NoMessage => {
@@ -103,7 +104,7 @@ fn scan_line(line: &[u8]) -> Scan
 fn judge(line: &[u8], e: usize, p: usize) -> Judged
     ensures { λ r. ⌜ r ≡ judged (now (line .entry)) e p ⌝ }
 {
-    if 8192 < line.len() {
+    if record::LINE_LIMIT < line.len() {
         return Judged::Refuse(Refusal::LineTooLong);
     }
     let Scan::IsScan(r, at, len, n, k) = scan_line(line) else {
@@ -170,7 +171,7 @@ pub fn read(line: &[u8], elements: &mut [[usize; 2]], params: &mut [Param]) -> S
         let data = data_of(judged);
         let from = data.from;
         let len = data.len;
-        elements::fill_data(line, from, len, elements, params);
+        strict_data::fill_data(line, from, len, elements, params);
     }
     reading_of(judged)
 }

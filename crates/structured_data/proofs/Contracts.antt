@@ -7,7 +7,7 @@ use borrow.Fn.Kinds.{pNum, rUnit}
 use borrow.Fn.Read.{all-models, reads}
 use borrow.Kind.MutSlice.{pMutS}
 use borrow.Kind.ShrSlice.{pShrS}
-use Rattle.rules.specs.Derive.{Struct, Choice, Contract, plainly, bytes, pair, pE, rS}
+use Rattle.derivation.specs.Derive.{Struct, Choice, Contract, plainly, bytes, pair, pE, rS}
 use Rattle.record.proofs.Param as P
 use Rattle.structured_data.proofs.Rules as Ru
 use Rattle.structured_data.proofs.Rules.Laws as Ru′

@@ -13,7 +13,7 @@ use Rattle.base.specs.Choose.{if_then_else_, isAt}
 use Rattle.base.proofs.Parts.{at-below}
 use Rattle.structured_data.specs.Data.{Rows, endAt, dataFrom}
 use Rattle.structured_data.specs.Data.Data.{noData, isData}
-use Rattle.structured_data.specs.Outcome.{countsOf}
+use Rattle.structured_data.specs.Tables.{countsOf}
 use Rattle.structured_data.specs.Steps.{openFrom, Ends, Dead, Closes, Turns}
 use Rattle.structured_data.specs.declared.Rules.{Rules}
 use Rattle.structured_data.specs.declared.Open.{Open}

@@ -14,6 +14,7 @@ use borrow.Author.Tests.{not-true, not-false, le-leb, leb-true}
 use Rattle.base.specs.Choose.{if_then_else_, isAt}
 use Rattle.base.specs.Runs.{run}
 use Rattle.base.proofs.Parts.{at-below}
+use Rattle.base.proofs.Runs.{run-in}
 use Rattle.parsers.specs.Steps.{isBlank, blanksFrom}
 use Rattle.parsers.proofs.Steps.{blanks-within}
 use Rattle.structured_data.specs.Param.{isNamed}
@@ -22,7 +23,6 @@ use Rattle.structured_data.specs.Element.Element.{noElement, isElement}
 use Rattle.structured_data.specs.Steps.{openFrom}
 use Rattle.structured_data.specs.declared.Open.{Open}
 use Rattle.structured_data.proofs.Params.{at-part, unbracket}
-use Rattle.structured_data.proofs.Loops.{run-in}
 use Rattle.structured_data.proofs.Ids.{id-le, id-named}
 use Rattle.structured_data.proofs.Walks.{params-reach}
 

@@ -1,6 +1,7 @@
--- 01's sentences on structured data as worked examples, computed from the definitions.
+-- RULES Data as worked examples, computed from the definitions.
 use Prim.Native.Nat.{ℕ}
 use mathlib.Core.Path.{_≡_, refl}
+use mathlib.Core.Bool.{false}
 use mathlib.Core.List.{List, [], _∷_, _++_, map}
 use Rattle.base.specs.Bytes.{bytes}
 use Rattle.base.specs.Runs.{run}
@@ -8,6 +9,7 @@ use Rattle.utf8.specs.Lead.{leadOf, wellFormed, charLen}
 use Rattle.white.specs.White.{isWhite, codePoint, whiteLen}
 use Rattle.structured_data.specs.Param.{quotedLen, paramAt}
 use Rattle.structured_data.specs.Element.{idLen, moreParams, paramsFrom, elementFrom}
+use Rattle.structured_data.specs.Characters.{quotedOf}
 use Rattle.structured_data.specs.Data.{Data, itemFrom, elementsFrom, dataFrom}
 use Rattle.structured_data.specs.Data.Data.{noData, isData}
 use Rattle.structured_data.specs.declared.Rules.the-variants.{Rfc3164Rules, Rfc5424Rules}
@@ -107,3 +109,12 @@ lists-3164 = refl
 later : dataFrom Rfc5424Rules (bytes "h [a b=\"c\"] m") 2 ≡ found (place 3 1 ∷ []) (pair 0 (place 5 1) (place 8 1) ∷ []) 11
 unfolding dataFrom elementsFrom itemFrom elementFrom paramsFrom moreParams paramAt quotedLen idLen run whiteLen isWhite codePoint charLen wellFormed leadOf
 later = refl
+
+-- by characters: a backslash takes é with it, and a quote
+values-by-characters : map (quotedOf false) (
+    ((92 ∷ []) ∷ (0xC3 ∷ 0xA9 ∷ []) ∷ (34 ∷ []) ∷ [])
+    ∷ ((92 ∷ []) ∷ (34 ∷ []) ∷ (0xC3 ∷ 0xA9 ∷ []) ∷ (34 ∷ []) ∷ [])
+    ∷ []
+    ) ≡ 3 ∷ 4 ∷ []
+unfolding quotedOf
+values-by-characters = refl

@@ -17,7 +17,7 @@ use Rattle.base.proofs.Tests.{by-test}
 use Rattle.structured_data.specs.Element.{paramsFrom}
 use Rattle.structured_data.specs.Data.{Rows, endAt, dataFrom, rowsOr}
 use Rattle.structured_data.specs.Data.Data.{noData, isData}
-use Rattle.structured_data.specs.Outcome.{Room, Fills}
+use Rattle.structured_data.specs.Tables.{Room, Fills}
 use Rattle.structured_data.specs.Steps.{walkFrom, openFrom, endsList, Ends, Dead, Stop, Turns, Holds, Stores}
 use Rattle.structured_data.specs.declared.Rules.{Rules}
 use Rattle.structured_data.specs.declared.Open.{Open}

@@ -14,11 +14,12 @@ use Rattle.base.specs.Runs.{run}
 use Rattle.base.proofs.Tests.{clash}
 use Rattle.base.proofs.Parts.{at-below}
 use Rattle.base.proofs.Runs.{run-le}
+use Rattle.parsers.specs.Steps.{isInside}
 use Rattle.structured_data.specs.Element.{paramsFrom}
 use Rattle.structured_data.specs.Element.Element.{noElement, isElement}
 use Rattle.structured_data.specs.Data.{itemOf, itemFrom}
 use Rattle.structured_data.specs.Data.Item.{taken, skipped, ended}
-use Rattle.structured_data.specs.Steps.{walkFrom, openFrom, endsList, isInside, turnOf}
+use Rattle.structured_data.specs.Steps.{walkFrom, openFrom, endsList, turnOf}
 use Rattle.structured_data.specs.declared.Rules.{Rules}
 use Rattle.structured_data.specs.declared.Rules.the-variants.{Rfc3164Rules, Rfc5424Rules}
 use Rattle.structured_data.specs.declared.Open.{Open}

@@ -1,4 +1,3 @@
-pub mod Loops
 pub mod Values
 pub mod Params
 pub mod Ids
@@ -12,5 +11,6 @@ pub mod Turning
 pub mod Counting
 pub mod Filling
 pub mod Examples
+pub mod ByCharacters
 pub mod Within
 pub mod Contracts

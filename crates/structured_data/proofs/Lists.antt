@@ -13,11 +13,12 @@ use Rattle.base.specs.Choose.{isAt}
 use Rattle.base.specs.Runs.{run}
 use Rattle.base.proofs.Tests.{both, by-if}
 use Rattle.base.proofs.Parts.{step, ended as drop-end, at-below}
+use Rattle.parsers.specs.Steps.{isInside}
 use Rattle.structured_data.specs.Element.{Params, paramsFrom}
 use Rattle.structured_data.specs.Element.Element.{noElement, isElement}
 use Rattle.structured_data.specs.Data.{Rows, endAt, elementAnd, Item, itemOf, itemAnd, itemFrom, elementsFrom}
 use Rattle.structured_data.specs.Data.Item.{taken, skipped, ended}
-use Rattle.structured_data.specs.Steps.{openFrom, isInside, turnOf}
+use Rattle.structured_data.specs.Steps.{openFrom, turnOf}
 use Rattle.structured_data.specs.declared.Rules.{Rules}
 use Rattle.structured_data.specs.declared.Rules.the-variants.{Rfc3164Rules, Rfc5424Rules}
 use Rattle.structured_data.specs.declared.Open.{Open}

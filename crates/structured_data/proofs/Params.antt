@@ -15,6 +15,7 @@ use Rattle.base.specs.Choose.{if_then_else_, isAt}
 use Rattle.base.specs.Runs.{run}
 use Rattle.base.proofs.Tests.{clash, by-test}
 use Rattle.base.proofs.Parts.{at-below}
+use Rattle.base.proofs.Runs.{run-in}
 use Rattle.parsers.specs.Steps.{isBlank, blanksFrom}
 use Rattle.parsers.specs.declared.Pos.{Pos}
 use Rattle.parsers.specs.declared.Pos.the-variants.{NoPos, IsPos}
@@ -23,7 +24,6 @@ use Rattle.structured_data.specs.Steps.{valueEnd}
 use Rattle.structured_data.specs.declared.Param.{Param}
 use Rattle.structured_data.specs.declared.Param.the-variants.{NoParam, IsParam}
 use Rattle.structured_data.proofs.Values.{quoted-le, quoted-behind}
-use Rattle.structured_data.proofs.Loops.{run-in}
 
 -- The quote that ends a value
 module _ (s : List ℕ) (q : ℕ) (b : Bool) (eb : b ≡ isAt s q 34) where

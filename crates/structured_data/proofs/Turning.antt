@@ -14,17 +14,17 @@ use Rattle.base.specs.Choose.{if_then_else_, isAt}
 use Rattle.base.specs.Runs.{run}
 use Rattle.base.proofs.Tests.{clash, by-test, by-if}
 use Rattle.base.proofs.Parts.{at-past}
-use Rattle.base.proofs.Runs.{run-le}
+use Rattle.base.proofs.Runs.{run-le, run-after}
+use Rattle.parsers.specs.Steps.{isInside}
 use Rattle.structured_data.specs.Element.{paramsFrom}
 use Rattle.structured_data.specs.Element.Element.{noElement, isElement}
 use Rattle.structured_data.specs.Data.{Item, itemOf, itemFrom}
-use Rattle.structured_data.specs.Steps.{walkFrom, openFrom, endsList, isInside, turnOf, Fails, Stops, Ends, Dead, Stop, Closes, Turns}
+use Rattle.structured_data.specs.Steps.{walkFrom, openFrom, endsList, turnOf, Fails, Stops, Ends, Dead, Stop, Closes, Turns}
 use Rattle.structured_data.specs.declared.Rules.{Rules}
 use Rattle.structured_data.specs.declared.Rules.the-variants.{Rfc3164Rules, Rfc5424Rules}
 use Rattle.structured_data.specs.declared.Open.{Open}
 use Rattle.structured_data.specs.declared.Turn.{Turn}
 use Rattle.structured_data.specs.declared.Walk.{Walk}
-use Rattle.structured_data.proofs.Loops.{run-behind}
 use Rattle.structured_data.proofs.Params.{at-part}
 use Rattle.structured_data.proofs.Walks.{params-reach, fate}
 use Rattle.structured_data.proofs.Elements.{opens, closed-fits, elementOf}
@@ -58,7 +58,7 @@ module _ (s : List ℕ) (at dead : ℕ) (h : dead ≤ length s) where
 
     pub stop-there : at + n < dead → Stop s at dead (at + n)
     stop-there k =
-        let r = run-behind isInside (drop at s) (omega (arith, inside, length-drop at s)) in
+        let r = run-after isInside (drop at s) (omega (arith, inside, length-drop at s)) in
         Stop.there (omega arith) k (sym (at-part s at n 93) ∙ ap (λ (j : ℕ). isAt (drop at s) j 93) inside ∙ not-false (isAt (drop at s) (run isInside (drop at s)) 93) r)
 
 pub ruleset stop-laws = (stop-none, stop-fits, stop-far, stop-there)

@@ -11,7 +11,7 @@ use Rattle.base.proofs.Tests.{by-if}
 use Rattle.structured_data.specs.Data.{Rows, Item, itemAnd, itemFrom, elementsFrom, Data, dataFrom}
 use Rattle.structured_data.specs.Data.Item.{taken, skipped, ended}
 use Rattle.structured_data.specs.Data.Data.{noData, isData}
-use Rattle.structured_data.specs.Outcome.{countsOf}
+use Rattle.structured_data.specs.Tables.{countsOf}
 use Rattle.structured_data.specs.declared.Rules.{Rules}
 use Rattle.structured_data.specs.declared.Counts.{Counts}
 use Rattle.structured_data.specs.declared.Counts.the-variants.{IsData}

@@ -1,11 +1,12 @@
 -- structured_data.rs: `-`, or one or more elements; by the rules of RFC 5424 lines, or of RFC 3164 lines.
 use Prim.Native.Nat.{ℕ, zero, suc, _+_, _-_}
 use mathlib.Core.List.{List, [], _∷_, _++_}
-use mathlib.Core.Bool.{not, _&&_}
+use mathlib.Core.Bool.{_&&_}
 use lib.Dec.{leb, eqb}
 use lib.ListN.{length, drop}
 use Rattle.base.specs.Choose.{if_then_else_, isAt}
 use Rattle.base.specs.Runs.{run}
+use Rattle.parsers.specs.Steps.{isInside}
 use Rattle.structured_data.specs.Element.{Element, elementFrom}
 use Rattle.structured_data.specs.Element.Element.{noElement, isElement}
 use Rattle.structured_data.specs.declared.Rules.{Rules}
@@ -32,7 +33,7 @@ pub data Item : Type 0 where
 -- RFC 5424: from `[` through the next `]`; with no `]` ahead the list ends before it
 abbrev pub skipFrom : ℕ → List ℕ → Item
 skipFrom at t =
-    let n = run (λ b. not (eqb b 93)) t in
+    let n = run isInside t in
     if isAt t 0 91 && isAt t n 93 then skipped (at + n + 1) else ended
 
 -- RFC 5424: an element that fails is skipped. RFC 3164: failing or parameterless elements end the list.

@@ -1,5 +1,6 @@
 pub mod Param
 pub mod Element
 pub mod Data
-pub mod Outcome
+pub mod Tables
 pub mod Steps
+pub mod Characters

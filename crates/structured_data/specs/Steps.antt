@@ -2,8 +2,8 @@
 use Prim.Native.Nat.{ℕ, _+_, _-_, _≤_, _<_}
 use mathlib.Core.Path.{_≡_}
 use mathlib.Core.List.{List}
-use mathlib.Core.Bool.{Bool, true, false, not, _&&_}
-use lib.Dec.{leb, eqb}
+use mathlib.Core.Bool.{Bool, true, false, _&&_}
+use lib.Dec.{leb}
 use lib.ListN.{length, take, drop}
 use lib.Seq.{sets}
 use Rattle.base.specs.Choose.{if_then_else_, isAt}
@@ -81,9 +81,6 @@ openFrom s at =
 abbrev pub endsList : Rules → Bool
 endsList Rfc3164Rules = true
 endsList Rfc5424Rules = false
-
-abbrev pub isInside : ℕ → Bool
-isInside b = not (eqb b 93)
 
 -- what an item adds to the counts, and the position behind it; the list ends where it is
 abbrev pub turnOf : ℕ → ℕ → Item → Turn

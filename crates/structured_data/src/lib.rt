@@ -1,6 +1,5 @@
 // structured_data.rs: elements and their parameters, counted first and then stored into lent tables.
 use parsers::Pos;
-use record::Record;
 ghost use mathlib.Core.Path.{_≡_};
 ghost use mathlib.Core.Bool.{false};
 ghost use mathlib.Core.List.{[], _∷_};
@@ -14,9 +13,9 @@ ghost use Rattle.structured_data.specs.Param.{isNamed, quotedLen, paramA
 ghost use Rattle.structured_data.specs.Element.{idLen};
 ghost use Rattle.structured_data.specs.Element.Element.{noElement};
 ghost use Rattle.structured_data.specs.Data.{itemOf, dataFrom};
-ghost use Rattle.structured_data.specs.Outcome.{countsOf, Room, Fills};
+ghost use Rattle.structured_data.specs.Tables.{countsOf, Room, Fills};
 ghost use Rattle.structured_data.specs.declared.Counts.the-variants.{NoData, IsData};
-ghost use Rattle.structured_data.specs.Steps.{valueEnd, entryOf, Stops, Ends, Holds, Stores, openFrom, endsList, isInside, turnOf, Stop, Closes, Turns};
+ghost use Rattle.structured_data.specs.Steps.{valueEnd, entryOf, Stops, Ends, Holds, Stores, openFrom, endsList, turnOf, Stop, Closes, Turns};
 
 // Which lines the rules are of: they differ in what follows an element that fails or has no parameters.
 pub enum Rules {
@@ -69,12 +68,6 @@ pub enum Counts {
         params: usize,
         next: usize,
     },
-}
-
-// What a line's reader answers before the tables are filled: the record, where the structured data stands, and the counts of elements and parameters.
-pub enum Draft {
-    NoDraft,
-    IsDraft(Record, usize, usize, usize),
 }
 
 fn is_named(b: u8) -> bool
@@ -311,26 +304,6 @@ fn ends_list(rules: Rules) -> bool
     }
 }
 
-fn is_inside(b: u8) -> bool
-    ensures { λ r. ⌜ r ≡ isInside b ⌝ }
-{
-    b != b']'
-}
-
-// How many bytes of `s` come before its first `]`.
-pub fn inside_run(s: &[u8]) -> usize
-    ensures { λ r. ⌜ r ≡ run isInside (now (s .entry)) ⌝ }
-{
-    let mut i = 0;
-    while i < s.len() {
-        if !is_inside(s[i]) {
-            return i;
-        }
-        i += 1;
-    }
-    i
-}
-
 // The step at `at`, where no element can be read.
 fn skip_from(rules: Rules, s: &[u8], at: usize, dead: usize) -> Turn
     ensures { λ r. ⌜ r ≡ turnOf at dead (itemOf rules at (drop at (now (s .entry))) noElement) ⌝ }
@@ -347,7 +320,7 @@ fn skip_from(rules: Rules, s: &[u8], at: usize, dead: usize) -> Turn
     if !base::is_at(s, at, b'[') {
         return stay;
     }
-    let end = at + inside_run(base::past(s, at));
+    let end = at + parsers::inside_run(base::past(s, at));
     if !base::is_at(s, end, b']') {
         return stay;
     }
@@ -373,7 +346,7 @@ fn stop_from(s: &[u8], at: usize, dead: usize) -> usize
     if dead <= at {
         return s.len();
     }
-    let end = at + inside_run(base::past(s, at));
+    let end = at + parsers::inside_run(base::past(s, at));
     if dead <= end {
         return s.len();
     }

@@ -11,13 +11,12 @@ use Rattle.base.specs.Runs.{run}
 use Rattle.base.proofs.Parts.{at-below}
 use Rattle.base.proofs.Runs.{run-le}
 use Rattle.base.proofs.Tests.{both, by-if}
-use Rattle.parsers.specs.Steps.{isBlank}
+use Rattle.parsers.specs.Steps.{isBlank, isInside}
 use Rattle.structured_data.specs.Param.{paramAt}
 use Rattle.structured_data.specs.Element.{Params, Element, idLen, paramAnd, moreParams, paramsFrom, elementFrom}
 use Rattle.structured_data.specs.Element.Element.{noElement, isElement}
 use Rattle.structured_data.specs.Data.{Rows, Item, itemOf, itemFrom, itemAnd, elementsFrom, Data, dataFrom, rowsOr}
 use Rattle.structured_data.specs.Data.Item.{taken, skipped, ended}
-use Rattle.structured_data.specs.Steps.{isInside}
 use Rattle.structured_data.specs.declared.Param.{Param}
 use Rattle.structured_data.specs.declared.Param.the-variants.{NoParam, IsParam}
 use Rattle.structured_data.specs.declared.Rules.{Rules}
@@ -27,7 +26,7 @@ use Rattle.structured_data.proofs.Params.{param-lies}
 use Rattle.suits.proofs.Suited.{IdIn}
 use Rattle.suited.proofs.Tests.{RowsOf, RowsIn, rows-none, rows-more}
 
--- all in a part `t` of the line, which stands at `at` or behind
+-- all in a part `t` of the line, which stands at `at` or after
 module _ (line : List ℕ) where
   -- the parameters of element `e`
   param-and : (e at before : ℕ) (t : List ℕ) (more : ℕ → Params) → at + length t ≤ length line → ((len : ℕ) → RowsOf line e (more len .rows))

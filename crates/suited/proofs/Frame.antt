@@ -12,13 +12,14 @@ use Rattle.base.specs.Choose.{if_then_else_}
 use Rattle.base.specs.Fills.{filled}
 use Rattle.base.proofs.Tests.{clash}
 use Rattle.utf8.specs.Lead.{isUtf8}
+use Rattle.record.specs.Limits.{lineLimit}
 use Rattle.record.specs.declared.Record.{Record}
 use Rattle.record.specs.declared.Reading.{Reading}
 use Rattle.record.specs.declared.Reading.the-variants.{Read, Refused}
 use Rattle.record.specs.declared.Refusal.{Refusal}
 use Rattle.structured_data.specs.Data.{Rows}
-use Rattle.structured_data.specs.Outcome.{Outcome}
-use Rattle.structured_data.specs.Outcome.Outcome.{noReading, isReading}
+use Rattle.draft.specs.Outcome.{Outcome}
+use Rattle.draft.specs.Outcome.Outcome.{noReading, isReading}
 use Rattle.suits.specs.Suits.{suits}
 use Rattle.loose.specs.Loose.{settingsOk, judged, rowsOf, orWhole, Reads}
 use Rattle.suited.proofs.Tests.{Suited, rows-none, suits-filled}
@@ -47,8 +48,9 @@ whole-suits line (isReading r at rows) h = h
 
 -- what a reading that is done has passed, and what is left to say
 record Passed (line : List ℕ) (variant year : ℕ) (offset : ℤ) (A : Type 0) : Type 0 where
-  short : ltb 8192 (length line) ≡ false
+  short : ltb lineLimit (length line) ≡ false
   settings : settingsOk variant year offset ≡ true
+  text : isUtf8 line ≡ true
   is : A
 
 -- the outcome of a reading that is done
@@ -59,7 +61,7 @@ pub record Judged (o : Outcome) (r : Record) (e p : ℕ) : Type 0 where
   pub elements-many : e ≡ length (rows .elements)
   pub params-many : p ≡ length (rows .params)
 
--- an answer behind a test that refuses is an answer, where the test fails
+-- an answer after a test that refuses is an answer, where the test fails
 module _ {r : Record} {e p : ℕ} where
   never : {A : Type 0} (f : Refusal) → Refused f ≡ Read r e p → A
   never f h = let z : true ≡ false = cc in clash z
@@ -87,13 +89,16 @@ module _ {r : Record} {e p : ℕ} where
       (h : Reads line variant year offset o e₀ p₀ (Read r e p) e₁ p₁) where
     passes : Passed line variant year offset (judged o (length e₀) (length p₀) ≡ Read r e p)
     passes =
-        let long = past (ltb 8192 (length line)) _ _ (sym (h .answer)) in
+        let long = past (ltb lineLimit (length line)) _ _ (sym (h .answer)) in
         let bad = past (not (settingsOk variant year offset)) _ _ (long .1) in
         let text = past (not (isUtf8 line)) _ _ (bad .1) in
-        record { short = long .0; settings = not-false _ (bad .0); is = text .1 }
+        record { short = long .0; settings = not-false _ (bad .0); text = not-false _ (text .0); is = text .1 }
 
-    pub reading-short : ltb 8192 (length line) ≡ false
+    pub reading-short : ltb lineLimit (length line) ≡ false
     reading-short = passes .short
+
+    pub reading-utf8 : isUtf8 line ≡ true
+    reading-utf8 = passes .text
 
     pub reading-judged : Judged o r e p
     reading-judged = judged-is o (length e₀) (length p₀) (passes .is)

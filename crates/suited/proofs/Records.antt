@@ -4,7 +4,7 @@ use mathlib.Core.Path.{_≡_, refl}
 use mathlib.Core.List.{List}
 use mathlib.Core.Bool.{true, _&&_}
 use native.Mathlib.Omega.{arith}
-use lib.Dec.{leb, eqb}
+use lib.Dec.{leb}
 use lib.ListN.{length, take, drop, length-take}
 use lib.IntN.{ℤ, natAbs}
 use borrow.Author.Tests.{le-leb, leb-true}
@@ -14,6 +14,7 @@ use Rattle.white.specs.Trim.{trimmed}
 use Rattle.digits.specs.declared.Number.{Number}
 use Rattle.digits.specs.declared.Number.the-variants.{Nothing, Value}
 use Rattle.digits.specs.Digits.{numberAt}
+use Rattle.calendar.specs.Calendar.{offsetLimit, lastYear}
 use Rattle.record.specs.declared.Level.{Level}
 use Rattle.record.specs.declared.Stamp.{Stamp}
 use Rattle.record.specs.declared.Stamp.the-variants.{Unstamped, Stamped}
@@ -26,9 +27,8 @@ use Rattle.timestamp.specs.declared.Stamping.{Stamping}
 use Rattle.timestamp.specs.declared.Stamping.the-variants.{NoStamp, IsStamp}
 use Rattle.timestamp.proofs.Answers.{StampIn, rfc3164-within, rfc3164-stamp}
 use Rattle.structured_data.specs.Data.{dataFrom}
-use Rattle.structured_data.specs.Outcome.{Outcome}
-use Rattle.structured_data.specs.Outcome.Outcome.{noReading, isReading}
 use Rattle.structured_data.specs.declared.Rules.the-variants.{Rfc3164Rules, Rfc5424Rules}
+use Rattle.draft.specs.Outcome.Outcome.{noReading}
 use Rattle.structured_data.proofs.Within.{rows-within}
 use Rattle.rfc3164.specs.Rfc3164 as rfc3164
 use Rattle.rfc3164.proofs.Within.{body-in}
@@ -36,7 +36,8 @@ use Rattle.rfc5424.specs.Rfc5424 as rfc5424
 use Rattle.rfc5424.proofs.Headers.{start-stamp, four-places}
 use Rattle.rfc5424.proofs.Lines.{on-start, on-four, on-data}
 use Rattle.suits.specs.Suits.{levelSuits, stampSuits}
-use Rattle.loose.specs.Loose.{orElse, byVariant, outcomeOf, settingsOk}
+use Rattle.loose.specs.Loose.{outcomeOf, settingsOk}
+use Rattle.loose.proofs.Variants.{of-variant}
 use Rattle.suited.proofs.Frame.{OutcomeSuits}
 use Rattle.suited.proofs.Data.{data-in}
 
@@ -64,7 +65,7 @@ pri-suits s = by-if PriSuits (isAt s 0 60) _ _ (λ h. after (numberAt 255 (drop 
         (λ h. none)
 
 -- the timestamp
-pub stamp-suits : (t : Stamp) → StampIn 1439 t → stampSuits t ≡ true
+pub stamp-suits : (t : Stamp) → StampIn offsetLimit t → stampSuits t ≡ true
 stamp-suits Unstamped h = refl
 stamp-suits (Stamped t) h = rw (le-leb _ _ (h .nanos-to), le-leb _ _ (h .offset-to), h .year-in)
 
@@ -95,7 +96,7 @@ module _ (line s : List ℕ) (inside : length s ≤ length line) (start : ℕ) w
         of-tables = rw e3 at (data-in line Rfc5424Rules s _ from inside);
       }
 
-  module _ (year : ℕ) (offset : ℤ) (range : natAbs offset ≤ 1439) where
+  module _ (year : ℕ) (offset : ℤ) (range : natAbs offset ≤ offsetLimit) where
     rfc3164-suits : OutcomeSuits line (rfc3164.rfc3164 year offset s start)
     unfolding rfc3164.rfc3164 rfc3164.bodyFrom
     rfc3164-suits = go (rfc3164From year offset s from) refl
@@ -125,26 +126,13 @@ module _ (line s : List ℕ) (inside : length s ≤ length line) (start : ℕ) w
               of-tables = data-in line Rfc3164Rules s _ (places .data-in) inside;
             }
 
--- what holds of the readings by both protocols holds of a variant's
-module _ (P : Outcome → Type 0) where
-  first-of : (x y : Outcome) → P x → P y → P (orElse x y)
-  first-of noReading y h k = k
-  first-of (isReading r at rows) y h k = h
-
-  pub of-variant : (variant year : ℕ) (offset : ℤ) (s : List ℕ) (start : ℕ) → P (rfc5424.rfc5424 s start) → P (rfc3164.rfc3164 year offset s start)
-      → P (byVariant variant year offset s start)
-  unfolding byVariant
-  of-variant variant year offset s start h k =
-      by-if P (eqb variant 0) _ _ (λ e. first-of (rfc5424.rfc5424 s start) (rfc3164.rfc3164 year offset s start) h k) (λ e.
-      by-if P (eqb variant 1) _ _ (λ e. k) (λ e. h))
-
 -- the text of a line is its trimmed part
 pub outcome-suits : (line : List ℕ) (variant year : ℕ) (offset : ℤ) → settingsOk variant year offset ≡ true
     → OutcomeSuits line (outcomeOf line variant year offset)
 unfolding outcomeOf
 outcome-suits line variant year offset h =
     let ends = trimmed line in
-    let range = leb-true (natAbs offset) 1439 (both (leb variant 2 && leb year 9999) _ h .1) in
+    let range = leb-true (natAbs offset) offsetLimit (both (leb variant 2 && leb year lastYear) _ h .1) in
     let s = take (ends .end) line in
     let inside : length s ≤ length line = omega (arith, length-take (ends .end) line) in
     of-variant (OutcomeSuits line) variant year offset s (ends .start)

@@ -14,10 +14,11 @@ use Rattle.base.proofs.Runs.{run-none}
 use Rattle.base.proofs.Tests.{by-if, clash}
 use Rattle.digits.specs.Digits.{decimal}
 use Rattle.digits.proofs.Fractions.{fraction-len, fraction-text}
-use Rattle.calendar.specs.Calendar.{valid}
+use Rattle.calendar.specs.Calendar.{offsetLimit, valid}
 use Rattle.calendar.specs.Instant.{isShown}
 use Rattle.calendar.specs.declared.DateTime.{DateTime}
 use Rattle.calendar.proofs.ThereAndBack.{back}
+use Rattle.record.specs.Limits.{lineLimit}
 use Rattle.record.specs.declared.Place.{Place}
 use Rattle.record.specs.declared.StrictRecord.{StrictRecord}
 use Rattle.record.specs.declared.StrictReading.the-variants.{Read, Refused}
@@ -30,9 +31,9 @@ use Rattle.grammar.proofs.Readers.{text-length}
 use Rattle.grammar.proofs.Header.{header-reads}
 use Rattle.grammar.proofs.Data.{param-reads, element-reads, data-reads}
 use Rattle.grammar.proofs.Lines.{headerOf}
-use Rattle.header.proofs.Stamps.{four-digits}
-use Rattle.header.proofs.Callers.{offset-small}
-use Rattle.elements.proofs.Filling.{params-length, param-length, elements-many, all-many}
+use Rattle.strict_header.proofs.Stamps.{four-digits}
+use Rattle.strict_header.proofs.Callers.{offset-small}
+use Rattle.strict_data.proofs.Filling.{params-length, param-length, elements-many, all-many}
 use Rattle.strict.proofs.Scans.{header-size}
 use Rattle.strict.proofs.Readings.{header-ok}
 use Rattle.timestamp.proofs.Answers.{StampIn}
@@ -49,7 +50,7 @@ nanos-to (some f) h =
     let e = fraction-text 9 f [] (h .all) (h .at-least) l (run-none isDigit) in
     omega (arith, fraction-len 9 (f ++ []) _ _ e (omega arith) .3)
 
-stamp-in : (o : Option Timestamp) → TimestampOk o → StampIn 1439 (stampOf o)
+stamp-in : (o : Option Timestamp) → TimestampOk o → StampIn offsetLimit (stampOf o)
 unfolding valid
 stamp-in none h = tt
 stamp-in (some t) h =
@@ -141,7 +142,7 @@ never f h = let z : true ≡ false = cc in clash z
 pub record Divided (line : List ℕ) (s : StrictRecord) (e p : ℕ) (e₀ p₀ e₁ p₁ : List (List ℕ)) : Type 0 where
   pub by : Division
   pub derives : Derives line by
-  short : length line ≤ 8192
+  short : length line ≤ lineLimit
   pub its : s ≡ recordOf by
   pub elements-many : e ≡ length (by .elements)
   pub params-many : p ≡ paramCount (by .elements)
@@ -167,8 +168,8 @@ module _ {line : List ℕ} {e₀ p₀ e₁ p₁ : List (List ℕ)} {s : StrictRe
       record { by = d; derives = h; short = l; its = cc; elements-many = cc; params-many = cc; elements-are = b; params-are = c }
 
   module _ (h : StrictReads line e₀ p₀ (Read s e p) e₁ p₁) where
-    pub reading-short : ltb 8192 (length line) ≡ false
-    reading-short = le-ltb 8192 (length line) (reading-divided h .short)
+    pub reading-short : ltb lineLimit (length line) ≡ false
+    reading-short = le-ltb lineLimit (length line) (reading-divided h .short)
 
     pub reading-suits : suits line (s .common) e p e₁ p₁ ≡ true
     reading-suits =

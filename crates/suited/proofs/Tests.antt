@@ -38,7 +38,7 @@ param-suits line e low row h = rw (le-leb _ _ (h .from), lt-ltb _ _ (h .below), 
 abbrev pub RowsOf : List ℕ → ℕ → List (List ℕ) → Type 0
 RowsOf line e rows = Each (ParamIn line (e + 1) e) rows
 
--- and others behind them
+-- and others after them
 params-suit : (line : List ℕ) (f low e : ℕ) (rows more : List (List ℕ)) → low ≤ e → e < f → RowsOf line e rows
     → ((low : ℕ) → low ≤ e → paramsSuit line f low more ≡ true) → paramsSuit line f low (rows ++ more) ≡ true
 unfolding paramsSuit
@@ -58,7 +58,7 @@ module _ {line : List ℕ} {e : ℕ} where
   unfolding elementsSuit paramsSuit
   rows-none = record { of-elements = refl; of-params = λ low l. refl }
 
-  -- an element, its parameters, and the elements behind it
+  -- an element, its parameters, and the elements after it
   pub rows-more : (row : List ℕ) (params elements more : List (List ℕ)) → IdIn line row → RowsOf line e params → RowsIn line (e + 1) elements more
       → RowsIn line e (row ∷ elements) (params ++ more)
   unfolding elementsSuit

@@ -6,7 +6,7 @@ use mir.Syntax.{w64}
 use borrow.Fn.Kinds.{pNum, rBool}
 use borrow.Fn.Read.{all-models, reads}
 use borrow.Kind.ShrSlice.{pShrS}
-use Rattle.rules.specs.Derive.{Struct, Choice, Contract, plainly, bytes, pair, pS}
+use Rattle.derivation.specs.Derive.{Struct, Choice, Contract, plainly, bytes, pair, pS}
 use Rattle.record.proofs.Param as P
 use Rattle.record.proofs.Record as R
 use Rattle.record.proofs.Record.Laws as R′

@@ -121,7 +121,8 @@ tables : map suit
     ∷ record { of = plain; e = 1; p = 0; elements = (9 ∷ 2 ∷ []) ∷ []; params = [] }
     ∷ rows 1 ((0 ∷ 3 ∷ 8 ∷ 0 ∷ 0 ∷ []) ∷ [])
     ∷ rows 1 ((0 ∷ 3 ∷ 7 ∷ 11 ∷ 0 ∷ []) ∷ [])
+    ∷ rows 1 ((0 ∷ 3 ∷ 7 ∷ 9 ∷ 2 ∷ []) ∷ [])
     ∷ [])
-    ≡ replicate 7 false
+    ≡ replicate 8 false
 unfolding suits tablesSuit recordSuits elementsSuit paramsSuit shown
 tables = refl

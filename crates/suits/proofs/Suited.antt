@@ -11,6 +11,7 @@ use lib.ListN.{length, getD, take}
 use lib.Seq.{getD-take, length-take-le}
 use borrow.Author.Tests.{leb-true, ltb-true}
 use Rattle.base.proofs.Tests.{clash, both}
+use Rattle.calendar.specs.Calendar.{offsetLimit}
 use Rattle.calendar.specs.Instant.{shown, isShown}
 use Rattle.calendar.specs.declared.DateTime.{DateTime}
 use Rattle.calendar.specs.declared.Shown.{Shown}
@@ -23,7 +24,7 @@ use Rattle.suits.specs.Suits.{placeSuits, levelSuits, stampSuits, record
 -- a timestamp that is there
 pub record StampIn (t : Timestamp) : Type 0 where
   pub nanos-in : t .nanos ≤ 999999999
-  pub offset-in : natAbs (t .offset) ≤ 1439
+  pub offset-in : natAbs (t .offset) ≤ offsetLimit
   pub clock : DateTime
   pub shows : shown (t .seconds) (t .offset) ≡ At clock
 
@@ -31,9 +32,9 @@ pub stamp-in : (t : Timestamp) → stampSuits (Stamped t) ≡ true → StampIn t
 stamp-in t h =
     let b = both _ _ h in
     let n = both _ _ (b .0) in
-    at (leb-true (t .nanos) 999999999 (n .0)) (leb-true (natAbs (t .offset)) 1439 (n .1)) (shown (t .seconds) (t .offset)) refl (b .1)
+    at (leb-true (t .nanos) 999999999 (n .0)) (leb-true (natAbs (t .offset)) offsetLimit (n .1)) (shown (t .seconds) (t .offset)) refl (b .1)
   where
-    at : t .nanos ≤ 999999999 → natAbs (t .offset) ≤ 1439 → (s : Shown) → shown (t .seconds) (t .offset) ≡ s → isShown s ≡ true → StampIn t
+    at : t .nanos ≤ 999999999 → natAbs (t .offset) ≤ offsetLimit → (s : Shown) → shown (t .seconds) (t .offset) ≡ s → isShown s ≡ true → StampIn t
     at n o Outside e i = clash (sym i)
     at n o (At d) e i = record { nanos-in = n; offset-in = o; clock = d; shows = e }
 

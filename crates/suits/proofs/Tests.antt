@@ -1,19 +1,17 @@
 -- What the tests answer, from what the code knows at each return and each turn.
 use Prim.Native.Nat.{ℕ, _+_, _-_, _≤_, _<_}
-use mathlib.Core.Path.{_≡_, refl, sym, ap, _∙_}
+use mathlib.Core.Path.{_≡_, sym, ap, _∙_}
 use mathlib.Core.List.{List, []}
-use mathlib.Core.Bool.{Bool, true, false, not, _&&_, and-true}
+use mathlib.Core.Bool.{Bool, true, false, not, _&&_}
 use native.Mathlib.Omega.{arith}
 use lib.Dec.{leb}
 use lib.ListN.{length, getD, take, drop}
-use lib.IntN.{ℤ, pos, negsuc, natAbs}
 use mir.Syntax.{w32, w64}
 use mir.Val.{SFits, toZ, ofZ}
 use mir.ValLaws.{toZ-ofZ}
 use borrow.Author.Tests.{le-leb, lt-leb, le-ltb, lt-ltb, leb-true, leb-false, not-true, not-false}
-use Rattle.base.specs.Diff.{up, down, diffOf}
-use Rattle.base.specs.declared.Diff.{Diff}
 use Rattle.base.proofs.Tests.{by-test}
+use Rattle.calendar.specs.Calendar.{validOffset}
 use Rattle.calendar.specs.Instant.{shown, isShown}
 use Rattle.calendar.specs.declared.Shown.{Shown}
 use Rattle.record.specs.Params.{rowOf}
@@ -38,22 +36,13 @@ place-from n start len h =
 
 pub ruleset place-laws = (place-past, place-from)
 
--- an offset taken apart
-near : (z : ℤ) → (leb (up z) 1439 && leb (down z) 1439) ≡ leb (natAbs z) 1439
-near (pos n) = and-true (leb n 1439)
-near (negsuc n) = refl
-
-module _ (z w : ℤ) (fz : SFits w32 z) (fw : SFits w64 w) (ew : w ≡ toZ w32 (ofZ w32 z)) (d : Diff) (ed : d ≡ diffOf (toZ w64 (ofZ w64 w))) where
-  pub offset-near : (leb (d .up) 1439 && leb (d .down) 1439) ≡ leb (natAbs z) 1439
-  offset-near = rw (ed, toZ-ofZ w64 w fw, ew, toZ-ofZ w32 z fz) (near z)
-
 -- a timestamp's numbers
 module _ (t : Timestamp) where
   pub time-nanos : 999999999 < t .nanos → false ≡ stampSuits (Stamped t)
   time-nanos h = rw (lt-leb (t .nanos) 999999999 h)
 
-  module _ (h : t .nanos ≤ 999999999) (fo : SFits w32 (t .offset)) (n : Bool) (e : n ≡ leb (natAbs (toZ w32 (ofZ w32 (t .offset)))) 1439) where
-    offset : n ≡ leb (natAbs (t .offset)) 1439
+  module _ (h : t .nanos ≤ 999999999) (fo : SFits w32 (t .offset)) (n : Bool) (e : n ≡ validOffset (toZ w32 (ofZ w32 (t .offset)))) where
+    offset : n ≡ validOffset (t .offset)
     offset = rw (toZ-ofZ w32 (t .offset) fo) at e
 
     pub time-far : not n ≡ true → false ≡ stampSuits (Stamped t)
@@ -66,7 +55,7 @@ module _ (t : Timestamp) where
 
 pub ruleset time-laws = (time-nanos, time-far, time-shown)
 
--- one test, and more behind it
+-- one test, and more after it
 module _ (t more : Bool) where
   pub test-off : not t ≡ true → false ≡ (t && more)
   test-off h = rw (not-true t h)

@@ -4,7 +4,7 @@ use mathlib.Core.List.{List, [], _∷_}
 use mathlib.Core.Bool.{Bool, true, _&&_}
 use lib.Dec.{leb, ltb}
 use lib.ListN.{length, getD, take}
-use lib.IntN.{natAbs}
+use Rattle.calendar.specs.Calendar.{validOffset}
 use Rattle.calendar.specs.Instant.{shown, isShown}
 use Rattle.record.specs.declared.Level.{Level}
 use Rattle.record.specs.declared.Level.the-variants.{Unset, Set}
@@ -24,7 +24,7 @@ levelSuits most (Set n) = leb n most
 -- nanoseconds not over 999,999,999, offset in range, the local year one of 0 to 9999
 abbrev pub stampSuits : Stamp → Bool
 stampSuits Unstamped = true
-stampSuits (Stamped t) = leb (t .nanos) 999999999 && leb (natAbs (t .offset)) 1439 && isShown (shown (t .seconds) (t .offset))
+stampSuits (Stamped t) = leb (t .nanos) 999999999 && validOffset (t .offset) && isShown (shown (t .seconds) (t .offset))
 
 unfoldable pub recordSuits : List ℕ → Record → Bool
 recordSuits line r =

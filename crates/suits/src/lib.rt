@@ -2,15 +2,18 @@
 use record::Level;
 use record::Param;
 use record::Record;
+use record::Refusal;
 use record::Stamp;
 use record::Timestamp;
+use record::Written;
 ghost use mathlib.Core.Path.{_≡_};
 ghost use Prim.Native.Nat.{_+_, _≤_, _<_};
 ghost use lib.Dec.{leb};
-ghost use lib.IntN.{natAbs};
 ghost use lib.ListN.{length, take};
 ghost use Rattle.record.specs.Params.{rowOf, rows};
 ghost use Rattle.record.specs.declared.Stamp.the-variants as stamp;
+ghost use Rattle.record.specs.declared.Refusal.the-variants.{Unsuitable};
+ghost use Rattle.record.specs.declared.Written.the-variants.{Refused};
 ghost use Rattle.suits.specs.Suits.{levelSuits, stampSuits, recordSuits, elementsSuit, paramSuits, suits};
 ghost use Rattle.suits.specs.Checks.{headSuits, checkAt};
 
@@ -33,20 +36,13 @@ fn level_suits(most: u8, level: Level) -> bool
     }
 }
 
-fn offset_suits(offset: i32) -> bool
-    ensures { λ b. ⌜ b ≡ leb (natAbs offset) 1439 ⌝ }
-{
-    let o = base::split(base::widen(offset));
-    (o.up <= 1439) & (o.down <= 1439)
-}
-
 fn time_suits(t: Timestamp) -> bool
     ensures { λ b. ⌜ b ≡ stampSuits (stamp.Stamped t) ⌝ }
 {
     if 999999999 < t.nanos {
         return false;
     }
-    if !offset_suits(t.offset) {
+    if !calendar::is_offset(t.offset) {
         return false;
     }
     calendar::is_shown(calendar::shown_at(t.seconds, t.offset))
@@ -182,6 +178,7 @@ fn check_param(line: &[u8], element_count: usize, param_count: usize, c: Check, 
     check_at(ok, c.next + 1, p.element, param_count)
 }
 
+// Whether record, counts and tables suit the line: if not, the call is refused with 7.
 pub fn is_suitable(
     line: &[u8],
     r: Record,
@@ -200,4 +197,11 @@ pub fn is_suitable(
         c = check_param(line, element_count, param_count, c, p);
     }
     c.suits
+}
+
+// The answer where they do not suit.
+pub fn unsuitable() -> Written
+    ensures { λ w. ⌜ w ≡ Refused Unsuitable ⌝ }
+{
+    Written::Refused(Refusal::Unsuitable)
 }

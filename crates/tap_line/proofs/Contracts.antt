@@ -7,7 +7,7 @@ use borrow.Fn.Kinds.{pNum, pSNum}
 use borrow.Fn.Read.{all-models, reads}
 use borrow.Kind.MutSlice.{pMutS}
 use borrow.Kind.ShrSlice.{pShrS}
-use Rattle.rules.specs.Derive.{Contract, plainly, bytes, pair, pS, rE}
+use Rattle.derivation.specs.Derive.{Contract, plainly, bytes, pair, pS, rE}
 use Rattle.loose.proofs.Contracts as O
 use Rattle.suits.proofs.Contracts as S
 use Rattle.tap_line.proofs.read_line as r

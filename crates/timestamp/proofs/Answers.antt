@@ -8,7 +8,7 @@ use lib.IntN.{ℤ, pos, natAbs}
 use lib.ListN.{length}
 use Rattle.base.specs.Choose.{isAt}
 use Rattle.base.proofs.Tests.{both, by-if}
-use Rattle.calendar.specs.Calendar.{valid}
+use Rattle.calendar.specs.Calendar.{offsetLimit, valid}
 use Rattle.calendar.specs.Instant.{secondsOf, shown, isShown}
 use Rattle.calendar.specs.declared.DateTime.{DateTime}
 use Rattle.calendar.proofs.ThereAndBack.{back}
@@ -16,7 +16,7 @@ use Rattle.record.specs.declared.Stamp.{Stamp}
 use Rattle.record.specs.declared.Stamp.the-variants.{Unstamped, Stamped}
 use Rattle.record.specs.declared.Timestamp.{Timestamp}
 use Rattle.parsers.specs.Steps.{someBlanksFrom, numberFrom}
-use Rattle.parsers.proofs.Steps.{at-there}
+use Rattle.parsers.proofs.Steps.{at-there, colon-within}
 use Rattle.timestamp.specs.Clock.{clockFrom}
 use Rattle.timestamp.specs.Rfc3339.{eitherFrom, dateFrom, timeFrom, nanosFrom, zoneFrom, stampIf, endFrom, fullFrom, rfc3339From}
 use Rattle.timestamp.specs.Timestamp.{dayFrom, withoutYear, utcIf, withYear, orElse, rfc3164From}
@@ -24,7 +24,7 @@ use Rattle.timestamp.specs.declared.Stamping.{Stamping}
 use Rattle.timestamp.specs.declared.Stamping.the-variants.{NoStamp, IsStamp}
 use Rattle.timestamp.proofs.Onward.{on-num, on-pos, on-clock, on-date, on-day, on-zone}
 use Rattle.timestamp.proofs.Zones.{zone-in}
-use Rattle.timestamp.proofs.Within.{nanos-in, clock-within, time-within, colon-within}
+use Rattle.timestamp.proofs.Within.{nanos-in, clock-within, time-within}
 
 -- an offset of at most `most` minutes either way
 pub record InRange (most : ℕ) (t : Timestamp) : Type 0 where
@@ -53,7 +53,7 @@ module _ (most : ℕ) where
 
   module _ (s : List ℕ) where
     -- form (c)
-    module _ (room : 1439 ≤ most) where
+    module _ (room : offsetLimit ≤ most) where
       end-in : (t : DateTime) (at : ℕ) → at ≤ length s → StampingIn most (length s) (endFrom s t at)
       unfolding endFrom
       end-in t at h =
@@ -110,14 +110,14 @@ module _ (most : ℕ) where
 module _ (s : List ℕ) (at : ℕ) (g : Stamping) (t : Stamp) (n : ℕ) (z : g ≡ IsStamp t n) where
   module _ (e : g ≡ rfc3339From s at) where
     pub rfc3339-within : n ≤ length s
-    rfc3339-within = (rw (← e, z) at (rfc3339-in 1439 s (omega arith) at)) .1
+    rfc3339-within = (rw (← e, z) at (rfc3339-in offsetLimit s (omega arith) at)) .1
 
-    pub rfc3339-stamp : StampIn 1439 t
-    rfc3339-stamp = (rw (← e, z) at (rfc3339-in 1439 s (omega arith) at)) .0
+    pub rfc3339-stamp : StampIn offsetLimit t
+    rfc3339-stamp = (rw (← e, z) at (rfc3339-in offsetLimit s (omega arith) at)) .0
 
   module _ (year : ℕ) (o : ℤ) (e : g ≡ rfc3164From year o s at) where
     pub rfc3164-within : n ≤ length s
-    rfc3164-within = (rw (← e, z) at (rfc3164-in (natAbs o + 1439) s (omega arith) o (omega arith) year at)) .1
+    rfc3164-within = (rw (← e, z) at (rfc3164-in (natAbs o + offsetLimit) s (omega arith) o (omega arith) year at)) .1
 
-    pub rfc3164-stamp : natAbs o ≤ 1439 → StampIn 1439 t
-    rfc3164-stamp h = (rw (← e, z) at (rfc3164-in 1439 s (omega arith) o h year at)) .0
+    pub rfc3164-stamp : natAbs o ≤ offsetLimit → StampIn offsetLimit t
+    rfc3164-stamp h = (rw (← e, z) at (rfc3164-in offsetLimit s (omega arith) o h year at)) .0

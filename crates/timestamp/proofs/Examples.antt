@@ -1,4 +1,4 @@
--- 01's timestamps as worked examples, computed from the definitions.
+-- RULES Timestamp as worked examples, computed from the definitions.
 use Prim.Native.Nat.{ℕ}
 use mathlib.Core.Path.{_≡_, refl}
 use mathlib.Core.List.{[], _∷_, map}
@@ -11,7 +11,7 @@ use Rattle.calendar.specs.Instant.{localSeconds, secondsOf, spanFrom, yearOf, m
 use Rattle.calendar.specs.declared.Shown.the-variants.{At}
 use Rattle.record.specs.declared.Stamp.the-variants.{Unstamped, Stamped}
 use Rattle.parsers.specs.Steps.{someBlanksFrom, byteFrom, numberFrom}
-use Rattle.timestamp.specs.Month.{namedFrom, monthOf as numbered, monthFrom}
+use Rattle.timestamp.specs.Month.{lower, namedFrom, monthOf as numbered, monthFrom}
 use Rattle.timestamp.specs.Clock.{clockFrom}
 use Rattle.timestamp.specs.Rfc3339.{fixedFrom, eitherFrom, dateFrom, timeFrom, nanosFrom, minutesFrom, zoneFrom, endFrom, fullFrom, rfc3339From}
 use Rattle.timestamp.specs.Timestamp.{dayFrom, withoutYear, withYear, rfc3164From}
@@ -20,6 +20,10 @@ use Rattle.timestamp.specs.declared.Stamping.the-variants.{NoStamp, IsSt
 
 abbrev at : ℤ → ℕ → ℤ → ℕ → Stamping
 at seconds nanos offset next = IsStamp (Stamped (record { seconds = seconds; nanos = nanos; offset = offset })) next
+
+-- `A` to `Z` and nothing else
+lowers : map lower (64 ∷ 65 ∷ 90 ∷ 91 ∷ 97 ∷ 122 ∷ []) ≡ 64 ∷ 97 ∷ 122 ∷ 91 ∷ 97 ∷ 122 ∷ []
+lowers = refl
 
 -- month names in any case, of three letters
 names : map numbered (bytes "jan" ∷ bytes "Feb" ∷ bytes "MAR" ∷ bytes "aPr" ∷ bytes "maY" ∷ bytes "JUn" ∷ bytes "jUL" ∷ bytes "Aug" ∷ bytes "sep" ∷ bytes "OCT" ∷ bytes "nov" ∷ bytes "DeC" ∷ [])

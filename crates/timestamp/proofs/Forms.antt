@@ -1,26 +1,21 @@
 -- RFC 3164's forms (a) and (b), and the three in turn.
-use Prim.Native.Nat.{ℕ, _+_, _^_, _<_}
-use mathlib.Core.Path.{_≡_, sym, _∙_}
+use Prim.Native.Nat.{ℕ}
+use mathlib.Core.Path.{_≡_, _∙_}
 use mathlib.Core.List.{List}
-use mathlib.Core.Bool.{Bool, true, false}
-use native.Mathlib.Omega.{arith}
 use lib.IntN.{ℤ}
-use lib.ListN.{length}
-use mir.Syntax.{w32, w64}
-use mir.Val.{Fits, SFits, toZ, ofZ}
+use mir.Syntax.{w32}
+use mir.Val.{SFits, toZ, ofZ}
 use mir.ValLaws.{toZ-ofZ}
-use Rattle.base.specs.Choose.{isAt}
 use Rattle.record.specs.declared.Stamp.{Stamp}
-use Rattle.parsers.specs.Steps.{someBlanksFrom, numberFrom}
+use Rattle.parsers.specs.Steps.{someBlanksFrom, colonFrom, numberFrom}
 use Rattle.parsers.specs.declared.Num.{Num}
 use Rattle.parsers.specs.declared.Num.the-variants.{NoNum, IsNum}
 use Rattle.parsers.specs.declared.Pos.{Pos}
 use Rattle.parsers.specs.declared.Pos.the-variants.{NoPos, IsPos}
-use Rattle.parsers.proofs.Steps.{at-there}
 use Rattle.timestamp.specs.Month.{monthFrom}
 use Rattle.timestamp.specs.Clock.{clockFrom}
 use Rattle.timestamp.specs.Rfc3339.{stampIf, rfc3339From}
-use Rattle.timestamp.specs.Timestamp.{dayFrom, colonFrom, withoutYear, utcIf, withYear, rfc3164From}
+use Rattle.timestamp.specs.Timestamp.{dayFrom, withoutYear, utcIf, withYear, rfc3164From}
 use Rattle.timestamp.specs.declared.Clock.{Clock}
 use Rattle.timestamp.specs.declared.Clock.the-variants.{NoClock, IsClock}
 use Rattle.timestamp.specs.declared.Day.{Day}
@@ -54,20 +49,6 @@ module _ (s : List ℕ) (at : ℕ) (g1 : Num) (e1 : g1 ≡ monthFrom s at) where
         day-is d z = rw (← e1, z1, ← e2, z2, ← e3, z3, ← e4, z)
 
 pub ruleset day-laws = (day-month, day-blanks, day-number, day-end, day-is)
-
--- an optional `:`
-module _ (s : List ℕ) (at : ℕ) (t : Bool) (e : t ≡ isAt s at 58) where
-  module _ (h : t ≡ true) where
-    pub colon-yes : at + 1 ≡ colonFrom s at
-    colon-yes = rw (← e, h)
-
-    pub colon-fits : length s < 2 ^ 64 → Fits w64 (at + 1)
-    colon-fits l = record { fits = omega (arith, at-there s at 58 (omega arith) (sym e ∙ h)) }
-
-  pub colon-no : t ≡ false → at ≡ colonFrom s at
-  colon-no h = rw (← e, h)
-
-pub ruleset colon-laws = (colon-yes, colon-fits, colon-no)
 
 -- (a) and (b)
 module _ (o : ℤ) (f : SFits w32 o) (s : List ℕ) (at : ℕ) (g1 : Day) (e1 : g1 ≡ dayFrom s at) where

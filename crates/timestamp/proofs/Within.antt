@@ -17,7 +17,7 @@ use Rattle.parsers.proofs.Steps.{at-there, some-within}
 use Rattle.timestamp.specs.Month.{monthFrom}
 use Rattle.timestamp.specs.Clock.{clockFrom}
 use Rattle.timestamp.specs.Rfc3339.{dateFrom, timeFrom, nanosFrom}
-use Rattle.timestamp.specs.Timestamp.{dayFrom, colonFrom}
+use Rattle.timestamp.specs.Timestamp.{dayFrom}
 use Rattle.timestamp.specs.declared.Clock.{Clock}
 use Rattle.timestamp.specs.declared.Clock.the-variants.{NoClock, IsClock}
 use Rattle.timestamp.specs.declared.Date.{Date}
@@ -77,6 +77,3 @@ module _ (s : List ℕ) (at : ℕ) where
 
   pub nanos-within : at ≤ length s → (g : Num) → g ≡ nanosFrom s at → (v n : ℕ) → g ≡ IsNum v n → n ≤ length s
   nanos-within h g e v n z = (rw (← e, z) at (nanos-in s at h)) .1
-
-  pub colon-within : at ≤ length s → colonFrom s at ≤ length s
-  colon-within h = by-if (λ n. n ≤ length s) (isAt s at 58) _ _ (λ t. let l = at-there s at 58 (omega arith) t in omega arith) (λ t. h)

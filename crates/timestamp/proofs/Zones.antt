@@ -16,6 +16,7 @@ use mir.ValLaws.{toZ-ofZ}
 use Rattle.base.specs.Choose.{isAt}
 use Rattle.base.proofs.Tests.{both, by-if}
 use Rattle.base.proofs.Diffs.{sub-ge, sub-lt}
+use Rattle.calendar.specs.Calendar.{offsetLimit}
 use Rattle.parsers.specs.Steps.{byteFrom}
 use Rattle.parsers.specs.declared.Num.{Num}
 use Rattle.parsers.specs.declared.Num.the-variants.{NoNum, IsNum}
@@ -70,7 +71,7 @@ pub ruleset minutes-laws = (hours-fit, minutes-fit, minutes-hour, minutes-colon,
 -- at most 23:59, and in the line
 abbrev pub MinutesIn : ℕ → Num → Type 0
 MinutesIn n NoNum = Unit {0}
-MinutesIn n (IsNum v m) = (v ≤ 1439) × (m ≤ n)
+MinutesIn n (IsNum v m) = (v ≤ offsetLimit) × (m ≤ n)
 
 pub minutes-in : (s : List ℕ) (at : ℕ) → MinutesIn (length s) (minutesFrom s at)
 unfolding minutesFrom
@@ -83,22 +84,22 @@ minutes-in s at =
     (λ t. tt)
 
 module _ (s : List ℕ) (at : ℕ) (g : Num) (e : g ≡ minutesFrom s at) (v n : ℕ) (z : g ≡ IsNum v n) where
-  pub minutes-to : v ≤ 1439
+  pub minutes-to : v ≤ offsetLimit
   minutes-to = (rw (← e, z) at (minutes-in s at)) .0
 
 -- An offset as a difference
-module _ (a b : ℕ) (h : (a ≤ 1439) × (b ≤ 1439)) where
-  pub diff-to : natAbs (subℕ a b) ≤ 1439
+module _ (a b : ℕ) (h : (a ≤ offsetLimit) × (b ≤ offsetLimit)) where
+  pub diff-to : natAbs (subℕ a b) ≤ offsetLimit
   diff-to = go (decLe b a)
     where
-      go : Dec (b ≤ a) → natAbs (subℕ a b) ≤ 1439
+      go : Dec (b ≤ a) → natAbs (subℕ a b) ≤ offsetLimit
       go (yes p) = rw (sub-ge a b p) (omega arith)
       go (no p) = rw (sub-lt a b (omega arith)) (omega arith)
 
-  diff-mag : mag (subℕ a b) ≤ 1439
+  diff-mag : mag (subℕ a b) ≤ offsetLimit
   diff-mag = go (subℕ a b) diff-to
     where
-      go : (z : ℤ) → natAbs z ≤ 1439 → mag z ≤ 1439
+      go : (z : ℤ) → natAbs z ≤ offsetLimit → mag z ≤ offsetLimit
       go (pos n) l = l
       go (negsuc n) l = omega arith
 
@@ -164,7 +165,7 @@ pub ruleset zone-laws = (sign-past, zone-utc, zone-east, zone-west, zone-none)
 -- at most 23:59 either way, and in the line
 abbrev pub ZoneIn : ℕ → Zone → Type 0
 ZoneIn n NoZone = Unit {0}
-ZoneIn n (IsZone o m) = (natAbs o ≤ 1439) × (m ≤ n)
+ZoneIn n (IsZone o m) = (natAbs o ≤ offsetLimit) × (m ≤ n)
 
 pub zone-in : (s : List ℕ) (at : ℕ) → ZoneIn (length s) (zoneFrom s at)
 unfolding zoneFrom

@@ -1,14 +1,14 @@
 -- timestamp.rs, RFC 3164: forms (a), (b) and (c) in turn.
-use Prim.Native.Nat.{ℕ, _+_}
+use Prim.Native.Nat.{ℕ}
 use mathlib.Core.List.{List}
 use mathlib.Core.Bool.{_&&_}
 use lib.IntN.{ℤ, pos}
-use Rattle.base.specs.Choose.{if_then_else_, isAt}
+use Rattle.base.specs.Choose.{if_then_else_}
 use Rattle.calendar.specs.Calendar.{valid}
 use Rattle.calendar.specs.Instant.{secondsOf, shown, isShown}
 use Rattle.calendar.specs.declared.DateTime.{DateTime}
 use Rattle.record.specs.declared.Stamp.the-variants.{Stamped}
-use Rattle.parsers.specs.Steps.{someBlanksFrom, numberFrom, onNum, onPos}
+use Rattle.parsers.specs.Steps.{someBlanksFrom, colonFrom, numberFrom, onNum, onPos}
 use Rattle.timestamp.specs.Month.{monthFrom}
 use Rattle.timestamp.specs.Clock.{clockFrom, onClock}
 use Rattle.timestamp.specs.Rfc3339.{stampIf, rfc3339From}
@@ -29,10 +29,6 @@ dayFrom s at =
 abbrev pub onDay : {R : Type 0} → Day → R → (ℕ → ℕ → ℕ → R) → R
 onDay NoDay r k = r
 onDay (IsDay m d n) r k = k m d n
-
--- an optional `:` is passed
-abbrev pub colonFrom : List ℕ → ℕ → ℕ
-colonFrom s at = if isAt s at 58 then at + 1 else at
 
 -- (a) at the given year and offset, local time
 unfoldable pub withoutYear : ℕ → ℤ → List ℕ → ℕ → Stamping

@@ -9,10 +9,11 @@ ghost use mathlib.Core.List.{[], _∷_};
 ghost use Prim.Native.Nat.{_+_, _*_, _≤_, _<_};
 ghost use lib.IntN.{subℕ};
 ghost use lib.ListN.{length};
+ghost use Rattle.calendar.specs.Calendar.{offsetLimit};
 ghost use Rattle.timestamp.specs.Month.{lower, monthOf, monthFrom};
 ghost use Rattle.timestamp.specs.Clock.{clockFrom};
 ghost use Rattle.timestamp.specs.Rfc3339.{fixedFrom, eitherFrom, dateFrom, timeFrom, nanosFrom, minutesFrom, eastOf, westOf, zoneFrom, stampIf, endFrom, fullFrom, rfc3339From};
-ghost use Rattle.timestamp.specs.Timestamp.{dayFrom, colonFrom, withoutYear, utcIf, withYear, rfc3164From};
+ghost use Rattle.timestamp.specs.Timestamp.{dayFrom, withoutYear, utcIf, withYear, rfc3164From};
 
 // hour, minute, second, and the position behind them.
 pub enum Clock {
@@ -242,7 +243,7 @@ pub fn minutes_from(s: &[u8], at: usize) -> Num
 
 // The offset of so many minutes east, less so many west.
 fn offset_of(east: u32, west: u32) -> i32
-    requires { ⌜ (east ≤ 1439) × (west ≤ 1439) ⌝ }
+    requires { ⌜ (east ≤ offsetLimit) × (west ≤ offsetLimit) ⌝ }
     ensures { λ r. ⌜ r ≡ subℕ east west ⌝ }
 {
     base::narrow(base::join(east as u64, west as u64))
@@ -390,15 +391,6 @@ pub fn day_from(s: &[u8], at: usize) -> Day
     }
 }
 
-pub fn colon_from(s: &[u8], at: usize) -> usize
-    ensures { λ r. ⌜ r ≡ colonFrom (now (s .entry)) at ⌝ }
-{
-    if base::is_at(s, at, b':') {
-        return at + 1;
-    }
-    at
-}
-
 // Form (a): local time, in the given year and at the given offset.
 pub fn without_year(s: &[u8], at: usize, year: u32, offset: i32) -> Stamping
     requires { ⌜ at ≤ length (now s) ⌝ }
@@ -429,7 +421,7 @@ pub fn without_year(s: &[u8], at: usize, year: u32, offset: i32) -> Stamping
         minute,
         second,
     };
-    stamp_if(t, 0, offset, colon_from(s, b))
+    stamp_if(t, 0, offset, parsers::colon_from(s, b))
 }
 
 // The instant of a date and a clock in UTC, shown at the offset, where they are valid and the year shown is one of 0 to 9999.
@@ -489,7 +481,7 @@ pub fn with_year(s: &[u8], at: usize, offset: i32) -> Stamping
         minute,
         second,
     };
-    utc_if(t, offset, colon_from(s, d))
+    utc_if(t, offset, parsers::colon_from(s, d))
 }
 
 // RFC 3164's timestamp: the first of the three forms that is a reading.

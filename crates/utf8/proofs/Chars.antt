@@ -93,7 +93,7 @@ asked-some (asked e t) = omega arith
 pub char-some : {c : List ℕ} → Utf8Char c → 1 ≤ length c
 char-some h = asked-some (asked-for h)
 
--- a character's bytes behind its first are tails, and a tail begins no character
+-- a character's bytes after its first are tails, and a tail begins no character
 
 tails-all : {k lo hi : ℕ} {s : List ℕ} → (0 < k → (0x80 ≤ lo) × (hi ≤ 0xBF)) → Tails k lo hi s → All isTail s
 tails-all o done = tt

@@ -1,11 +1,12 @@
--- Worked examples, computed from the definitions: the borders of every range of 01, and RFC 3629's own texts.
+-- Worked examples, computed from the definitions: the borders of every range of RULES Strict 16, and RFC 3629's own texts.
 use Prim.Native.Nat.{ℕ, suc, _-_}
 use mathlib.Core.Path.{_≡_, refl}
-use mathlib.Core.Bool.{Bool, true, false}
+use mathlib.Core.Bool.{Bool, true, false, not}
 use mathlib.Core.List.{List, [], _∷_, _++_, map}
-use Rattle.utf8.specs.Lead.{leadOf, wellFormed, charLen, utf8From, isUtf8}
+use Rattle.utf8.specs.Lead.{asks, leadOf, wellFormed, charLen, utf8From, isUtf8}
+use Rattle.utf8.specs.Characters.{isChar, charRun}
 
--- the answer for each byte, with `front` before it and `back` behind it
+-- the answer for each byte, with `front` before it and `back` after it
 abbrev between : List ℕ → List ℕ → List ℕ → List Bool
 between front back = map (λ b. isUtf8 (front ++ b ∷ back))
 
@@ -104,3 +105,34 @@ lengths : map charLen
     ≡ 0 ∷ 1 ∷ 2 ∷ 3 ∷ 4 ∷ 0 ∷ 0 ∷ 0 ∷ 0 ∷ 0 ∷ 0 ∷ []
 unfolding leadOf wellFormed charLen
 lengths = refl
+
+-- the characters before the first `:`, in bytes: none, é before it, it first, a and € with none
+runs : map (charRun (λ c. not (isChar 58 c)))
+    ([]
+    ∷ ((0xC3 ∷ 0xA9 ∷ []) ∷ (0x3A ∷ []) ∷ (0x61 ∷ []) ∷ [])
+    ∷ ((0x3A ∷ []) ∷ (0xC3 ∷ 0xA9 ∷ []) ∷ [])
+    ∷ ((0x61 ∷ []) ∷ (0xE2 ∷ 0x82 ∷ 0xAC ∷ []) ∷ [])
+    ∷ [])
+    ≡ 0 ∷ 2 ∷ 0 ∷ 4 ∷ []
+unfolding charRun
+runs = refl
+
+-- what a byte of each range asks for, the first and the last; and what begins no character
+leads : map leadOf (0x00 ∷ 0x7F ∷ 0x80 ∷ 0xC1 ∷ 0xC2 ∷ 0xDF ∷ 0xE0 ∷ 0xE1 ∷ 0xEC ∷ 0xED ∷ 0xEE ∷ 0xEF ∷ 0xF0 ∷ 0xF1 ∷ 0xF3 ∷ 0xF4 ∷ 0xF5 ∷ 0xFF ∷ [])
+    ≡ asks 1 0 0 ∷ asks 1 0 0 ∷ asks 0 0 0 ∷ asks 0 0 0 ∷ asks 2 0x80 0xBF ∷ asks 2 0x80 0xBF ∷ asks 3 0xA0 0xBF ∷ asks 3 0x80 0xBF ∷ asks 3 0x80 0xBF ∷ asks 3 0x80 0x9F
+    ∷ asks 3 0x80 0xBF ∷ asks 3 0x80 0xBF ∷ asks 4 0x90 0xBF ∷ asks 4 0x80 0xBF ∷ asks 4 0x80 0xBF ∷ asks 4 0x80 0x8F ∷ asks 0 0 0 ∷ asks 0 0 0 ∷ []
+unfolding leadOf
+leads = refl
+
+-- each byte after a lead byte is asked for in its own place
+places : map charLen
+    ((0xCE ∷ 0x2E ∷ 0x91 ∷ [])
+    ∷ (0xE2 ∷ 0x41 ∷ 0x89 ∷ 0x89 ∷ [])
+    ∷ (0xE2 ∷ 0x89 ∷ 0x41 ∷ 0x89 ∷ [])
+    ∷ (0xF0 ∷ 0x41 ∷ 0x90 ∷ 0x90 ∷ 0x90 ∷ [])
+    ∷ (0xF0 ∷ 0x90 ∷ 0x41 ∷ 0x90 ∷ 0x90 ∷ [])
+    ∷ (0xF0 ∷ 0x90 ∷ 0x90 ∷ 0x41 ∷ 0x90 ∷ [])
+    ∷ [])
+    ≡ 0 ∷ 0 ∷ 0 ∷ 0 ∷ 0 ∷ 0 ∷ []
+unfolding leadOf wellFormed charLen
+places = refl

@@ -4,4 +4,6 @@ pub mod Walk
 pub mod Asked
 pub mod Chars
 pub mod Texts
+pub mod Cuts
+pub mod ByCharacters
 pub mod Examples

@@ -1,4 +1,4 @@
--- What a lead byte asks for (01's ranges), and two readings from it: the character at the front of a text, and a text byte by byte.
+-- What a lead byte asks for (RULES Strict 16); from it the character at the front of a text, and a text byte by byte.
 use Prim.Native.Nat.{ℕ, zero, suc, _-_}
 use mathlib.Core.List.{List, [], _∷_}
 use mathlib.Core.Bool.{Bool, _&&_, _||_}

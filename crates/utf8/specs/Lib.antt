@@ -1,2 +1,3 @@
 pub mod Rfc3629
 pub mod Lead
+pub mod Characters

@@ -41,7 +41,7 @@ module _ (s : List ℕ) (n : ℕ) (l : n ≤ length s) (z : n ≡ 0 → ⊥) whe
   pub together : whiteLen (take n s) ≡ n → whiteLen s ≡ n
   together e = begins s n l (rw same at (begun (take n s) n (sym e) z))
 
--- no place within a character has white characters alone behind it
+-- no place within a character has white characters alone after it
 pub not-inside : {c : List ℕ} → Utf8Char c → (t : List ℕ) (m : ℕ) → 1 ≤ m → m < length c → Blank (drop m (c ++ t)) → ⊥
 not-inside {c} u t m z l b =
     omega (arith, b, run-stops (drop m (c ++ t)) (white-inside u t m z l), length-drop m (c ++ t), length-append c t)
@@ -53,7 +53,7 @@ pub record Last (s : List ℕ) (m : ℕ) : Type 0 where
   pub most : size ≤ 3
   pub there : endsWhite s m size ≡ true
 
--- the same, of what stands behind place `a`
+-- the same, of what stands after place `a`
 pub last-behind : (s : List ℕ) (a m e : ℕ) → a + m ≡ e → Last (drop a s) m → Last s e
 last-behind s a m e p last =
     let n = last .size in
@@ -67,7 +67,7 @@ last-behind s a m e p last =
       there = ending s e n (omega arith) (ap (λ (r : List ℕ). whiteLen (take n r)) d ∙ w);
     }
 
--- A place of the white characters at the front, with white characters alone behind it, lies between two of them
+-- A place of the white characters at the front, with white characters alone after it, lies between two of them
 pub record Met (s : List ℕ) (m : ℕ) : Type 0 where
   pub blank : Blank s
   pub last : 0 < m → Last s m

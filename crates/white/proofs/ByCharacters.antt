@@ -1,31 +1,50 @@
 -- In a text of characters the walks by bytes meet the characters' own white ones, and no others.
-use Prim.Native.Nat.{ℕ, suc, _+_, _<_}
+use Prim.Native.Nat.{ℕ, suc, _+_, _≤_, _<_}
 use mathlib.Core.Path.{_≡_, refl, sym, ap, _∙_}
-use mathlib.Core.Bool.{Bool, true, false, _&&_}
+use mathlib.Core.Bool.{Bool, true, false, not, _&&_}
 use mathlib.Core.List.{List, [], _∷_, _++_}
 use native.Mathlib.Decide.{ℕ-discrete}
 use native.Mathlib.Omega.{arith}
+use lib.Dec.{eqb}
 use lib.ListN.{length, drop, length-append}
-use lib.Seq.{drop-append-seam}
+use lib.Seq.{drop-append-seam, drop-append-add}
+use borrow.Author.Tests.{ne-eqb}
+use Rattle.base.specs.Choose.{if_then_else_}
 use Rattle.base.proofs.Tests.{both, clash, by-if}
 use Rattle.utf8.specs.Rfc3629.{Utf8Char, Characters, octets}
+use Rattle.utf8.specs.Lead.{utf8From, isUtf8}
+use Rattle.utf8.specs.Characters.{charRun}
 use Rattle.utf8.proofs.Chars.{char-some}
+use Rattle.utf8.proofs.ByCharacters.{Walk, Tests, walk-by-characters, walk-cuts}
+use Rattle.utf8.proofs.Texts.{utf8-sound, utf8-complete}
 use Rattle.white.specs.White.{whiteLen}
 use Rattle.white.specs.Trim.{fieldLen, whiteFrom, whiteRun, textEnd}
 use Rattle.white.specs.Characters.{whiteChar, fieldOf, whiteOf, allWhite, endOf}
 use Rattle.white.proofs.Whites.{white-at, white-inside}
-use Rattle.white.proofs.Walks.{field-more, field-stops, run-more, run-stops}
+use Rattle.white.proofs.Walks.{run-more, run-stops}
 use Rattle.white.proofs.Blanks.{Blank, not-inside}
 use Rattle.white.proofs.Trims.{end-first, end-more}
 
--- bytes within which no white character begins
-field-over : (c t : List ℕ) → ((m : ℕ) → m < length c → whiteLen (drop m (c ++ t)) ≡ 0) → fieldLen (c ++ t) ≡ length c + fieldLen t
-field-over [] t h = omega arith
-field-over (x ∷ c) t h =
-    let r = field-over c t (λ m l. h (suc m) (omega arith)) in
-    omega (arith, field-more x (c ++ t) (h 0 (omega arith)))
+-- no white character begins within a character, so that the walk of a field asks of characters alone
+pub tests-not-white : Tests true (λ s. eqb (whiteLen s) 0) (λ c. not (whiteChar c))
+tests-not-white = record { at-front = λ {c} u t. rw (white-at u t) (go c (whiteChar c) (char-some u)); at-later = λ u t m z l. rw (white-inside u t m z l) }
+  where
+    go : (c : List ℕ) (w : Bool) → 1 ≤ length c → eqb (if w then length c else 0) 0 ≡ not w
+    go c true l = ne-eqb (length c) 0 (omega arith)
+    go c false l = refl
 
--- bytes behind none of which there are white characters alone
+field-walk : Walk (λ s. eqb (whiteLen s) 0) fieldLen
+unfolding fieldLen
+field-walk = record { out = refl; turn = λ b s. refl }
+
+pub field-by-characters : (cs : List (List ℕ)) → Characters cs → fieldLen (octets cs) ≡ fieldOf cs
+field-by-characters = walk-by-characters field-walk tests-not-white
+
+-- a field ends between two characters
+pub field-cuts : (s : List ℕ) → isUtf8 s ≡ true → isUtf8 (drop (fieldLen s) s) ≡ true
+field-cuts = walk-cuts field-walk tests-not-white
+
+-- bytes after none of which there are white characters alone
 end-over : (c t : List ℕ) → ((m : ℕ) → m < length c → Blank (drop m (c ++ t)) → ⊥) → textEnd (c ++ t) ≡ length c + textEnd t
 end-over [] t h = omega arith
 end-over (x ∷ c) t h =
@@ -37,9 +56,6 @@ module _ {c : List ℕ} (u : Utf8Char c) (t : List ℕ) where
     white-here : length c ≡ whiteLen (c ++ t)
     white-here = sym (white-at u t ∙ rw w)
 
-    field-white : fieldLen (c ++ t) ≡ 0
-    field-white = field-stops (c ++ t) (λ z. omega (arith, char-some u, white-here))
-
     run-white : whiteRun (c ++ t) ≡ length c + whiteRun t
     run-white = rw (drop-append-seam c t) at (run-more (c ++ t) (length c) white-here (λ z. omega (arith, char-some u)))
 
@@ -47,26 +63,11 @@ module _ {c : List ℕ} (u : Utf8Char c) (t : List ℕ) where
     not-here : whiteLen (c ++ t) ≡ 0
     not-here = white-at u t ∙ rw w
 
-    field-text : fieldLen (c ++ t) ≡ length c + fieldLen t
-    field-text = field-over c t (λ m. go (ℕ-discrete m 0))
-      where
-        go : {m : ℕ} → Dec (m ≡ 0) → m < length c → whiteLen (drop m (c ++ t)) ≡ 0
-        go (yes z) l = rw z not-here
-        go {m} (no z) l = white-inside u t m (omega arith) l
-
     run-text : whiteRun (c ++ t) ≡ 0
     run-text = run-stops (c ++ t) not-here
 
-pub field-by-characters : (cs : List (List ℕ)) → Characters cs → fieldLen (octets cs) ≡ fieldOf cs
-unfolding fieldLen fieldOf
-field-by-characters [] h = refl
-field-by-characters (c ∷ cs) (u, h) =
-    by-if (λ n. fieldLen (c ++ octets cs) ≡ n) (whiteChar c) 0 (length c + fieldOf cs)
-    (λ w. field-white u (octets cs) w)
-    (λ w. field-text u (octets cs) w ∙ ap (λ (n : ℕ). length c + n) (field-by-characters cs h))
-
 pub white-by-characters : (cs : List (List ℕ)) → Characters cs → whiteRun (octets cs) ≡ whiteOf cs
-unfolding whiteFrom whiteOf
+unfolding whiteFrom charRun
 white-by-characters [] h = refl
 white-by-characters (c ∷ cs) (u, h) =
     by-if (λ n. whiteRun (c ++ octets cs) ≡ n) (whiteChar c) (length c + whiteOf cs) 0
@@ -104,3 +105,17 @@ end-by-characters (c ∷ cs) (u, h) =
     go : {m : ℕ} → allWhite (c ∷ cs) ≡ false → Dec (m ≡ 0) → m < length c → Blank (drop m (c ++ octets cs)) → ⊥
     go a (yes z) l b = clash (sym (blank-all (c ∷ cs) (u, h) (rw z at b)) ∙ a)
     go {m} a (no z) l b = not-inside u (octets cs) m (omega arith) l b
+
+-- a trimmed text ends between two characters
+end-cut : (cs : List (List ℕ)) → Characters cs → isUtf8 (drop (endOf cs) (octets cs)) ≡ true
+unfolding endOf utf8From
+end-cut [] h = refl
+end-cut (c ∷ cs) (u, h) =
+    by-if (λ n. isUtf8 (drop n (c ++ octets cs)) ≡ true) (allWhite (c ∷ cs)) 0 (length c + endOf cs)
+    (λ a. utf8-complete (c ++ octets cs) (record { characters = c ∷ cs; each = (u, h); text = refl }))
+    (λ a. rw (drop-append-add c (octets cs) (endOf cs)) (end-cut cs h))
+
+pub end-cuts : (s : List ℕ) → isUtf8 s ≡ true → isUtf8 (drop (textEnd s) s) ≡ true
+end-cuts s h =
+    let u = utf8-sound s h in
+    rw (u .text, end-by-characters (u .characters) (u .each)) (end-cut (u .characters) (u .each))

@@ -51,7 +51,7 @@ no-characters : map whiteLen ((0x85 ∷ []) ∷ (0xA0 ∷ []) ∷ (0xE2 ∷ 0x80
 unfolding leadOf wellFormed charLen isWhite codePoint whiteLen
 no-characters = refl
 
--- behind the field a tab, U+00A0, U+2028, nothing; U+0145, whose last byte is 0x85, is no white character
+-- after the field a tab, U+00A0, U+2028, nothing; U+0145, whose last byte is 0x85, is no white character
 fields : map fieldLen (
     bytes "ab\tc"
     ∷ (0x61 ∷ 0xC2 ∷ 0xA0 ∷ [])
@@ -81,3 +81,10 @@ trims : map trimmed (
     ) ≡ ends 3 6 ∷ ends 1 3 ∷ ends 0 3 ∷ []
 unfolding leadOf wellFormed charLen isWhite codePoint whiteLen whiteFrom textEnd trimmed
 trims = refl
+
+-- the least and the greatest code point of one, two, three and four bytes
+points : map codePoint
+    ((0x00 ∷ []) ∷ (0x7F ∷ []) ∷ (0xC2 ∷ 0x80 ∷ []) ∷ (0xDF ∷ 0xBF ∷ []) ∷ (0xE0 ∷ 0xA0 ∷ 0x80 ∷ []) ∷ (0xEF ∷ 0xBF ∷ 0xBF ∷ []) ∷ (0xF0 ∷ 0x90 ∷ 0x80 ∷ 0x80 ∷ []) ∷ (0xF4 ∷ 0x8F ∷ 0xBF ∷ 0xBF ∷ []) ∷ [])
+    ≡ 0x00 ∷ 0x7F ∷ 0x80 ∷ 0x7FF ∷ 0x800 ∷ 0xFFFF ∷ 0x10000 ∷ 0x10FFFF ∷ []
+unfolding codePoint
+points = refl

@@ -17,7 +17,7 @@ use Rattle.white.specs.declared.Ends.{Ends}
 use Rattle.white.proofs.Blanks.{Blank, Last, ends, together, last-behind, meets}
 use Rattle.white.proofs.Walks.{run-more}
 
--- The end of the text is the first place behind which there are white characters alone
+-- The end of the text is the first place after which there are white characters alone
 pub end-first : (s : List ℕ) (k : ℕ) → Blank (drop k s) → textEnd s ≤ k
 unfolding textEnd
 end-first [] k b = omega arith

@@ -66,7 +66,7 @@ run-skip zero s h = omega arith
 run-skip (suc k) [] h = absurd (omega arith)
 run-skip (suc k) (b ∷ s) h = let r = run-skip k s (omega arith) in omega arith
 
--- a white character, and the run behind it
+-- a white character, and the run after it
 pub run-more : (s : List ℕ) (w : ℕ) → w ≡ whiteLen s → (w ≡ 0 → ⊥) → whiteRun s ≡ w + whiteRun (drop w s)
 unfolding whiteFrom
 run-more s zero e z = absurd (z refl)

@@ -1,4 +1,4 @@
--- The white character that ends at a place: what `text_end`, which goes from the back, asks at each step. (For private contracts alone.)
+-- For private contracts alone: the white character that ends at a place, which `text_end`, going from the back, asks for at each step.
 use Prim.Native.Nat.{ℕ, _-_}
 use mathlib.Core.List.{List}
 use mathlib.Core.Bool.{Bool, _&&_}

@@ -12,7 +12,7 @@ unfoldable pub fieldLen : List ℕ → ℕ
 fieldLen [] = 0
 fieldLen (b ∷ s) = if eqb (whiteLen (b ∷ s)) 0 then suc (fieldLen s) else 0
 
--- how many bytes the white characters at the front take, behind the `k` bytes that still belong to the one before
+-- how many bytes the white characters at the front take, after the `k` bytes that still belong to the one before
 unfoldable pub whiteFrom : ℕ → List ℕ → ℕ
 whiteFrom k [] = 0
 whiteFrom zero (b ∷ s) = if eqb (whiteLen (b ∷ s)) 0 then 0 else suc (whiteFrom (whiteLen (b ∷ s) - 1) s)
@@ -21,7 +21,7 @@ whiteFrom (suc k) (b ∷ s) = suc (whiteFrom k s)
 abbrev pub whiteRun : List ℕ → ℕ
 whiteRun s = whiteFrom 0 s
 
--- where the text ends: the first place behind which there are white characters alone
+-- where the text ends: the first place after which there are white characters alone
 unfoldable pub textEnd : List ℕ → ℕ
 textEnd [] = 0
 textEnd (b ∷ s) = if eqb (whiteRun (b ∷ s)) (length (b ∷ s)) then 0 else suc (textEnd s)

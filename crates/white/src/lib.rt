@@ -132,7 +132,7 @@ fn white_before(s: &[u8], end: usize) -> usize
     0
 }
 
-// Where the text ends, from its back: the first place behind which there are white characters alone.
+// Where the text ends, from its back: the first place after which there are white characters alone.
 pub fn text_end(s: &[u8]) -> usize
     ensures { λ r. ⌜ r ≡ textEnd (now (s .entry)) ⌝ }
 {

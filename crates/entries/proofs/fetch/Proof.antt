@@ -1,5 +1,5 @@
 -- `entries::fetch` meets its contract: a derivation by hand.
-use Rattle.rules.specs.Derive.{arith, refl, w64, mul, offset, unsigned, tablesOf, World, world, sPtr, i64, R·, Derived, Laid, proves, _▹_, _▸_, puts, copies, loads, room, returns, gone, over, struct, sc, num, fld, lit, sptr, same, held}
+use Rattle.derivation.specs.Derive.{arith, refl, w64, mul, offset, unsigned, tablesOf, World, world, sPtr, i64, R·, Derived, Laid, proves, _▹_, _▸_, puts, copies, loads, room, returns, gone, over, struct, sc, num, fld, lit, sptr, same, held}
 use Rattle.entries.proofs.Contracts as C
 use Rattle.entries.proofs.fetch.Key
 use Rattle.entries.proofs.fetch.Statement as stated

@@ -1,5 +1,5 @@
 -- `entries::store` meets its contract: a derivation by hand.
-use Rattle.rules.specs.Derive.{arith, refl, set, length-set, w64, mul, offset, unsigned, tablesOf, fix-len, World, world, sPtr, sUnit, i64, R·, Derived, Laid, proves, _▹_, _▸_, put, puts, stores, room, returns, gone, over, struct, sc, num, fld, lit, unit, ptr, same, held}
+use Rattle.derivation.specs.Derive.{arith, refl, set, length-set, w64, mul, offset, unsigned, tablesOf, fix-len, World, world, sPtr, sUnit, i64, R·, Derived, Laid, proves, _▹_, _▸_, put, puts, stores, room, returns, gone, over, struct, sc, num, fld, lit, unit, ptr, same, held}
 use Rattle.entries.proofs.Contracts as C
 use Rattle.entries.proofs.store.Key
 use Rattle.entries.proofs.store.Statement as stated

@@ -1,5 +1,5 @@
 -- `exports::khamdoriem_read_strict` meets its contract: a derivation by hand. With too little memory the answer alone is asked for; else both tables are lent on to the reader, and the memory for its record.
-use Rattle.rules.specs.Derive.{Asked, Cx, Derived, Laid, Learnt, Lfts, Life, List, Row, R·, Shares, World, [], _<_, _∷_, _≤_, _▸_, _▹_, alive, any-gone, at, back, begin, branch, by-choice, by-mut, by-num, by-shr, bytes, calls, choice, chosen-held, cites, cx, eT, finish, fix-len, fld, gone, i64, join, lease, leased, len, lend, lends, length, lent, lit, lose, lt, ltb-false, ltb-true, made, muts, nexts, none, num, off, over, owed, owing, packs, pair, proves, put, puts, refl, returns, room, sBool, same, sc, shr, sliceTy, spent, tablesOf, tyBool, tyInt, unmade, unsigned, w32, w64, world}
+use Rattle.derivation.specs.Derive.{Asked, Cx, Derived, Laid, Learnt, Lfts, Life, List, Row, R·, Shares, World, [], _<_, _∷_, _≤_, _▸_, _▹_, alive, any-gone, at, back, begin, branch, by-choice, by-mut, by-num, by-shr, bytes, calls, choice, chosen-held, cites, cx, eT, finish, fix-len, fld, gone, i64, join, lease, leased, len, lend, lends, length, lent, lit, lose, lt, ltb-false, ltb-true, made, muts, nexts, none, num, off, over, owed, owing, packs, pair, proves, put, puts, refl, returns, room, sBool, same, sc, shr, sliceTy, spent, tablesOf, tyBool, tyInt, unmade, unsigned, w32, w64, world}
 use Rattle.record.specs.Params.{rows}
 use Rattle.record.specs.Answers.{strictAnswerOf}
 use Rattle.record.proofs.Params.{rows-length}
@@ -11,6 +11,7 @@ use Rattle.strict.proofs.answer.Symbol as As
 use Rattle.strict.proofs.answer.Met as Am
 use Rattle.strict.proofs.read.Symbol as Rs
 use Rattle.strict.proofs.read.Met as Rm
+use Rattle.layout.specs.Layout.{strictSize}
 use Rattle.exports.proofs.Contracts as C
 use Rattle.exports.proofs.khamdoriem_read_strict.Key
 use Rattle.exports.proofs.khamdoriem_read_strict.Statement as stated
@@ -41,7 +42,7 @@ module _ (w : World) where
   abbrev derived : Derived C.read-strict w code.env Key.name 2 code.function
   derived κs qs bs =
       put 5 i64 gone (fld 4 1 (len bytes 3) refl) refl (λ u. refl) (λ u. tt) ▹
-      puts 9 sBool gone (lt unsigned) (num 5 (sc i64) refl) (lit w64 240 tt) refl (λ u. refl) (λ u. tt) ▹ room 5 (over i64) ▸
+      puts 9 sBool gone (lt unsigned) (num 5 (sc i64) refl) (lit w64 strictSize tt) refl (λ u. refl) (λ u. tt) ▹ room 5 (over i64) ▸
       join (head-at κs qs (unmade O.reading) (unmade O.reading)) (branch 9 (λ x. x) (sc sBool) refl (
       room 9 (over sBool) ▸ at (head-at κs qs (unmade O.reading) (unmade O.reading)) ▸
       put 6 i64 gone (fld 2 1 (len pair 1) refl) refl (λ u. refl) (λ u. tt) ▹
@@ -62,7 +63,21 @@ module _ (w : World) where
 
   laid : Laid C.read-strict w code.env Key.name 2 code.function derived
   laid κs qs a good pre bs =
-      (tt, ((λ t. let l : length ((a .1 .1 .1 .0) .now) < 240 = ltb-true (length ((a .1 .1 .1 .0) .now)) 240 t in ((λ ls. tt), λ g. ((λ ls. tt), λ n. ((refl, (refl, (refl, (refl, tt)))), strict-short (a .0 .now) ((a .1 .0) .now) (rows ((a .1 .1 .0) .now)) ((a .1 .1 .1 .0) .now) l (g .1) (rw (rows-length ((a .1 .1 .0) .now)) (g .5)) (strictAnswerOf (g .1)) refl (n .1) (n .5))))), (λ f. let l : 240 ≤ length ((a .1 .1 .1 .0) .now) = ltb-false (length ((a .1 .1 .1 .0) .now)) 240 f in λ γ. (refl, λ γ′. (refl, ((λ ls. tt), λ g. (refl, λ k. (refl, λ k′. λ γ″. (refl, ((λ ls. l), λ n. (refl, λ q. ((refl, (fix-len ((a .1 .0) .ptr) ((a .1 .0) .name) (g .2 .1 .0) ((a .1 .0) .now) k′, (fix-len ((a .1 .1 .0) .ptr) ((a .1 .1 .0) .name) (g .2 .1 .1 .0) ((a .1 .1 .0) .now) k, (fix-len ((a .1 .1 .1 .0) .ptr) ((a .1 .1 .1 .0) .name) (n .2 .1 .0) ((a .1 .1 .1 .0) .now) q, tt)))), strict-all (a .0 .now) ((a .1 .0) .now) (rows ((a .1 .1 .0) .now)) ((a .1 .1 .1 .0) .now) l (g .1) (g .2 .1 .0) (rows (g .2 .1 .1 .0)) (g .5) (n .1) (n .2 .1 .0) (n .5)))))))))))))
+      let e = a .1 .0 in
+      let p = a .1 .1 .0 in
+      let m = a .1 .1 .1 .0 in
+      let short = strict-short (a .0 .now) (e .now) (rows (p .now)) (m .now) in
+      let all = strict-all (a .0 .now) (e .now) (rows (p .now)) (m .now) in (
+        tt,
+        (
+          (λ t.
+              let l : length (m .now) < strictSize = ltb-true (length (m .now)) strictSize t in
+              ((λ ls. tt), λ g. ((λ ls. tt), λ n. ((refl, (refl, (refl, (refl, tt)))), short l (g .1) (rw (rows-length (p .now)) (g .5)) (strictAnswerOf (g .1)) refl (n .1) (n .5))))),
+          (λ f.
+              let l : strictSize ≤ length (m .now) = ltb-false (length (m .now)) strictSize f in
+              λ γ. (refl, λ γ′. (refl, ((λ ls. tt), λ g. (refl, λ k. (refl, λ k′. λ γ″. (refl, ((λ ls. l), λ n. (refl, λ q. ((refl, (fix-len (e .ptr) (e .name) (g .2 .1 .0) (e .now) k′, (fix-len (p .ptr) (p .name) (g .2 .1 .1 .0) (p .now) k, (fix-len (m .ptr) (m .name) (n .2 .1 .0) (m .now) q, tt)))), all l (g .1) (g .2 .1 .0) (rows (g .2 .1 .1 .0)) (g .5) (n .1) (n .2 .1 .0) (n .5))))))))))),
+        ),
+      )
 
 pub khamdoriem-read-strict-spec : {M : Type 1} → stated.statement M
 unfolding code.routine tablesOf

@@ -15,6 +15,9 @@ is-marked-requires c κs = search needs
 word-at-requires-3 : tie.Need-word-at-requires-3
 word-at-requires-3 c κs = search needs
 
+add-word-at : tie.Need-add-word-at
+add-word-at c = search needs
+
 word-at-requires-4 : tie.Need-word-at-requires-4
 word-at-requires-4 c κs = search needs
 
@@ -23,6 +26,9 @@ is-marked-requires-2 c κs = search needs
 
 word-at-requires-5 : tie.Need-word-at-requires-5
 word-at-requires-5 c κs = search needs
+
+add-word-at-2 : tie.Need-add-word-at-2
+add-word-at-2 c = search needs
 
 word-at-requires-6 : tie.Need-word-at-requires-6
 word-at-requires-6 c κs = search needs
@@ -57,9 +63,11 @@ front-held-spec =
     word-at-requires-2
     is-marked-requires
     word-at-requires-3
+    add-word-at
     word-at-requires-4
     is-marked-requires-2
     word-at-requires-5
+    add-word-at-2
     word-at-requires-6
     is-marked-requires-3
     word-at-requires-7

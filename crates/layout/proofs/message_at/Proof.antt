@@ -5,6 +5,9 @@ use Rattle.layout.proofs.message_at.Tie as tie
 word-at-requires : tie.Need-word-at-requires
 word-at-requires c κs = search needs
 
+add-word-at : tie.Need-add-word-at
+add-word-at c = search needs
+
 word-at-requires-2 : tie.Need-word-at-requires-2
 word-at-requires-2 c κs = search needs
 
@@ -12,4 +15,4 @@ returns : tie.Need-returns
 returns c = cc
 
 pub message-at-spec : {M : Type 1} → statement M
-message-at-spec = tie.close (tie.spec word-at-requires word-at-requires-2 returns)
+message-at-spec = tie.close (tie.spec word-at-requires add-word-at word-at-requires-2 returns)

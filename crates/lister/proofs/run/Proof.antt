@@ -1,5 +1,5 @@
 -- `lister::run` meets its contract: a derivation by hand. In each turn the line and the chunk are lent on; where a line is ready, the part of it that is used, both tables, the second of them a local one, to the strict reader.
-use Rattle.rules.specs.Derive.{ℕ, _≤_, _<_, _-_, arith, _≡_, refl, sym, ap, _∙_, List, [], _∷_, length, tyUnit, tyBool, tyInt, tyPtr, sliceTy, w64, lt, offset, unsigned, Lfts, Shares, tablesOf, lit<, ltb-true, fix-len, World, world, Cx, Row, Life, lease, off, alive, sc-here, any-gone, sPtr, sBool, sUnit, i64, bytes, pair, here, lost, made, unmade, muts, owing, leased, spent, sharing, shared, slots₃, R·, aT, eT, iT, cx, Derived, Laid, proves, cites, Asked, Learnt, _▹_, _▸_, _◂_, at, join, put, puts, calls, lends, packs, back, shares, cuts, packs-part, unshares, begin, finish, lose, repeats, arrays, borrows, packs-all, returned, read-whole, as-array, array, branch, room, blocks, loops, nexts, exits, returns, last, gone, over, struct, choice, unshared, sc, num, fld, lit, unit, part, ptr, owed, same, held, chosen-held, lent, part-lend, none, by-val, by-choice, by-part, by-mut}
+use Rattle.derivation.specs.Derive.{ℕ, _≤_, _<_, _-_, arith, _≡_, refl, sym, ap, _∙_, List, [], _∷_, length, tyUnit, tyBool, tyInt, tyPtr, sliceTy, w64, lt, offset, unsigned, Lfts, Shares, tablesOf, lit<, ltb-true, fix-len, World, world, Cx, Row, Life, lease, off, alive, sc-here, any-gone, sPtr, sBool, sUnit, i64, bytes, pair, here, lost, made, unmade, muts, owing, leased, spent, sharing, shared, slots₃, R·, aT, eT, iT, cx, Derived, Laid, proves, cites, Asked, Learnt, _▹_, _▸_, _◂_, at, join, put, puts, calls, lends, packs, back, shares, cuts, packs-part, unshares, begin, finish, lose, repeats, arrays, borrows, packs-all, returned, read-whole, as-array, array, branch, room, blocks, loops, nexts, exits, returns, last, gone, over, struct, choice, unshared, sc, num, fld, lit, unit, part, ptr, owed, same, held, chosen-held, lent, part-lend, none, by-val, by-choice, by-part, by-mut}
 use mir.Syntax.{sub}
 use mir.Val.{vint}
 use lib.ListN.{replicate, length-replicate}

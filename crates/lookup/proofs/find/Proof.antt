@@ -1,5 +1,5 @@
 -- `lookup::find` meets its contract: a derivation by hand. The invariant: the entries passed do not match, or the one that does is found.
-use Rattle.rules.specs.Derive.{Asked, Cx, Derived, Laid, Learnt, Lfts, Row, R·, Shares, World, [], _-_, _<_, _∙_, _∷_, _≤_, _▸_, _▹_, _◂_, any-gone, ap, arith, at, blocks, branch, by-num, by-shr, by-val, bytes, calls, cites, cx, exits, fld, gone, held, here, i64, join, last, lease, lend, length, loops, lost, lt, ltb-false, ltb-true, nexts, none, num, over, pair, part, proves, put, puts, refl, returns, room, sBool, sc, sc-here, shr, struct, tablesOf, tyBool, tyInt, unsigned, w64, world}
+use Rattle.derivation.specs.Derive.{Asked, Cx, Derived, Laid, Learnt, Lfts, Row, R·, Shares, World, [], _-_, _<_, _∙_, _∷_, _≤_, _▸_, _▹_, _◂_, any-gone, ap, arith, at, blocks, branch, by-num, by-shr, by-val, bytes, calls, cites, cx, exits, fld, gone, held, here, i64, join, last, lease, lend, length, loops, lost, lt, ltb-false, ltb-true, nexts, none, num, over, pair, part, proves, put, puts, refl, returns, room, sBool, sc, sc-here, shr, struct, tablesOf, tyBool, tyInt, unsigned, w64, world}
 use Rattle.record.specs.Params.{rowOf, rows}
 use Rattle.record.proofs.Params.{rows-length, rows-get}
 use Rattle.entries.proofs.Contracts as E
@@ -43,7 +43,43 @@ module _ (w : World) where
 
   laid : Laid C.find w code.env Key.name 0 code.function derived
   laid κs qs a good pre bs =
-      ((λ ls. tt), λ g. ((g .1, refl, search-starts (a .0 .now) (a .1 .0) (a .1 .1 .0) (a .1 .1 .1 .0 .now) (rows (a .1 .1 .1 .1 .0 .now)) pre (a .1 .1 .1 .1 .1 .0 .now) (a .1 .1 .1 .1 .1 .1 .0 .now) (g .1) (g .5)), λ vs inv. (tt, ((λ t. let l : vs .next < a .1 .1 .0 = ltb-true (vs .next) (a .1 .1 .0) t in let b : vs .next < length (a .1 .1 .1 .1 .0 .now) = omega (arith, rows-length (a .1 .1 .1 .1 .0 .now), search-inside (a .0 .now) (a .1 .0) (a .1 .1 .0) (a .1 .1 .1 .0 .now) (rows (a .1 .1 .1 .1 .0 .now)) pre (a .1 .1 .1 .1 .1 .0 .now) (a .1 .1 .1 .1 .1 .1 .0 .now) vs inv l) in ((λ ls. b), λ p. ((λ ls. search-asks (a .0 .now) (a .1 .0) (a .1 .1 .0) (a .1 .1 .1 .0 .now) (rows (a .1 .1 .1 .1 .0 .now)) pre (a .1 .1 .1 .1 .1 .0 .now) (a .1 .1 .1 .1 .1 .1 .0 .now) vs inv l (p .1) (ap rowOf (p .5) ∙ rows-get (a .1 .1 .1 .1 .0 .now) (vs .next) b)), λ d. (a .1 .1 .0 - d .1 .next, (let f = search-further (a .0 .now) (a .1 .0) (a .1 .1 .0) (a .1 .1 .1 .0 .now) (rows (a .1 .1 .1 .1 .0 .now)) pre (a .1 .1 .1 .1 .1 .0 .now) (a .1 .1 .1 .1 .1 .1 .0 .now) vs inv l (p .1) (ap rowOf (p .5) ∙ rows-get (a .1 .1 .1 .1 .0 .now) (vs .next) b) (d .1) (d .5) in omega (arith, f .0, f .1)), (d .1, refl, search-steps (a .0 .now) (a .1 .0) (a .1 .1 .0) (a .1 .1 .1 .0 .now) (rows (a .1 .1 .1 .1 .0 .now)) pre (a .1 .1 .1 .1 .1 .0 .now) (a .1 .1 .1 .1 .1 .1 .0 .now) vs inv l (p .1) (ap rowOf (p .5) ∙ rows-get (a .1 .1 .1 .1 .0 .now) (vs .next) b) (d .1) (d .5), refl))))), (λ f. let l : a .1 .1 .0 ≤ vs .next = ltb-false (vs .next) (a .1 .1 .0) f in ((λ ls. tt), λ v. ((refl, (tt, (tt, (refl, (refl, (refl, (refl, tt))))))), rw (v .5) (search-ends (a .0 .now) (a .1 .0) (a .1 .1 .0) (a .1 .1 .1 .0 .now) (rows (a .1 .1 .1 .1 .0 .now)) pre (a .1 .1 .1 .1 .1 .0 .now) (a .1 .1 .1 .1 .1 .1 .0 .now) vs inv l))))))))
+      let line = a .0 .now in
+      let e = a .1 .0 in
+      let p = a .1 .1 .0 in
+      let elements = a .1 .1 .1 .0 .now in
+      let params = a .1 .1 .1 .1 .0 .now in
+      let id = a .1 .1 .1 .1 .1 .0 .now in
+      let name = a .1 .1 .1 .1 .1 .1 .0 .now in
+      let starts = search-starts line e p elements (rows params) pre id name in
+      let inside = search-inside line e p elements (rows params) pre id name in
+      let asks = search-asks line e p elements (rows params) pre id name in
+      let further = search-further line e p elements (rows params) pre id name in
+      let steps = search-steps line e p elements (rows params) pre id name in
+      let ends = search-ends line e p elements (rows params) pre id name in (
+        (λ ls. tt),
+        λ g. (
+          (g .1, refl, starts (g .1) (g .5)),
+          λ vs inv. (
+            tt,
+            (
+              (λ t.
+                  let l : vs .next < p = ltb-true (vs .next) p t in
+                  let b : vs .next < length params = omega (arith, rows-length params, inside vs inv l) in (
+                    (λ ls. b),
+                    λ x.
+                        let ex = ap rowOf (x .5) ∙ rows-get params (vs .next) b in (
+                          (λ ls. asks vs inv l (x .1) ex),
+                          λ d.
+                              (p - d .1 .next, (let f = further vs inv l (x .1) ex (d .1) (d .5) in omega (arith, f .0, f .1)), (d .1, refl, steps vs inv l (x .1) ex (d .1) (d .5), refl)),
+                        ),
+                  )),
+              (λ f.
+                  let l : p ≤ vs .next = ltb-false (vs .next) p f in
+                  ((λ ls. tt), λ v. ((refl, (tt, (tt, (refl, (refl, (refl, (refl, tt))))))), rw (v .5) (ends vs inv l)))),
+            ),
+          ),
+        ),
+      )
 
 pub find-spec : {M : Type 1} → stated.statement M
 unfolding code.routine tablesOf

@@ -1,5 +1,5 @@
 -- `lookup::lookup` meets its contract: a derivation by hand. The refusals in order, each in an arm that returns; the tables are handed on, and the output is lent where the value is given.
-use Rattle.rules.specs.Derive.{Asked, Cx, Derived, Laid, Learnt, Lfts, Row, R·, Shares, World, [], _∙_, _∷_, _≡_, _▸_, _▹_, any-gone, ap, at, back, begin, branch, by-mut, by-num, by-shr, by-val, bytes, calls, cites, cx, eT, finish, fix-len, fld, gone, held, here, i32, i64, join, lease, lend, lends, length, lent, lose, lost, muts, nexts, none, off, over, owed, packs, pair, proves, put, refl, returns, room, sBool, same, sc, sc-here, shr, slen, sliceTy, struct, sym, tablesOf, tyBool, tyInt, unmade, w32, w64, world}
+use Rattle.derivation.specs.Derive.{Asked, Cx, Derived, Laid, Learnt, Lfts, Row, R·, Shares, World, [], _∙_, _∷_, _≡_, _▸_, _▹_, any-gone, ap, at, back, begin, branch, by-mut, by-num, by-shr, by-val, bytes, calls, cites, cx, eT, finish, fix-len, fld, gone, held, here, i32, i64, join, lease, lend, lends, length, lent, lose, lost, muts, nexts, none, off, over, owed, packs, pair, proves, put, refl, returns, room, sBool, same, sc, sc-here, shr, slen, sliceTy, struct, sym, tablesOf, tyBool, tyInt, unmade, w32, w64, world}
 use mathlib.Core.Bool.{false, not}
 use Rattle.record.specs.Params.{rows}
 use Rattle.entries.proofs.Contracts as E
@@ -25,10 +25,10 @@ use Rattle.lookup.proofs.give_by.Kinds as Gk
 use Rattle.lookup.proofs.give_by.Reads as Gr
 use Rattle.lookup.proofs.give_by.Symbol as Gs
 use Rattle.lookup.proofs.give_by.Met as Gm
-use Rattle.lookup.proofs.unsuitable.Kinds as Uk
-use Rattle.lookup.proofs.unsuitable.Reads as Ur
-use Rattle.lookup.proofs.unsuitable.Symbol as Us
-use Rattle.lookup.proofs.unsuitable.Met as Um
+use Rattle.suits.proofs.unsuitable.Kinds as Uk
+use Rattle.suits.proofs.unsuitable.Reads as Ur
+use Rattle.suits.proofs.unsuitable.Symbol as Us
+use Rattle.suits.proofs.unsuitable.Met as Um
 
 module _ (w : World) where
   -- the context, by the rows of the record and of the place that is found
@@ -51,11 +51,39 @@ module _ (w : World) where
       calls 2 Gk.ps Gk.r Gr.Asked Gr.Learnt Gs.name (Gr.known w code.env Gs.name Gs.routine code.calls-lookup·give-by (Gm.met (w .𝓤) (w .H) (w .𝓜) (w .𝓖) (w .𝓡))) (0 ∷ 6 ∷ []) (by-shr bytes 0 tt 1 0 lend refl (by-val C.place 12 held refl (by-num w32 9 (sc i32) refl (by-mut bytes 1 tt 16 lent refl none)))) 0 gone (tt, (tt, tt)) refl ▹
       finish 6 refl ▸ back bytes 16 10 5 6 (lease (κs .1 .1 .1 .1 .1 .0) (qs .1 .1 .1 .1 .1 .0)) same same refl refl ▸ lose 6 refl ▸ room 12 (struct C.place refl) ▸ room 2 (struct S.fields refl) ▸ room 3 (over i64) ▸ room 4 (over i64) ▸ room 9 (over i32) ▸ returns tt) (
       room 14 (over sBool) ▸ nexts tt)) (
-      calls 0 Uk.ps Uk.r Ur.Asked Ur.Learnt Us.name (Ur.known w code.env Us.name Us.routine code.calls-lookup·unsuitable (Um.met (w .𝓤) (w .H) (w .𝓜) (w .𝓖) (w .𝓡))) [] none 0 gone tt refl ▹ room 2 (struct S.fields refl) ▸ room 3 (over i64) ▸ room 4 (over i64) ▸ room 9 (over i32) ▸ returns tt))
+      calls 0 Uk.ps Uk.r Ur.Asked Ur.Learnt Us.name (Ur.known w code.env Us.name Us.routine code.calls-suits·unsuitable (Um.met (w .𝓤) (w .H) (w .𝓜) (w .𝓖) (w .𝓡))) [] none 0 gone tt refl ▹ room 2 (struct S.fields refl) ▸ room 3 (over i64) ▸ room 4 (over i64) ▸ room 9 (over i32) ▸ returns tt))
 
   laid : Laid C.lookup w code.env Key.name 1 code.function derived
   laid κs qs a good pre bs =
-      ((λ ls. tt), λ g. ((λ t. ((λ ls. tt), λ w. ((refl, (tt, (tt, (tt, (refl, (refl, (refl, (refl, (tt, (refl, tt)))))))))), looks-early (a .0 .now) (a .1 .0) (a .1 .1 .0) (a .1 .1 .1 .0) (a .1 .1 .1 .1 .0 .now) (rows (a .1 .1 .1 .1 .1 .0 .now)) (a .1 .1 .1 .1 .1 .1 .0 .now) (a .1 .1 .1 .1 .1 .1 .1 .0 .now) (a .1 .1 .1 .1 .1 .1 .1 .1 .0) (a .1 .1 .1 .1 .1 .1 .1 .1 .1 .0 .now) (sym (g .5) ∙ t) (w .1) (w .5)))), (λ f. let y = later (length (a .0 .now)) (a .1 .1 .1 .1 .1 .1 .1 .1 .0) (sym (g .5) ∙ f) in ((λ ls. tt), λ s. ((λ t. let h : not (s .1) ≡ false = ap not t in ((λ ls. looks-tables (a .0 .now) (a .1 .0) (a .1 .1 .0) (a .1 .1 .1 .0) (a .1 .1 .1 .1 .0 .now) (rows (a .1 .1 .1 .1 .1 .0 .now)) (a .1 .1 .1 .1 .1 .1 .0 .now) (a .1 .1 .1 .1 .1 .1 .1 .0 .now) (a .1 .1 .1 .1 .1 .1 .1 .1 .0) (a .1 .1 .1 .1 .1 .1 .1 .1 .1 .0 .now) (y .short) (y .known) (s .1) (s .5) h), λ v. λ γ. (refl, ((λ ls. v .5 .within), λ w. (refl, λ k. ((refl, (tt, (tt, (tt, (refl, (refl, (refl, (refl, (tt, (fix-len (a .1 .1 .1 .1 .1 .1 .1 .1 .1 .0 .ptr) (a .1 .1 .1 .1 .1 .1 .1 .1 .1 .0 .name) (w .2 .1 .1 .1 .0) (a .1 .1 .1 .1 .1 .1 .1 .1 .1 .0 .now) k, tt)))))))))), looks-given (a .0 .now) (a .1 .0) (a .1 .1 .0) (a .1 .1 .1 .0) (a .1 .1 .1 .1 .0 .now) (rows (a .1 .1 .1 .1 .1 .0 .now)) (a .1 .1 .1 .1 .1 .1 .0 .now) (a .1 .1 .1 .1 .1 .1 .1 .0 .now) (a .1 .1 .1 .1 .1 .1 .1 .1 .0) (a .1 .1 .1 .1 .1 .1 .1 .1 .1 .0 .now) (y .short) (y .known) (s .1) (s .5) h (v .1) (v .5) (w .1) (w .2 .1 .1 .1 .0) (w .5))))))), (λ f. ((λ ls. tt), λ w. ((refl, (tt, (tt, (tt, (refl, (refl, (refl, (refl, (tt, (refl, tt)))))))))), rw (w .5) (looks-unsuitable (a .0 .now) (a .1 .0) (a .1 .1 .0) (a .1 .1 .1 .0) (a .1 .1 .1 .1 .0 .now) (rows (a .1 .1 .1 .1 .1 .0 .now)) (a .1 .1 .1 .1 .1 .1 .0 .now) (a .1 .1 .1 .1 .1 .1 .1 .0 .now) (a .1 .1 .1 .1 .1 .1 .1 .1 .0) (a .1 .1 .1 .1 .1 .1 .1 .1 .1 .0 .now) (y .short) (y .known) (s .1) (s .5) (ap not f))))))))))
+      let kind = a .1 .1 .1 .1 .1 .1 .1 .1 .0 in
+      let o = a .1 .1 .1 .1 .1 .1 .1 .1 .1 .0 in
+      let line = a .0 .now in
+      let r = a .1 .0 in
+      let e = a .1 .1 .0 in
+      let p = a .1 .1 .1 .0 in
+      let elements = a .1 .1 .1 .1 .0 .now in
+      let params = rows (a .1 .1 .1 .1 .1 .0 .now) in
+      let id = a .1 .1 .1 .1 .1 .1 .0 .now in
+      let name = a .1 .1 .1 .1 .1 .1 .1 .0 .now in
+      let early = looks-early line r e p elements params id name kind (o .now) in
+      let tables = looks-tables line r e p elements params id name kind (o .now) in
+      let given = looks-given line r e p elements params id name kind (o .now) in
+      let unsuitable = looks-unsuitable line r e p elements params id name kind (o .now) in (
+        (λ ls. tt),
+        λ g. (
+          (λ t. ((λ ls. tt), λ w. ((refl, (tt, (tt, (tt, (refl, (refl, (refl, (refl, (tt, (refl, tt)))))))))), early (sym (g .5) ∙ t) (w .1) (w .5)))),
+          (λ f.
+              let y = later (length line) kind (sym (g .5) ∙ f) in (
+                (λ ls. tt),
+                λ s. (
+                  (λ t.
+                      let h : not (s .1) ≡ false = ap not t in
+                      ((λ ls. tables (y .short) (y .known) (s .1) (s .5) h), λ v. λ γ. (refl, ((λ ls. v .5 .within), λ w. (refl, λ k. ((refl, (tt, (tt, (tt, (refl, (refl, (refl, (refl, (tt, (fix-len (o .ptr) (o .name) (w .2 .1 .1 .1 .0) (o .now) k, tt)))))))))), given (y .short) (y .known) (s .1) (s .5) h (v .1) (v .5) (w .1) (w .2 .1 .1 .1 .0) (w .5))))))),
+                  (λ f. ((λ ls. tt), λ w. ((refl, (tt, (tt, (tt, (refl, (refl, (refl, (refl, (tt, (refl, tt)))))))))), rw (w .5) (unsuitable (y .short) (y .known) (s .1) (s .5) (ap not f))))),
+                ),
+              )),
+        ),
+      )
 
 pub lookup-spec : {M : Type 1} → stated.statement M
 unfolding code.routine tablesOf

@@ -3,14 +3,14 @@ use Rattle.loose.proofs.Variants.{variant-laws}
 use Rattle.loose.proofs.by_variant.Statement.{statement}
 use Rattle.loose.proofs.by_variant.Tie as tie
 
-found-3164-requires : tie.Need-found-3164-requires
-found-3164-requires c κs = search needs
+rfc3164-requires : tie.Need-rfc3164-requires
+rfc3164-requires c κs = search needs
 
 returns : tie.Need-returns
 returns c = search (variant-laws, needs)
 
-found-5424-requires : tie.Need-found-5424-requires
-found-5424-requires c κs = search needs
+rfc5424-requires : tie.Need-rfc5424-requires
+rfc5424-requires c κs = search needs
 
 enum-told : tie.Need-enum-told
 enum-told c = search needs
@@ -21,8 +21,8 @@ enum-told-2 c = search needs
 returns-2 : tie.Need-returns-2
 returns-2 c = search (variant-laws, needs)
 
-found-3164-requires-2 : tie.Need-found-3164-requires-2
-found-3164-requires-2 c κs = search needs
+rfc3164-requires-2 : tie.Need-rfc3164-requires-2
+rfc3164-requires-2 c κs = search needs
 
 returns-3 : tie.Need-returns-3
 returns-3 c = search (variant-laws, needs)
@@ -34,12 +34,12 @@ pub by-variant-spec : {M : Type 1} → statement M
 by-variant-spec =
     tie.close
     (tie.spec
-    found-3164-requires
+    rfc3164-requires
     returns
-    found-5424-requires
+    rfc5424-requires
     enum-told
     enum-told-2
     returns-2
-    found-3164-requires-2
+    rfc3164-requires-2
     returns-3
     returns-4)

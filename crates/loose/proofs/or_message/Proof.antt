@@ -15,8 +15,8 @@ returns c = search needs
 refusal-number-requires : tie.Need-refusal-number-requires
 refusal-number-requires c κs = search needs
 
-whole-requires : tie.Need-whole-requires
-whole-requires c κs = search needs
+message-alone-requires : tie.Need-message-alone-requires
+message-alone-requires c κs = search needs
 
 returns-2 : tie.Need-returns-2
 returns-2 c = search (message-laws, needs)
@@ -32,6 +32,6 @@ or-message-spec =
     enum-told
     returns
     refusal-number-requires
-    whole-requires
+    message-alone-requires
     returns-2
     returns-3)

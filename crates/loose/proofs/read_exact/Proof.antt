@@ -1,5 +1,5 @@
 -- `loose::read_exact` meets its contract: a derivation by hand. What was judged is asked by covered calls; where the line is read, a part of it and both tables are lent on.
-use Rattle.rules.specs.Derive.{Asked, Cx, Derived, Laid, Learnt, Lfts, Life, List, Row, R·, Shares, World, [], _∙_, _∷_, _▸_, _▹_, _◂_, alive, any-gone, ap, arith, at, back, begin, branch, by-choice, by-mut, by-num, by-part, by-shr, by-snum, bytes, calls, choice, chosen-held, cites, cuts-of, cx, eT, finish, fix-len, fld, gone, here, i32, i64, iT, join, last, lease, leased, len, lend, lends, lent, lit, lose, lost, made, muts, nexts, none, num, off, offset, over, owed, owing, packs, packs-part, pair, part, part-lend, proves, put, puts, refl, returns, room, sBool, sPtr, sUnit, same, sc, sc-here, shared, shr, sliceTy, slots₃, spent, sptr, struct, sym, tablesOf, tyBool, tyInt, tyPtr, tyUnit, unmade, unshared, unsigned, w32, w64, world}
+use Rattle.derivation.specs.Derive.{Asked, Cx, Derived, Laid, Learnt, Lfts, Life, List, Row, R·, Shares, World, [], _∙_, _∷_, _▸_, _▹_, _◂_, alive, any-gone, ap, arith, at, back, begin, branch, by-choice, by-mut, by-num, by-part, by-shr, by-snum, bytes, calls, choice, chosen-held, cites, cuts-of, cx, eT, finish, fix-len, fld, gone, here, i32, i64, iT, join, last, lease, leased, len, lend, lends, lent, lit, lose, lost, made, muts, nexts, none, num, off, offset, over, owed, owing, packs, packs-part, pair, part, part-lend, proves, put, puts, refl, returns, room, sBool, sPtr, sUnit, same, sc, sc-here, shared, shr, sliceTy, slots₃, spent, sptr, struct, sym, tablesOf, tyBool, tyInt, tyPtr, tyUnit, unmade, unshared, unsigned, w32, w64, world}
 use mir.Syntax.{sub}
 use mir.Val.{vint}
 use Rattle.record.specs.Params.{rows}

@@ -1,5 +1,5 @@
 -- `loose::read_fallback` meets its contract: a derivation by hand. Both tables are lent on to the exact reader.
-use Rattle.rules.specs.Derive.{Asked, Cx, Derived, Laid, Learnt, Lfts, Row, R·, Shares, World, [], _∷_, _▸_, _▹_, alive, any-gone, at, back, begin, by-choice, by-mut, by-num, by-shr, by-snum, bytes, calls, choice, chosen-held, cites, cx, eT, finish, fix-len, fld, gone, i32, i64, lease, leased, lend, lends, lent, lose, made, muts, none, off, over, owed, owing, packs, pair, proves, put, refl, returns, room, same, sc, sc-here, shr, slen, sliceTy, slots₃, spent, tablesOf, unmade, w32, w64, world}
+use Rattle.derivation.specs.Derive.{Asked, Cx, Derived, Laid, Learnt, Lfts, Row, R·, Shares, World, [], _∷_, _▸_, _▹_, alive, any-gone, at, back, begin, by-choice, by-mut, by-num, by-shr, by-snum, bytes, calls, choice, chosen-held, cites, cx, eT, finish, fix-len, fld, gone, i32, i64, lease, leased, lend, lends, lent, lose, made, muts, none, off, over, owed, owing, packs, pair, proves, put, refl, returns, room, same, sc, sc-here, shr, slen, sliceTy, slots₃, spent, tablesOf, unmade, w32, w64, world}
 use Rattle.record.specs.Params.{rows}
 use Rattle.entries.proofs.Contracts as E
 use Rattle.loose.proofs.Contracts as C

@@ -1,13 +1,13 @@
 use borrow.Author.Needs.{needs}
-use Rattle.loose.proofs.Settings.{setting-laws}
+use Rattle.loose.proofs.Settings.{settings-are}
 use Rattle.loose.proofs.settings_ok.Statement.{statement}
 use Rattle.loose.proofs.settings_ok.Tie as tie
 
-offset-ok-requires : tie.Need-offset-ok-requires
-offset-ok-requires c κs = search needs
+is-offset-requires : tie.Need-is-offset-requires
+is-offset-requires c κs = search needs
 
 returns : tie.Need-returns
-returns c = search (setting-laws, needs)
+returns c = search (settings-are, needs)
 
 pub settings-ok-spec : {M : Type 1} → statement M
-settings-ok-spec = tie.close (tie.spec offset-ok-requires returns)
+settings-ok-spec = tie.close (tie.spec is-offset-requires returns)

@@ -1,5 +1,5 @@
 -- `message::fits` meets its contract: a derivation by hand. The invariant: what the entries that are left take of what is left is what all take of the room.
-use Rattle.rules.specs.Derive.{Asked, Cx, Derived, Laid, Learnt, Lfts, Row, R·, Shares, World, ℕ, [], _+_, _-_, _<_, _∙_, _∷_, _≤_, _▸_, _▹_, add, any-gone, ap, arith, at, blocks, branch, by-choice, by-num, by-shr, by-val, bytes, calls, choice, chosen-held, cites, cx, exits, gone, held, here, i64, join, last, lend, length, lit, loops, lost, lt, ltb-false, ltb-true, made, nexts, none, num, over, pair, proves, put, puts, refl, returns, room, sBool, sc, sc-here, shr, slots₃, struct, tablesOf, tyBool, unsigned, w64, world}
+use Rattle.derivation.specs.Derive.{Asked, Cx, Derived, Laid, Learnt, Lfts, Row, R·, Shares, World, ℕ, [], _+_, _-_, _<_, _∙_, _∷_, _≤_, _▸_, _▹_, add, any-gone, ap, arith, at, blocks, branch, by-choice, by-num, by-shr, by-val, bytes, calls, choice, chosen-held, cites, cx, exits, gone, held, here, i64, join, last, lend, length, lit, loops, lost, lt, ltb-false, ltb-true, made, nexts, none, num, over, pair, proves, put, puts, refl, returns, room, sBool, sc, sc-here, shr, slots₃, struct, tablesOf, tyBool, unsigned, w64, world}
 use Rattle.record.specs.Params.{rowOf, rows}
 use Rattle.record.proofs.Params.{rows-length, rows-get}
 use Rattle.entries.proofs.Contracts as E

@@ -1,5 +1,6 @@
 -- `message::print` meets its contract: a derivation by hand. The refusals in order, each in an arm that returns; the tables are handed on, and the output is lent where the record fits.
-use Rattle.rules.specs.Derive.{Asked, Cx, Derived, Laid, Learnt, Lfts, Row, R·, Shares, World, [], _∙_, _∷_, _≤_, _▸_, _▹_, any-gone, at, back, begin, branch, by-mut, by-num, by-shr, by-val, bytes, calls, cites, cx, eT, finish, fix-len, fld, gone, held, here, i64, join, lease, len, lend, lends, length, lent, lose, ltb-false, ltb-true, muts, nexts, none, off, over, owed, packs, pair, proves, put, refl, returns, room, sBool, same, sc, sc-here, shr, slen, sliceTy, struct, sym, tablesOf, tyBool, tyInt, unmade, w64, world}
+use Rattle.record.specs.Limits.{lineLimit}
+use Rattle.derivation.specs.Derive.{Asked, Cx, Derived, Laid, Learnt, Lfts, Row, R·, Shares, World, [], _∙_, _∷_, _≤_, _▸_, _▹_, any-gone, at, back, begin, branch, by-mut, by-num, by-shr, by-val, bytes, calls, cites, cx, eT, finish, fix-len, fld, gone, held, here, i64, join, lease, len, lend, lends, length, lent, lose, ltb-false, ltb-true, muts, nexts, none, off, over, owed, packs, pair, proves, put, refl, returns, room, sBool, same, sc, sc-here, shr, slen, sliceTy, struct, sym, tablesOf, tyBool, tyInt, unmade, w64, world}
 use Rattle.record.specs.Params.{rows}
 use Rattle.entries.proofs.Contracts as E
 use Rattle.suits.proofs.Contracts as S
@@ -30,10 +31,10 @@ use Rattle.message.proofs.short.Kinds as Hk
 use Rattle.message.proofs.short.Reads as Hr
 use Rattle.message.proofs.short.Symbol as Hs
 use Rattle.message.proofs.short.Met as Hm
-use Rattle.message.proofs.unsuitable.Kinds as Uk
-use Rattle.message.proofs.unsuitable.Reads as Ur
-use Rattle.message.proofs.unsuitable.Symbol as Us
-use Rattle.message.proofs.unsuitable.Met as Um
+use Rattle.suits.proofs.unsuitable.Kinds as Uk
+use Rattle.suits.proofs.unsuitable.Reads as Ur
+use Rattle.suits.proofs.unsuitable.Symbol as Us
+use Rattle.suits.proofs.unsuitable.Met as Um
 
 module _ (w : World) where
   -- the context, by the rows of the line's length and of the text's
@@ -62,7 +63,7 @@ module _ (w : World) where
       room 13 (over sBool) ▸ nexts tt)) (
       calls 0 Hk.ps Hk.r Hr.Asked Hr.Learnt Hs.name (Hr.known w code.env Hs.name Hs.routine code.calls-message·short (Hm.met (w .𝓤) (w .H) (w .𝓜) (w .𝓖) (w .𝓡))) [] none 0 gone tt refl ▹ room 2 (struct S.fields refl) ▸ room 3 (over i64) ▸ room 4 (over i64) ▸ returns tt)) (
       room 12 (over sBool) ▸ nexts tt)) (
-      calls 0 Uk.ps Uk.r Ur.Asked Ur.Learnt Us.name (Ur.known w code.env Us.name Us.routine code.calls-message·unsuitable (Um.met (w .𝓤) (w .H) (w .𝓜) (w .𝓖) (w .𝓡))) [] none 0 gone tt refl ▹ room 2 (struct S.fields refl) ▸ room 3 (over i64) ▸ room 4 (over i64) ▸ returns tt))
+      calls 0 Uk.ps Uk.r Ur.Asked Ur.Learnt Us.name (Ur.known w code.env Us.name Us.routine code.calls-suits·unsuitable (Um.met (w .𝓤) (w .H) (w .𝓜) (w .𝓖) (w .𝓡))) [] none 0 gone tt refl ▹ room 2 (struct S.fields refl) ▸ room 3 (over i64) ▸ room 4 (over i64) ▸ returns tt))
 
   laid : Laid C.print w code.env Key.name 1 code.function derived
   laid κs qs a good pre bs =
@@ -73,7 +74,7 @@ module _ (w : World) where
       let elements = a .1 .1 .1 .1 .0 .now in
       let params = rows (a .1 .1 .1 .1 .1 .0 .now) in
       let o = a .1 .1 .1 .1 .1 .1 .0 in
-      ((λ ls. tt), λ g. ((λ t. ((λ ls. tt), λ v. ((refl, (tt, (tt, (tt, (refl, (refl, (refl, tt))))))), rw (v .5) (print-long line r e p elements params (o .now) (ltb-true 8192 (length line) (sym (g .5) ∙ t)))))), (λ f. let l : length line ≤ 8192 = ltb-false 8192 (length line) (sym (g .5) ∙ f) in ((λ ls. tt), λ s. ((λ t. let y = sym (s .5) ∙ t in ((λ ls. (l, y)), λ b. ((λ u. let h = sym (b .5) ∙ u in λ γ. (refl, ((λ ls. (print-fits line r e p elements params (o .now) l y h, y)), λ d. (refl, λ k. ((λ ls. tt), λ v. ((refl, (tt, (tt, (tt, (refl, (refl, (fix-len (o .ptr) (o .name) (d .2 .0) (o .now) k, tt))))))), rw (v .5) (print-done line r e p elements params (o .now) l y h (d .1) (d .2 .0) (d .5)))))))), (λ u. ((λ ls. tt), λ v. ((refl, (tt, (tt, (tt, (refl, (refl, (refl, tt))))))), rw (v .5) (print-short line r e p elements params (o .now) l y (sym (b .5) ∙ u))))))), (λ z. ((λ ls. tt), λ v. ((refl, (tt, (tt, (tt, (refl, (refl, (refl, tt))))))), rw (v .5) (print-unsuited line r e p elements params (o .now) l (sym (s .5) ∙ z)))))))))))
+      ((λ ls. tt), λ g. ((λ t. ((λ ls. tt), λ v. ((refl, (tt, (tt, (tt, (refl, (refl, (refl, tt))))))), rw (v .5) (print-long line r e p elements params (o .now) (ltb-true lineLimit (length line) (sym (g .5) ∙ t)))))), (λ f. let l : length line ≤ lineLimit = ltb-false lineLimit (length line) (sym (g .5) ∙ f) in ((λ ls. tt), λ s. ((λ t. let y = sym (s .5) ∙ t in ((λ ls. (l, y)), λ b. ((λ u. let h = sym (b .5) ∙ u in λ γ. (refl, ((λ ls. (print-fits line r e p elements params (o .now) l y h, y)), λ d. (refl, λ k. ((λ ls. tt), λ v. ((refl, (tt, (tt, (tt, (refl, (refl, (fix-len (o .ptr) (o .name) (d .2 .0) (o .now) k, tt))))))), rw (v .5) (print-done line r e p elements params (o .now) l y h (d .1) (d .2 .0) (d .5)))))))), (λ u. ((λ ls. tt), λ v. ((refl, (tt, (tt, (tt, (refl, (refl, (refl, tt))))))), rw (v .5) (print-short line r e p elements params (o .now) l y (sym (b .5) ∙ u))))))), (λ z. ((λ ls. tt), λ v. ((refl, (tt, (tt, (tt, (refl, (refl, (refl, tt))))))), rw (v .5) (print-unsuited line r e p elements params (o .now) l (sym (s .5) ∙ z)))))))))))
 
 pub print-spec : {M : Type 1} → stated.statement M
 unfolding code.routine tablesOf

@@ -1,5 +1,5 @@
--- `message::put_record` meets its contract: a derivation by hand. The output is lent on before the parameters, in each turn and behind them; the invariant is the walk's.
-use Rattle.rules.specs.Derive.{Asked, Cx, Derived, Laid, Learnt, Lfts, List, Row, R·, Shares, World, ℕ, [], _+_, _-_, _<_, _∙_, _∷_, _≤_, _▸_, _▹_, add, any-gone, ap, arith, at, back, begin, blocks, branch, by-mut, by-num, by-shr, by-val, bytes, calls, cites, cx, eT, exits, finish, fix-len, fld, gone, held, here, i64, join, last, lease, lend, lends, length, lent, lit, loops, lose, lost, lt, ltb-false, ltb-true, muts, nexts, none, num, off, over, owed, packs, pair, part, proves, put, puts, refl, returns, room, sBool, same, sc, sc-here, shr, sliceTy, struct, tablesOf, tyBool, tyInt, unsigned, w64, world}
+-- `message::put_record` meets its contract: a derivation by hand. The output is lent on before the parameters, in each turn and after them; the invariant is the walk's.
+use Rattle.derivation.specs.Derive.{Asked, Cx, Derived, Laid, Learnt, Lfts, List, Row, R·, Shares, World, ℕ, [], _+_, _-_, _<_, _∙_, _∷_, _≤_, _▸_, _▹_, add, any-gone, ap, arith, at, back, begin, blocks, branch, by-mut, by-num, by-shr, by-val, bytes, calls, cites, cx, eT, exits, finish, fix-len, fld, gone, held, here, i64, join, last, lease, lend, lends, length, lent, lit, loops, lose, lost, lt, ltb-false, ltb-true, muts, nexts, none, num, off, over, owed, packs, pair, part, proves, put, puts, refl, returns, room, sBool, same, sc, sc-here, shr, sliceTy, struct, tablesOf, tyBool, tyInt, unsigned, w64, world}
 use Rattle.record.specs.Params.{rowOf, rows}
 use Rattle.record.proofs.Params.{rows-length, rows-get}
 use Rattle.entries.proofs.Contracts as E

@@ -1,39 +1,40 @@
 use borrow.Author.Needs.{needs}
-use Rattle.parsers.proofs.Steps.{BlanksAt, blanks-laws}
+use Rattle.base.proofs.Runs.{Runs, runs-laws}
+use Rattle.parsers.specs.Steps.{isBlank, blanksFrom}
 use Prim.Native.Nat.{_-_}
 use lib.ListN.{length}
 use Rattle.parsers.proofs.blanks_from.Statement.{statement}
 use Rattle.parsers.proofs.blanks_from.Tie as tie
 
 abbrev Inv-loop : tie.InvT-loop
-Inv-loop s at i₀ i = BlanksAt s at i
+Inv-loop s at i₀ i = Runs isBlank s (blanksFrom s at) i
 
 abbrev μ-loop : tie.MeasureT-loop
 μ-loop s at i₀ i = length s - i
 
 loop-holds : tie.Need-loop-holds Inv-loop μ-loop
-loop-holds c = search (blanks-laws, needs)
+loop-holds c = search needs
 
 shared-slice-read-is-blank : tie.Need-shared-slice-read-is-blank Inv-loop μ-loop
-shared-slice-read-is-blank c = search (blanks-laws, needs)
+shared-slice-read-is-blank c = search needs
 
 is-blank-requires : tie.Need-is-blank-requires Inv-loop μ-loop
-is-blank-requires c κs = search (blanks-laws, needs)
+is-blank-requires c κs = search needs
 
 returns : tie.Need-returns Inv-loop μ-loop
-returns c = search (blanks-laws, needs)
+returns c = search (runs-laws, needs)
 
 add-i : tie.Need-add-i Inv-loop μ-loop
-add-i c = search (blanks-laws, needs)
+add-i c = search needs
 
 loop-less : tie.Need-loop-less Inv-loop μ-loop
-loop-less c = search (blanks-laws, needs)
+loop-less c = search needs
 
 loop-again : tie.Need-loop-again Inv-loop μ-loop
-loop-again c = search (blanks-laws, needs)
+loop-again c = search (runs-laws, needs)
 
 returns-2 : tie.Need-returns-2 Inv-loop μ-loop
-returns-2 c = search (blanks-laws, needs)
+returns-2 c = search (runs-laws, needs)
 
 pub blanks-from-spec : {M : Type 1} → statement M
 blanks-from-spec =

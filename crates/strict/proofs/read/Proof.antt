@@ -1,11 +1,11 @@
 -- `strict::read` meets its contract: a derivation by hand. What was judged is asked by covered calls, and both tables are lent on where the line is read.
-use Rattle.rules.specs.Derive.{Asked, Cx, Derived, Laid, Learnt, Lfts, Life, List, Row, R·, Shares, World, [], _∙_, _∷_, _▸_, _▹_, _◂_, alive, any-gone, at, back, begin, branch, by-choice, by-mut, by-num, by-shr, bytes, calls, choice, chosen-held, cites, cx, eT, finish, fix-len, fld, gone, i64, join, last, lease, leased, len, lend, lends, lent, lose, lost, made, muts, nexts, none, off, over, owed, owing, packs, pair, part, proves, put, refl, returns, room, sBool, sUnit, same, sc, sc-here, shr, sliceTy, slots₃, spent, struct, sym, tablesOf, tyBool, tyInt, tyUnit, unmade, w64, world}
+use Rattle.derivation.specs.Derive.{Asked, Cx, Derived, Laid, Learnt, Lfts, Life, List, Row, R·, Shares, World, [], _∙_, _∷_, _▸_, _▹_, _◂_, alive, any-gone, at, back, begin, branch, by-choice, by-mut, by-num, by-shr, bytes, calls, choice, chosen-held, cites, cx, eT, finish, fix-len, fld, gone, i64, join, last, lease, leased, len, lend, lends, lent, lose, lost, made, muts, nexts, none, off, over, owed, owing, packs, pair, part, proves, put, refl, returns, room, sBool, sUnit, same, sc, sc-here, shr, sliceTy, slots₃, spent, struct, sym, tablesOf, tyBool, tyInt, tyUnit, unmade, w64, world}
 use Rattle.record.specs.Params.{rows}
 use Rattle.record.proofs.Params.{rows-length}
 use Rattle.entries.proofs.Contracts as E
-use Rattle.elements.proofs.Contracts as F
-use Rattle.elements.proofs.fill_data.Symbol as Fs
-use Rattle.elements.proofs.fill_data.Met as Fm
+use Rattle.strict_data.proofs.Contracts as F
+use Rattle.strict_data.proofs.fill_data.Symbol as Fs
+use Rattle.strict_data.proofs.fill_data.Met as Fm
 use Rattle.strict.proofs.Contracts as C
 use Rattle.strict.proofs.read.Key
 use Rattle.strict.proofs.read.Statement as stated
@@ -56,7 +56,7 @@ module _ (w : World) where
       packs pair 12 13 3 same gone (fld 2 1 (owed pair 1 3 (lease (κs .1 .0) (qs .1 .0))) refl) refl refl ▹
       lends (R· E.param) 3 14 2 4 same gone refl tt refl refl ▹
       packs (R· E.param) 14 15 4 same gone (fld 3 1 (owed (R· E.param) 2 4 (lease (κs .1 .1 .0) (qs .1 .1 .0))) refl) refl refl ▹ at (lent-at κs qs (leased pair 3) (leased (R· E.param) 4)) ▸
-      last tt (calls 3 (F.fill-data .ps) (F.fill-data .r) (Asked F.fill-data) (Learnt F.fill-data) Fs.name (cites F.fill-data w code.env Fs.name Fs.routine code.calls-elements·fill-data (Fm.met (w .𝓤) (w .H) (w .𝓜) (w .𝓖) (w .𝓡))) (0 ∷ 3 ∷ 4 ∷ []) (by-shr bytes 0 tt 1 0 lend refl (by-num w64 8 (sc i64) refl (by-num w64 9 (sc i64) refl (by-mut pair 1 tt 13 lent refl (by-mut (R· E.param) 2 tt 15 lent refl none))))) 11 gone (tt, (tt, (tt, tt))) refl
+      last tt (calls 3 (F.fill-data .ps) (F.fill-data .r) (Asked F.fill-data) (Learnt F.fill-data) Fs.name (cites F.fill-data w code.env Fs.name Fs.routine code.calls-strict-data·fill-data (Fm.met (w .𝓤) (w .H) (w .𝓜) (w .𝓖) (w .𝓡))) (0 ∷ 3 ∷ 4 ∷ []) (by-shr bytes 0 tt 1 0 lend refl (by-num w64 8 (sc i64) refl (by-num w64 9 (sc i64) refl (by-mut pair 1 tt 13 lent refl (by-mut (R· E.param) 2 tt 15 lent refl none))))) 11 gone (tt, (tt, (tt, tt))) refl
       ◂ room 11 (over sUnit) ◂ at (lent-at κs qs (spent pair) (spent (R· E.param))) ◂ room 8 (over i64) ◂ room 9 (over i64) ◂ finish 4 refl ◂ back (R· E.param) 15 3 2 4 (lease (κs .1 .1 .0) (qs .1 .1 .0)) same same refl refl ◂ lose 4 refl ◂ finish 3 refl ◂ back pair 13 2 1 3 (lease (κs .1 .0) (qs .1 .0)) same same refl refl ◂ lose 3 refl)) (
       room 10 (over sBool) ▸ nexts tt)) (
       calls 0 Rk.ps Rk.r Rr.Asked Rr.Learnt Rs.name (Rr.known w code.env Rs.name Rs.routine code.calls-strict·reading-of (Rm.met (w .𝓤) (w .H) (w .𝓜) (w .𝓖) (w .𝓡))) [] (by-choice C.judged 6 chosen-held refl none) 0 gone tt refl ▹ room 6 (choice C.judged refl) ▸ returns tt)

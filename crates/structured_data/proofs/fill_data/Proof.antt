@@ -1,5 +1,5 @@
 -- `structured_data::fill_data` meets its contract: a derivation by hand. The invariant: with the rows that are left stored behind them, the rows that are stored are all.
-use Rattle.rules.specs.Derive.{Asked, Cx, Derived, Laid, Learnt, Lfts, Life, List, Row, R·, Shares, World, [], _+_, _-_, _<_, _∙_, _∷_, _≡_, _≤_, _▸_, _▹_, _◂_, add, alive, any-gone, at, back, begin, blocks, branch, by-choice, by-mut, by-num, by-shr, by-val, bytes, calls, choice, chosen-held, cites, cx, eT, exits, finish, fix-len, fld, gone, held, here, i64, join, last, lease, lend, lends, length, lent, lit, loops, lose, lost, lt, ltb-false, ltb-true, made, muts, nexts, none, num, off, over, owed, packs, pair, part, proves, put, puts, refl, returns, room, sBool, sUnit, same, sc, sc-here, shr, sliceTy, slots₃, struct, subst, sym, tablesOf, tyBool, tyInt, tyUnit, unit, unsigned, w64, world, ℕ}
+use Rattle.derivation.specs.Derive.{Asked, Cx, Derived, Laid, Learnt, Lfts, Life, List, Row, R·, Shares, World, [], _+_, _-_, _<_, _∙_, _∷_, _≡_, _≤_, _▸_, _▹_, _◂_, add, alive, any-gone, at, back, begin, blocks, branch, by-choice, by-mut, by-num, by-shr, by-val, bytes, calls, choice, chosen-held, cites, cx, eT, exits, finish, fix-len, fld, gone, held, here, i64, join, last, lease, lend, lends, length, lent, lit, loops, lose, lost, lt, ltb-false, ltb-true, made, muts, nexts, none, num, off, over, owed, packs, pair, part, proves, put, puts, refl, returns, room, sBool, sUnit, same, sc, sc-here, shr, sliceTy, slots₃, struct, subst, sym, tablesOf, tyBool, tyInt, tyUnit, unit, unsigned, w64, world, ℕ}
 use Rattle.record.specs.declared.Param.{Param}
 use Rattle.record.specs.Params.{rows}
 use Rattle.entries.proofs.Contracts as E
@@ -71,7 +71,65 @@ module _ (w : World) where
 
   laid : Laid C.fill-data w code.env Key.name 1 code.function derived
   laid κs qs a good pre bs =
-      (((a .1 .1 .1 .1 .1 .0 .now, (a .1 .1 .1 .1 .1 .1 .0 .now, (0, (0, (a .1 .1 .0, 0))))), refl, (filling-none (a .0) (a .1 .0 .now) (a .1 .1 .0) (a .1 .1 .1 .0) (a .1 .1 .1 .1 .0) (a .1 .1 .1 .1 .1 .0 .now) (rows (a .1 .1 .1 .1 .1 .1 .0 .now)) pre (good .1 .0 .0), (dead-none (a .1 .0 .now) (a .1 .1 .0), (refl, refl)))), λ vs inv. (tt, ((λ h′. let h : (vs .1 .1 .0) < (a .1 .1 .1 .0) = ltb-true (vs .1 .1 .0) (a .1 .1 .1 .0) h′ in ((λ ls. tt), λ o. ((λ ls. inv .1 .0 .within-s), λ s. λ γ. (refl, ((λ ls. (index-within (a .0) (a .1 .0 .now) (a .1 .1 .0) (a .1 .1 .1 .0) (a .1 .1 .1 .1 .0) (a .1 .1 .1 .1 .1 .0 .now) (rows (a .1 .1 .1 .1 .1 .1 .0 .now)) pre (vs .0) (rows (vs .1 .0)) (vs .1 .1 .0) (vs .1 .1 .1 .0) (vs .1 .1 .1 .1 .0) (inv .0) h, start-fits (a .0) (a .1 .0 .now) (a .1 .1 .0) (a .1 .1 .1 .0) (a .1 .1 .1 .1 .0) (a .1 .1 .1 .1 .1 .0 .now) (rows (a .1 .1 .1 .1 .1 .1 .0 .now)) pre (vs .0) (rows (vs .1 .0)) (vs .1 .1 .0) (vs .1 .1 .1 .0) (vs .1 .1 .1 .1 .0) (inv .0) h .fits)), λ d. (refl, λ q. λ γ′. (refl, ((λ ls. holds (a .0) (a .1 .0 .now) (a .1 .1 .0) (a .1 .1 .1 .0) (a .1 .1 .1 .1 .0) (a .1 .1 .1 .1 .1 .0 .now) (rows (a .1 .1 .1 .1 .1 .1 .0 .now)) pre (vs .0) (rows (vs .1 .0)) (vs .1 .1 .0) (vs .1 .1 .1 .0) (vs .1 .1 .1 .1 .0) (inv .0) h (o .1) (o .5) (vs .1 .1 .1 .1 .1) (s .1) (inv .1 .0) (s .5)), λ k. (refl, λ l. ((λ ls. closes (a .1 .0 .now) (vs .1 .1 .1 .1 .0) (vs .1 .1 .1 .1 .1) (o .1) (o .5) (k .1) (k .5 .ends) (inv .1 .0)), λ t. (elements-fit (a .0) (a .1 .0 .now) (a .1 .1 .0) (a .1 .1 .1 .0) (a .1 .1 .1 .1 .0) (a .1 .1 .1 .1 .1 .0 .now) (rows (a .1 .1 .1 .1 .1 .1 .0 .now)) pre (vs .0) (rows (vs .1 .0)) (vs .1 .1 .0) (vs .1 .1 .1 .0) (vs .1 .1 .1 .1 .0) (inv .0) h (o .1) (o .5) (k .1) (rows (k .2 .1 .1 .1 .1 .0)) (k .5) (t .1) (t .5), (params-fit (a .0) (a .1 .0 .now) (a .1 .1 .0) (a .1 .1 .1 .0) (a .1 .1 .1 .1 .0) (a .1 .1 .1 .1 .1 .0 .now) (rows (a .1 .1 .1 .1 .1 .1 .0 .now)) pre (vs .0) (rows (vs .1 .0)) (vs .1 .1 .0) (vs .1 .1 .1 .0) (vs .1 .1 .1 .1 .0) (inv .0) h (o .1) (o .5) (k .1) (rows (k .2 .1 .1 .1 .1 .0)) (k .5) (t .1) (t .5), (length (a .1 .0 .now) - t .1 .next, fill-less (a .0) (a .1 .0 .now) (a .1 .1 .0) (a .1 .1 .1 .0) (a .1 .1 .1 .1 .0) (a .1 .1 .1 .1 .1 .0 .now) (rows (a .1 .1 .1 .1 .1 .1 .0 .now)) pre (vs .0) (rows (vs .1 .0)) (vs .1 .1 .0) (vs .1 .1 .1 .0) (vs .1 .1 .1 .1 .0) (inv .0) h (o .1) (o .5) (k .1) (rows (k .2 .1 .1 .1 .1 .0)) (k .5) (t .1) (t .5), ((d .2 .0, (k .2 .1 .1 .1 .1 .0, ((vs .1 .1 .0) + t .1 .elements, ((vs .1 .1 .1 .0) + t .1 .params, (t .1 .next, t .1 .dead))))), refl, (subst (λ (y : List (List ℕ)). Filling (a .0) (a .1 .0 .now) (a .1 .1 .0) (a .1 .1 .1 .0) (a .1 .1 .1 .1 .0) (a .1 .1 .1 .1 .1 .0 .now) (rows (a .1 .1 .1 .1 .1 .1 .0 .now)) y (rows (k .2 .1 .1 .1 .1 .0)) ((vs .1 .1 .0) + t .1 .elements) ((vs .1 .1 .1 .0) + t .1 .params) (t .1 .next)) (sym (d .5)) (filling-on (a .0) (a .1 .0 .now) (a .1 .1 .0) (a .1 .1 .1 .0) (a .1 .1 .1 .1 .0) (a .1 .1 .1 .1 .1 .0 .now) (rows (a .1 .1 .1 .1 .1 .1 .0 .now)) pre (vs .0) (rows (vs .1 .0)) (vs .1 .1 .0) (vs .1 .1 .1 .0) (vs .1 .1 .1 .1 .0) (inv .0) h (o .1) (o .5) (k .1) (rows (k .2 .1 .1 .1 .1 .0)) (k .5) (t .1) (t .5)), (t .5 .alive, (q ∙ inv .1 .1 .0, l ∙ inv .1 .1 .1))), refl)))))))))))))), (λ f. let h : (a .1 .1 .1 .0) ≤ (vs .1 .1 .0) = ltb-false (vs .1 .1 .0) (a .1 .1 .1 .0) f in ((tt, (refl, (tt, (tt, (tt, (fix-len (a .1 .1 .1 .1 .1 .0 .ptr) (a .1 .1 .1 .1 .1 .0 .name) (vs .0) (a .1 .1 .1 .1 .1 .0 .now) (inv .1 .1 .0), (fix-len (a .1 .1 .1 .1 .1 .1 .0 .ptr) (a .1 .1 .1 .1 .1 .1 .0 .name) (vs .1 .0) (a .1 .1 .1 .1 .1 .1 .0 .now) (inv .1 .1 .1), tt))))))), filled-all (a .0) (a .1 .0 .now) (a .1 .1 .0) (a .1 .1 .1 .0) (a .1 .1 .1 .1 .0) (a .1 .1 .1 .1 .1 .0 .now) (rows (a .1 .1 .1 .1 .1 .1 .0 .now)) pre (vs .0) (rows (vs .1 .0)) (vs .1 .1 .0) (vs .1 .1 .1 .0) (vs .1 .1 .1 .1 .0) (inv .0) h)))))
+      let rules = a .0 in
+      let s = a .1 .0 .now in
+      let at = a .1 .1 .0 in
+      let e = a .1 .1 .1 .0 in
+      let p = a .1 .1 .1 .1 .0 in
+      let elements = a .1 .1 .1 .1 .1 .0 in
+      let params = a .1 .1 .1 .1 .1 .1 .0 in
+      let e₀ = elements .now in
+      let p₀ = rows (params .now) in (
+        ((e₀, (params .now, (0, (0, (at, 0))))), refl, (filling-none rules s at e p e₀ p₀ pre (good .1 .0 .0), (dead-none s at, (refl, refl)))),
+        λ vs inv.
+            let i = vs .1 .1 .0 in
+            let j = vs .1 .1 .1 .0 in
+            let next = vs .1 .1 .1 .1 .0 in
+            let dead = vs .1 .1 .1 .1 .1 in (
+              tt,
+              (
+                (λ h′.
+                    let h : i < e = ltb-true i e h′ in (
+                      (λ ls. tt),
+                      λ o. (
+                        (λ ls. inv .1 .0 .within-s),
+                        λ c. λ γ. (
+                          refl,
+                          (
+                            (λ ls. (index-within rules s at e p e₀ p₀ pre (vs .0) (rows (vs .1 .0)) i j next (inv .0) h, start-fits rules s at e p e₀ p₀ pre (vs .0) (rows (vs .1 .0)) i j next (inv .0) h .fits)),
+                            λ d. (
+                              refl,
+                              λ q. λ γ′. (
+                                refl,
+                                (
+                                  (λ ls. holds rules s at e p e₀ p₀ pre (vs .0) (rows (vs .1 .0)) i j next (inv .0) h (o .1) (o .5) dead (c .1) (inv .1 .0) (c .5)),
+                                  λ k. (
+                                    refl,
+                                    λ l. (
+                                      (λ ls. closes s next dead (o .1) (o .5) (k .1) (k .5 .ends) (inv .1 .0)),
+                                      λ t.
+                                          let params′ = k .2 .1 .1 .1 .1 .0 in
+                                          let on = filling-on rules s at e p e₀ p₀ pre (vs .0) (rows (vs .1 .0)) i j next (inv .0) h (o .1) (o .5) (k .1) (rows params′) (k .5) (t .1) (t .5) in
+                                          let moved = subst (λ (y : List (List ℕ)). Filling rules s at e p e₀ p₀ y (rows params′) (i + t .1 .elements) (j + t .1 .params) (t .1 .next)) (sym (d .5)) on in
+                                          let less = fill-less rules s at e p e₀ p₀ pre (vs .0) (rows (vs .1 .0)) i j next (inv .0) h (o .1) (o .5) (k .1) (rows params′) (k .5) (t .1) (t .5) in
+                                          (elements-fit rules s at e p e₀ p₀ pre (vs .0) (rows (vs .1 .0)) i j next (inv .0) h (o .1) (o .5) (k .1) (rows params′) (k .5) (t .1) (t .5), (params-fit rules s at e p e₀ p₀ pre (vs .0) (rows (vs .1 .0)) i j next (inv .0) h (o .1) (o .5) (k .1) (rows params′) (k .5) (t .1) (t .5), (length s - t .1 .next, less, ((d .2 .0, (params′, (i + t .1 .elements, (j + t .1 .params, (t .1 .next, t .1 .dead))))), refl, (moved, (t .5 .alive, (q ∙ inv .1 .1 .0, l ∙ inv .1 .1 .1))), refl)))),
+                                    ),
+                                  ),
+                                ),
+                              ),
+                            ),
+                          ),
+                        ),
+                      ),
+                    )),
+                (λ f.
+                    let h : e ≤ i = ltb-false i e f in
+                    let e-ends = fix-len (elements .ptr) (elements .name) (vs .0) e₀ (inv .1 .1 .0) in
+                    let p-ends = fix-len (params .ptr) (params .name) (vs .1 .0) (params .now) (inv .1 .1 .1) in
+                    ((tt, (refl, (tt, (tt, (tt, (e-ends, (p-ends, tt))))))), filled-all rules s at e p e₀ p₀ pre (vs .0) (rows (vs .1 .0)) i j next (inv .0) h)),
+              ),
+            ),
+      )
 
 pub fill-data-spec : {M : Type 1} → stated.statement M
 unfolding code.routine tablesOf

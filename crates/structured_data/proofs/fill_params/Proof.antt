@@ -1,5 +1,5 @@
 -- `structured_data::fill_params` meets its contract: a derivation by hand. The invariant: the rows of the parameters that are passed stand in the table.
-use Rattle.rules.specs.Derive.{Asked, Cx, Derived, Laid, Learnt, Lfts, List, Row, R·, Shares, World, [], _+_, _-_, _<_, _∙_, _∷_, _≡_, _▸_, _▹_, add, any-gone, ap, arith, at, back, begin, blocks, branch, by-lit, by-mut, by-num, by-shr, by-val, bytes, calls, cites, cx, eT, eq, eqb-false, eqb-true, finish, fix-len, fld, gone, held, here, i64, join, last, lease, lend, lends, length, lent, lit, loops, lose, lost, lt, muts, nexts, none, num, off, over, owed, packs, part, proves, put, puts, refl, returns, room, sBool, sUnit, same, sc, sc-here, set, shr, sliceTy, slots₂, struct, subst, sym, tablesOf, tyBool, tyInt, tyUnit, unsigned, w64, w8, world, ℕ}
+use Rattle.derivation.specs.Derive.{Asked, Cx, Derived, Laid, Learnt, Lfts, List, Row, R·, Shares, World, [], _+_, _-_, _<_, _∙_, _∷_, _≡_, _▸_, _▹_, add, any-gone, ap, arith, at, back, begin, blocks, branch, by-lit, by-mut, by-num, by-shr, by-val, bytes, calls, cites, cx, eT, eq, eqb-false, eqb-true, finish, fix-len, fld, gone, held, here, i64, join, last, lease, lend, lends, length, lent, lit, loops, lose, lost, lt, muts, nexts, none, num, off, over, owed, packs, part, proves, put, puts, refl, returns, room, sBool, sUnit, same, sc, sc-here, set, shr, sliceTy, slots₂, struct, subst, sym, tablesOf, tyBool, tyInt, tyUnit, unsigned, w64, w8, world, ℕ}
 use mir.Syntax.{bitOr}
 use mathlib.Core.Bool.{true, false, not}
 use Rattle.record.specs.declared.Param.{Param}
@@ -79,7 +79,81 @@ module _ (w : World) where
 
   laid : Laid C.fill-params w code.env Key.name 1 code.function derived
   laid κs qs a good pre bs =
-      (((a .1 .1 .1 .1 .0 .now, (0, (a .1 .1 .0, a .1 .1 .0))), refl, (storing-none (a .0 .now) (a .1 .0) (a .1 .1 .0) (a .1 .1 .1 .0) (rows (a .1 .1 .1 .1 .0 .now)) (a .1 .1 .1 .1 .1 .0) (a .1 .1 .1 .1 .1 .1 .0) pre, refl)), λ vs inv. ((λ ls. inv .0 .walk .start-within), λ g. (tt, ((λ t. let z : g .1 .next ≡ (vs .1 .1 .1) = eqb-true (g .1 .next) (vs .1 .1 .1) t in ((λ ls. tt), λ k. ((refl, (tt, (tt, (tt, (fix-len (a .1 .1 .1 .1 .0 .ptr) (a .1 .1 .1 .1 .0 .name) (vs .0) (a .1 .1 .1 .1 .0 .now) (inv .1), (tt, (tt, tt))))))), rw (k .5) (stored-all (a .0 .now) (a .1 .0) (a .1 .1 .0) (a .1 .1 .1 .0) (rows (a .1 .1 .1 .1 .0 .now)) (a .1 .1 .1 .1 .1 .0) (a .1 .1 .1 .1 .1 .1 .0) pre (rows (vs .0)) (vs .1 .0) (vs .1 .1 .0) (vs .1 .1 .1) (inv .0) (g .1) (g .5) z)))), (λ f. let z : g .1 .next ≡ (vs .1 .1 .1) → ⊥ = eqb-false (g .1 .next) (vs .1 .1 .1) f in (index-fits (a .0 .now) (a .1 .0) (a .1 .1 .0) (a .1 .1 .1 .0) (rows (a .1 .1 .1 .1 .0 .now)) (a .1 .1 .1 .1 .1 .0) (a .1 .1 .1 .1 .1 .1 .0) pre (rows (vs .0)) (vs .1 .0) (vs .1 .1 .0) (vs .1 .1 .1) (inv .0) (g .1) (g .5) z (rw (rows-length (a .1 .1 .1 .1 .0 .now)) (good .1 .1 .1 .1 .0 .0)), (tt, (tt, (tt, ((λ t. ((λ ls. tt), λ k. ((refl, (tt, (tt, (tt, (fix-len (a .1 .1 .1 .1 .0 .ptr) (a .1 .1 .1 .1 .0 .name) (vs .0) (a .1 .1 .1 .1 .0 .now) (inv .1), (tt, (tt, tt))))))), rw (k .5) (stored-given-up (a .0 .now) (a .1 .0) (a .1 .1 .0) (a .1 .1 .1 .0) (rows (a .1 .1 .1 .1 .0 .now)) (a .1 .1 .1 .1 .1 .0) (a .1 .1 .1 .1 .1 .1 .0) pre (rows (vs .0)) (vs .1 .0) (vs .1 .1 .0) (vs .1 .1 .1) (inv .0) (g .1) (g .5) z t)))), (λ q. let b : (a .1 .1 .1 .1 .1 .0) + (vs .1 .0) < length (vs .0) = omega (arith, rows-length (vs .0), index-within (a .0 .now) (a .1 .0) (a .1 .1 .0) (a .1 .1 .1 .0) (rows (a .1 .1 .1 .1 .0 .now)) (a .1 .1 .1 .1 .1 .0) (a .1 .1 .1 .1 .1 .1 .0) pre (rows (vs .0)) (vs .1 .0) (vs .1 .1 .0) (vs .1 .1 .1) (inv .0) (g .1) (g .5) z q) in ((λ ls. tt), λ r. λ γ. (refl, ((λ ls. b), λ o. (refl, λ l. (count-fits (a .0 .now) (a .1 .0) (a .1 .1 .0) (vs .1 .0) (vs .1 .1 .0) (vs .1 .1 .1) (inv .0 .walk) (g .1) (g .5) z (good .0 .0), ((λ ls. omega arith), λ i. ((λ t. let h : not (i .1) ≡ false = ap not t in (next-fits (a .0 .now) (a .1 .0) (a .1 .1 .0) (vs .1 .0) (vs .1 .1 .0) (vs .1 .1 .1) (inv .0 .walk) (g .1) (g .5) z (i .1) (i .5) h (good .0 .0), (length (a .0 .now) - (g .1 .next + 1), walk-less (a .0 .now) (a .1 .0) (a .1 .1 .0) (vs .1 .0) (vs .1 .1 .0) (vs .1 .1 .1) (inv .0 .walk) (g .1) (g .5) z (i .1) (i .5) h, ((o .2 .0, ((vs .1 .0) + 1, (g .1 .next, g .1 .next + 1))), refl, (subst (λ (y : List (List ℕ)). Storing (a .0 .now) (a .1 .0) (a .1 .1 .0) (rows (a .1 .1 .1 .1 .0 .now)) (a .1 .1 .1 .1 .1 .0) (a .1 .1 .1 .1 .1 .1 .0) y ((vs .1 .0) + 1) (g .1 .next) (g .1 .next + 1)) (rows-stored (vs .0) (o .2 .0) ((a .1 .1 .1 .1 .1 .0) + (vs .1 .0)) (r .1) (g .1 .row) (o .5) (r .5)) (storing-on (a .0 .now) (a .1 .0) (a .1 .1 .0) (a .1 .1 .1 .0) (rows (a .1 .1 .1 .1 .0 .now)) (a .1 .1 .1 .1 .1 .0) (a .1 .1 .1 .1 .1 .1 .0) pre (rows (vs .0)) (vs .1 .0) (vs .1 .1 .0) (vs .1 .1 .1) (inv .0) (g .1) (g .5) z q (i .1) (i .5) h), l ∙ inv .1), refl)))), (λ t. let h : not (i .1) ≡ true = ap not t in ((λ ls. tt), λ k. ((refl, (tt, (tt, (tt, (fix-len (a .1 .1 .1 .1 .0 .ptr) (a .1 .1 .1 .1 .0 .name) (o .2 .0) (a .1 .1 .1 .1 .0 .now) (l ∙ inv .1), (tt, (tt, tt))))))), rw (k .5) (subst (λ (y : List (List ℕ)). Stores (a .0 .now) (a .1 .0) (a .1 .1 .0) (rows (a .1 .1 .1 .1 .0 .now)) (a .1 .1 .1 .1 .1 .0) (a .1 .1 .1 .1 .1 .1 .0) (record { count = (vs .1 .0) + 1; next = g .1 .next }) y) (rows-stored (vs .0) (o .2 .0) ((a .1 .1 .1 .1 .1 .0) + (vs .1 .0)) (r .1) (g .1 .row) (o .5) (r .5)) (stored-last (a .0 .now) (a .1 .0) (a .1 .1 .0) (a .1 .1 .1 .0) (rows (a .1 .1 .1 .1 .0 .now)) (a .1 .1 .1 .1 .1 .0) (a .1 .1 .1 .1 .1 .1 .0) pre (rows (vs .0)) (vs .1 .0) (vs .1 .1 .0) (vs .1 .1 .1) (inv .0) (g .1) (g .5) z q (i .1) (i .5) h)))))))))))))))))))))))
+      let s = a .0 .now in
+      let e = a .1 .0 in
+      let at = a .1 .1 .0 in
+      let stop = a .1 .1 .1 .0 in
+      let params = a .1 .1 .1 .1 .0 in
+      let p₀ = rows (params .now) in
+      let first = a .1 .1 .1 .1 .1 .0 in
+      let end = a .1 .1 .1 .1 .1 .1 .0 in (
+        ((params .now, (0, (at, at))), refl, (storing-none s e at stop p₀ first end pre, refl)),
+        λ vs inv.
+            let count = vs .1 .0 in
+            let last = vs .1 .1 .0 in
+            let next = vs .1 .1 .1 in
+            let ends = fix-len (params .ptr) (params .name) (vs .0) (params .now) (inv .1) in (
+              (λ ls. inv .0 .walk .start-within),
+              λ g. (
+                tt,
+                (
+                  (λ t.
+                      let z : g .1 .next ≡ next = eqb-true (g .1 .next) next t in
+                      ((λ ls. tt), λ k. ((refl, (tt, (tt, (tt, (ends, (tt, (tt, tt))))))), rw (k .5) (stored-all s e at stop p₀ first end pre (rows (vs .0)) count last next (inv .0) (g .1) (g .5) z)))),
+                  (λ f.
+                      let z : g .1 .next ≡ next → ⊥ = eqb-false (g .1 .next) next f in (
+                        index-fits s e at stop p₀ first end pre (rows (vs .0)) count last next (inv .0) (g .1) (g .5) z (rw (rows-length (params .now)) (good .1 .1 .1 .1 .0 .0)),
+                        (
+                          tt,
+                          (
+                            tt,
+                            (
+                              tt,
+                              (
+                                (λ t. ((λ ls. tt), λ k. ((refl, (tt, (tt, (tt, (ends, (tt, (tt, tt))))))), rw (k .5) (stored-given-up s e at stop p₀ first end pre (rows (vs .0)) count last next (inv .0) (g .1) (g .5) z t)))),
+                                (λ q.
+                                    let b : first + count < length (vs .0) = omega (arith, rows-length (vs .0), index-within s e at stop p₀ first end pre (rows (vs .0)) count last next (inv .0) (g .1) (g .5) z q) in (
+                                      (λ ls. tt),
+                                      λ r. λ γ. (
+                                        refl,
+                                        (
+                                          (λ ls. b),
+                                          λ o. (
+                                            refl,
+                                            λ l.
+                                                let stored = rows-stored (vs .0) (o .2 .0) (first + count) (r .1) (g .1 .row) (o .5) (r .5) in (
+                                                  count-fits s e at count last next (inv .0 .walk) (g .1) (g .5) z (good .0 .0),
+                                                  (
+                                                    (λ ls. omega arith),
+                                                    λ i. (
+                                                      (λ t.
+                                                          let h : not (i .1) ≡ false = ap not t in
+                                                          let on = storing-on s e at stop p₀ first end pre (rows (vs .0)) count last next (inv .0) (g .1) (g .5) z q (i .1) (i .5) h in
+                                                          let moved = subst (λ (y : List (List ℕ)). Storing s e at p₀ first end y (count + 1) (g .1 .next) (g .1 .next + 1)) stored on in
+                                                          let less = walk-less s e at count last next (inv .0 .walk) (g .1) (g .5) z (i .1) (i .5) h in
+                                                          (next-fits s e at count last next (inv .0 .walk) (g .1) (g .5) z (i .1) (i .5) h (good .0 .0), (length s - (g .1 .next + 1), less, ((o .2 .0, (count + 1, (g .1 .next, g .1 .next + 1))), refl, (moved, l ∙ inv .1), refl)))),
+                                                      (λ t.
+                                                          let h : not (i .1) ≡ true = ap not t in
+                                                          let all = stored-last s e at stop p₀ first end pre (rows (vs .0)) count last next (inv .0) (g .1) (g .5) z q (i .1) (i .5) h in
+                                                          let moved = subst (λ (y : List (List ℕ)). Stores s e at p₀ first end (record { count = count + 1; next = g .1 .next }) y) stored all in
+                                                          let ended = fix-len (params .ptr) (params .name) (o .2 .0) (params .now) (l ∙ inv .1) in
+                                                          ((λ ls. tt), λ k. ((refl, (tt, (tt, (tt, (ended, (tt, (tt, tt))))))), rw (k .5) moved))),
+                                                    ),
+                                                  ),
+                                                ),
+                                          ),
+                                        ),
+                                      ),
+                                    )),
+                              ),
+                            ),
+                          ),
+                        ),
+                      )),
+                ),
+              ),
+            ),
+      )
 
 pub fill-params-spec : {M : Type 1} → stated.statement M
 unfolding code.routine tablesOf

@@ -2,33 +2,34 @@ use borrow.Author.Needs.{needs}
 use Prim.Native.Nat.{_-_}
 use lib.ListN.{length}
 use Rattle.structured_data.specs.Param.{isNamed}
-use Rattle.structured_data.proofs.Loops.{Runs, runs-laws}
+use Rattle.base.specs.Runs.{run}
+use Rattle.base.proofs.Runs.{Runs, runs-laws}
 use Rattle.structured_data.proofs.name_run.Statement.{statement}
 use Rattle.structured_data.proofs.name_run.Tie as tie
 
 abbrev Inv-loop : tie.InvT-loop
-Inv-loop s i₀ i = Runs isNamed s i
+Inv-loop s i₀ i = Runs isNamed s (run isNamed s) i
 
 abbrev μ-loop : tie.MeasureT-loop
 μ-loop s i₀ i = length s - i
 
 loop-holds : tie.Need-loop-holds Inv-loop μ-loop
-loop-holds c = search (runs-laws, needs)
+loop-holds c = search needs
 
 shared-slice-read-is-named : tie.Need-shared-slice-read-is-named Inv-loop μ-loop
-shared-slice-read-is-named c = search (runs-laws, needs)
+shared-slice-read-is-named c = search needs
 
 is-named-requires : tie.Need-is-named-requires Inv-loop μ-loop
-is-named-requires c κs = search (runs-laws, needs)
+is-named-requires c κs = search needs
 
 returns : tie.Need-returns Inv-loop μ-loop
 returns c = search (runs-laws, needs)
 
 add-i : tie.Need-add-i Inv-loop μ-loop
-add-i c = search (runs-laws, needs)
+add-i c = search needs
 
 loop-less : tie.Need-loop-less Inv-loop μ-loop
-loop-less c = search (runs-laws, needs)
+loop-less c = search needs
 
 loop-again : tie.Need-loop-again Inv-loop μ-loop
 loop-again c = search (runs-laws, needs)

@@ -1,5 +1,5 @@
 -- `suits::is_suitable` meets its contract: a derivation by hand. The invariant: what is left to check is what is left to say.
-use Rattle.rules.specs.Derive.{Asked, Cx, Derived, Laid, Learnt, Lfts, Row, R·, Shares, World, [], _-_, _<_, _∙_, _∷_, _≤_, _▸_, _▹_, _◂_, any-gone, ap, arith, at, blocks, branch, by-num, by-shr, by-val, bytes, calls, cites, cx, exits, fld, gone, held, here, i64, join, last, lend, length, loops, lost, lt, ltb-false, ltb-true, nexts, none, num, over, pair, part, proves, put, puts, refl, returns, room, sBool, sc, sc-here, shr, slen, slots₃, struct, tablesOf, tyBool, tyInt, unsigned, w64, world}
+use Rattle.derivation.specs.Derive.{Asked, Cx, Derived, Laid, Learnt, Lfts, Row, R·, Shares, World, [], _-_, _<_, _∙_, _∷_, _≤_, _▸_, _▹_, _◂_, any-gone, ap, arith, at, blocks, branch, by-num, by-shr, by-val, bytes, calls, cites, cx, exits, fld, gone, held, here, i64, join, last, lend, length, loops, lost, lt, ltb-false, ltb-true, nexts, none, num, over, pair, part, proves, put, puts, refl, returns, room, sBool, sc, sc-here, shr, slen, slots₃, struct, tablesOf, tyBool, tyInt, unsigned, w64, world}
 use Rattle.record.specs.Params.{rowOf, rows}
 use Rattle.record.proofs.Params.{rows-length, rows-get}
 use Rattle.entries.proofs.Contracts as E
@@ -40,7 +40,42 @@ module _ (w : World) where
 
   laid : Laid C.is-suitable w code.env Key.name 0 code.function derived
   laid κs qs a good pre bs =
-      ((λ ls. tt), λ g. ((g .1, refl, check-starts (a .0 .now) (a .1 .0) (a .1 .1 .0) (a .1 .1 .1 .0) (a .1 .1 .1 .1 .0 .now) (rows (a .1 .1 .1 .1 .1 .0 .now)) (g .1) (rw (rows-length (a .1 .1 .1 .1 .1 .0 .now)) (g .5))), λ vs inv. (tt, ((λ t. let l : vs .next < a .1 .1 .1 .0 = ltb-true (vs .next) (a .1 .1 .1 .0) t in let b : vs .next < length (a .1 .1 .1 .1 .1 .0 .now) = omega (arith, rows-length (a .1 .1 .1 .1 .1 .0 .now), check-inside (a .0 .now) (a .1 .0) (a .1 .1 .0) (a .1 .1 .1 .0) (a .1 .1 .1 .1 .0 .now) (rows (a .1 .1 .1 .1 .1 .0 .now)) vs inv l) in ((λ ls. b), λ p. ((λ ls. l), λ d. (a .1 .1 .1 .0 - d .1 .next, (let f = check-further (a .0 .now) (a .1 .0) (a .1 .1 .0) (a .1 .1 .1 .0) (a .1 .1 .1 .1 .0 .now) (rows (a .1 .1 .1 .1 .1 .0 .now)) vs inv l (p .1) (ap rowOf (p .5) ∙ rows-get (a .1 .1 .1 .1 .1 .0 .now) (vs .next) b) (d .1) (d .5) in omega (arith, check-steps (a .0 .now) (a .1 .0) (a .1 .1 .0) (a .1 .1 .1 .0) (a .1 .1 .1 .1 .0 .now) (rows (a .1 .1 .1 .1 .1 .0 .now)) vs inv l (p .1) (ap rowOf (p .5) ∙ rows-get (a .1 .1 .1 .1 .1 .0 .now) (vs .next) b) (d .1) (d .5) .inside)), (d .1, refl, check-steps (a .0 .now) (a .1 .0) (a .1 .1 .0) (a .1 .1 .1 .0) (a .1 .1 .1 .1 .0 .now) (rows (a .1 .1 .1 .1 .1 .0 .now)) vs inv l (p .1) (ap rowOf (p .5) ∙ rows-get (a .1 .1 .1 .1 .1 .0 .now) (vs .next) b) (d .1) (d .5), refl))))), (λ f. let l : a .1 .1 .1 .0 ≤ vs .next = ltb-false (vs .next) (a .1 .1 .1 .0) f in ((refl, (tt, (tt, (tt, (refl, (refl, tt)))))), check-ends (a .0 .now) (a .1 .0) (a .1 .1 .0) (a .1 .1 .1 .0) (a .1 .1 .1 .1 .0 .now) (rows (a .1 .1 .1 .1 .1 .0 .now)) vs inv l))))))
+      let line = a .0 .now in
+      let r = a .1 .0 in
+      let e = a .1 .1 .0 in
+      let p = a .1 .1 .1 .0 in
+      let elements = a .1 .1 .1 .1 .0 .now in
+      let params = a .1 .1 .1 .1 .1 .0 .now in
+      let starts = check-starts line r e p elements (rows params) in
+      let inside = check-inside line r e p elements (rows params) in
+      let further = check-further line r e p elements (rows params) in
+      let steps = check-steps line r e p elements (rows params) in
+      let ends = check-ends line r e p elements (rows params) in (
+        (λ ls. tt),
+        λ g. (
+          (g .1, refl, starts (g .1) (rw (rows-length params) (g .5))),
+          λ vs inv. (
+            tt,
+            (
+              (λ t.
+                  let l : vs .next < p = ltb-true (vs .next) p t in
+                  let b : vs .next < length params = omega (arith, rows-length params, inside vs inv l) in (
+                    (λ ls. b),
+                    λ x.
+                        let ex = ap rowOf (x .5) ∙ rows-get params (vs .next) b in (
+                          (λ ls. l),
+                          λ d.
+                              let s = steps vs inv l (x .1) ex (d .1) (d .5) in
+                              (p - d .1 .next, (let f = further vs inv l (x .1) ex (d .1) (d .5) in omega (arith, s .inside)), (d .1, refl, s, refl)),
+                        ),
+                  )),
+              (λ f.
+                  let l : p ≤ vs .next = ltb-false (vs .next) p f in
+                  ((refl, (tt, (tt, (tt, (refl, (refl, tt)))))), ends vs inv l)),
+            ),
+          ),
+        ),
+      )
 
 pub is-suitable-spec : {M : Type 1} → stated.statement M
 unfolding code.routine tablesOf

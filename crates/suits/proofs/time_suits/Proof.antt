@@ -6,8 +6,8 @@ use Rattle.suits.proofs.time_suits.Tie as tie
 returns : tie.Need-returns
 returns c = search (time-laws, needs)
 
-offset-suits-requires : tie.Need-offset-suits-requires
-offset-suits-requires c κs = search needs
+is-offset-requires : tie.Need-is-offset-requires
+is-offset-requires c κs = search needs
 
 returns-2 : tie.Need-returns-2
 returns-2 c = search (time-laws, needs)
@@ -26,7 +26,7 @@ time-suits-spec =
     tie.close
     (tie.spec
     returns
-    offset-suits-requires
+    is-offset-requires
     returns-2
     shown-at-requires
     is-shown-requires

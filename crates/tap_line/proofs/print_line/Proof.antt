@@ -1,5 +1,5 @@
 -- `tap_line::print_line` meets its contract: a derivation by hand. A local table is lent to the printer.
-use Rattle.rules.specs.Derive.{Asked, Cx, Derived, Laid, Learnt, Lfts, Life, List, Row, R·, Shares, World, [], _∷_, _▸_, _▹_, alive, any-gone, array, arrays, as-array, at, back, begin, by-lit, by-mut, by-num, by-shr, by-val, by-view, bytes, calls, cites, cx, eT, finish, fix-len, fld, gone, held, here, i64, lease, leased, lend, lends, lent, lit<, lose, lost, made, muts, none, off, over, owed, owing, packs, packs-view, pair, proves, read-whole, refl, repeats, returns, room, same, sc, sc-here, shr, sliceTy, spent, struct, tablesOf, unmade, unviewed, unviews, vT, view, view-lend, viewed, views, w64, wT, world}
+use Rattle.derivation.specs.Derive.{Asked, Cx, Derived, Laid, Learnt, Lfts, Life, List, Row, R·, Shares, World, [], _∷_, _▸_, _▹_, alive, any-gone, array, arrays, as-array, at, back, begin, by-lit, by-mut, by-num, by-shr, by-val, by-view, bytes, calls, cites, cx, eT, finish, fix-len, fld, gone, held, here, i64, lease, leased, lend, lends, lent, lit<, lose, lost, made, muts, none, off, over, owed, owing, packs, packs-view, pair, proves, read-whole, refl, repeats, returns, room, same, sc, sc-here, shr, sliceTy, spent, struct, tablesOf, unmade, unviewed, unviews, vT, view, view-lend, viewed, views, w64, wT, world}
 use borrow.Rule.Array.Rows.{arrF}
 use Rattle.entries.proofs.Contracts as E
 use Rattle.suits.proofs.Contracts as S

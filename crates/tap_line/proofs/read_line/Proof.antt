@@ -1,5 +1,5 @@
 -- `tap_line::read_line` meets its contract: a derivation by hand. A local table is lent to the exact reader.
-use Rattle.rules.specs.Derive.{Asked, Cx, Derived, Laid, Learnt, Lfts, Row, R·, Shares, World, [], _∷_, _▸_, _▹_, aT, alive, any-gone, array, arrays, as-array, at, back, begin, borrows, by-mut, by-num, by-shr, by-snum, bytes, calls, cites, cx, eT, finish, fix-len, fld, gone, held, i32, lease, leased, lend, lends, lent, lit<, lose, lost, made, none, off, over, owed, owing, packs, packs-all, pair, proves, read-whole, refl, repeats, returned, returns, room, same, sc, sc-here, shr, spent, struct, tablesOf, unmade, w32, world}
+use Rattle.derivation.specs.Derive.{Asked, Cx, Derived, Laid, Learnt, Lfts, Row, R·, Shares, World, [], _∷_, _▸_, _▹_, aT, alive, any-gone, array, arrays, as-array, at, back, begin, borrows, by-mut, by-num, by-shr, by-snum, bytes, calls, cites, cx, eT, finish, fix-len, fld, gone, held, i32, lease, leased, lend, lends, lent, lit<, lose, lost, made, none, off, over, owed, owing, packs, packs-all, pair, proves, read-whole, refl, repeats, returned, returns, room, same, sc, sc-here, shr, spent, struct, tablesOf, unmade, w32, world}
 use borrow.Rule.Array.Rows.{arr-owed}
 use Rattle.entries.proofs.Contracts as E
 use Rattle.loose.proofs.Contracts as O

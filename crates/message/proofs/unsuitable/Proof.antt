@@ -1,9 +1,0 @@
-use borrow.Author.Needs.{needs}
-use Rattle.message.proofs.unsuitable.Statement.{statement}
-use Rattle.message.proofs.unsuitable.Tie as tie
-
-returns : tie.Need-returns
-returns c = search needs
-
-pub unsuitable-spec : {M : Type 1} → statement M
-unsuitable-spec = tie.close (tie.spec returns)

@@ -1,0 +1,48 @@
+-- `elements::stop` meets its contract. The invariant: the value stops as far on as the rest does, in the state of the walk. Assumes nothing.
+use Prim.Native.Nat.{_-_}
+use lib.ListN.{length}
+use borrow.Author.Needs.{needs}
+use Rattle.strict_data.proofs.Values.{Stopping, stop-laws}
+use Rattle.strict_data.proofs.stop.Statement.{statement}
+use Rattle.strict_data.proofs.stop.Tie as tie
+
+abbrev Inv-loop : tie.InvT-loop
+Inv-loop s i₀ paired₀ i paired = Stopping s paired i
+
+abbrev μ-loop : tie.MeasureT-loop
+μ-loop s i₀ paired₀ i paired = length s - i
+
+loop-holds : tie.Need-loop-holds Inv-loop μ-loop
+loop-holds c = search (stop-laws, needs)
+
+shared-slice-read-b : tie.Need-shared-slice-read-b Inv-loop μ-loop
+shared-slice-read-b c = search (stop-laws, needs)
+
+returns : tie.Need-returns Inv-loop μ-loop
+returns c = search (stop-laws, needs)
+
+add-i : tie.Need-add-i Inv-loop μ-loop
+add-i c = search (stop-laws, needs)
+
+loop-less : tie.Need-loop-less Inv-loop μ-loop
+loop-less c = search (stop-laws, needs)
+
+loop-again : tie.Need-loop-again Inv-loop μ-loop
+loop-again c = search (stop-laws, needs)
+
+returns-2 : tie.Need-returns-2 Inv-loop μ-loop
+returns-2 c = search (stop-laws, needs)
+
+pub stop-spec : {M : Type 1} → statement M
+stop-spec =
+    tie.close
+    (tie.spec
+    Inv-loop
+    μ-loop
+    loop-holds
+    shared-slice-read-b
+    returns
+    add-i
+    loop-less
+    loop-again
+    returns-2)

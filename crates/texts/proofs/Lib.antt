@@ -1,0 +1,8 @@
+pub mod ByCharacters
+pub mod Cuts
+pub mod Steps
+pub mod Data
+pub mod Records
+pub mod Outcomes
+pub mod Printing
+pub mod Texts
