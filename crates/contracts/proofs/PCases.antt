@@ -23,7 +23,7 @@ use Rattle.structured_data.specs.Param.{quotedLen, paramAt}
 use Rattle.structured_data.specs.Element.{idLen, moreParams, paramsFrom, elementFrom}
 use Rattle.structured_data.specs.Data.{itemFrom, elementsFrom, dataFrom}
 use Rattle.rfc3164.specs.Names.{splitAt, splitOf, hostAndTag}
-use Rattle.rfc3164.specs.Rfc3164.{spacedHost, spacedTag, tagEnd, bodyFrom, rfc3164}
+use Rattle.rfc3164.specs.Rfc3164.{spacedHost, spacedTag, tagEnd, headerFrom, bodyFrom, rfc3164}
 use Rattle.rfc5424.specs.Rfc5424.{blankHost, blankPlain, startFrom, fourFrom, bodyFrom as bodyFrom5424, rfc5424}
 use Rattle.loose.specs.Loose.{byVariant, outcomeOf}
 use Rattle.output.specs.Numerals.{fixed as fixedText, widthFrom}
@@ -51,7 +51,7 @@ abbrev _and_ : {A B : Type 0} → A → B → A × B
 _and_ a b = (a, b)
 
 pub p-cases : PCases
-unfolding table found-as outcomeOf byVariant utf8From trimmed textEnd whiteFrom whiteLen codePoint isWhite charLen wellFormed leadOf run fieldLen decimalFrom numberAt fixedAt fractionAt leap monthDays validDate validTime valid yearDays daysBeforeYear daysOfMonths dayNumber localSeconds secondsOf spanFrom yearOf monthOf clockOf shown priAt plainAt hostAt tagLen tagAt someBlanksFrom byteFrom numberFrom plainFrom hostFrom tagFrom namedFrom monthNumber monthFrom clockFrom fixedFrom eitherFrom dateFrom timeFrom nanosFrom minutesFrom zoneFrom endFrom fullFrom rfc3339From dayFrom withoutYear withYear rfc3164From quotedLen paramAt idLen moreParams paramsFrom elementFrom itemFrom elementsFrom dataFrom splitAt splitOf hostAndTag spacedHost spacedTag tagEnd bodyFrom rfc3164 blankHost blankPlain startFrom fourFrom bodyFrom5424 rfc5424 fixedText widthFrom dateText timeText clockText fractionText offsetText priText fieldText paramText paramsText otherParams openText elementsText headText printed choose closed only manyFrom _next_ into repeat fixed stop untilQuote allLeft atEnd pri version priVersion date clock secfrac zone offset full timestamp names value param element listed structured message header parse
+unfolding table found-as outcomeOf byVariant utf8From trimmed textEnd whiteFrom whiteLen codePoint isWhite charLen wellFormed leadOf run fieldLen decimalFrom numberAt fixedAt fractionAt leap monthDays validDate validTime valid yearDays daysBeforeYear daysOfMonths dayNumber localSeconds secondsOf spanFrom yearOf monthOf clockOf shown priAt plainAt hostAt tagLen tagAt someBlanksFrom byteFrom numberFrom plainFrom hostFrom tagFrom namedFrom monthNumber monthFrom clockFrom fixedFrom eitherFrom dateFrom timeFrom nanosFrom minutesFrom zoneFrom endFrom fullFrom rfc3339From dayFrom withoutYear withYear rfc3164From quotedLen paramAt idLen moreParams paramsFrom elementFrom itemFrom elementsFrom dataFrom splitAt splitOf hostAndTag spacedHost spacedTag tagEnd headerFrom bodyFrom rfc3164 blankHost blankPlain startFrom fourFrom bodyFrom5424 rfc5424 fixedText widthFrom dateText timeText clockText fractionText offsetText priText fieldText paramText paramsText otherParams openText elementsText headText printed choose closed only manyFrom _next_ into repeat fixed stop untilQuote allLeft atEnd pri version priVersion date clock secfrac zone offset full timestamp names value param element listed structured message header parse
 p-cases =
     (refl and refl and refl and refl and refl and refl and tt)
     and (refl and refl and tt)

@@ -30,7 +30,7 @@ use Rattle.structured_data.specs.Data.{itemFrom, elementsFrom, dataFrom}
 use Rattle.draft.specs.Outcome.{Outcome}
 use Rattle.draft.specs.Outcome.Outcome.{noReading, isReading}
 use Rattle.rfc3164.specs.Names.{splitAt, splitOf, hostAndTag}
-use Rattle.rfc3164.specs.Rfc3164.{spacedHost, spacedTag, tagEnd, bodyFrom, rfc3164}
+use Rattle.rfc3164.specs.Rfc3164.{spacedHost, spacedTag, tagEnd, headerFrom, bodyFrom, rfc3164}
 use Rattle.rfc5424.specs.Rfc5424.{blankHost, blankPlain, startFrom, fourFrom, bodyFrom as bodyFrom5424, rfc5424}
 use Rattle.record.specs.declared.Place.{Place}
 use Rattle.record.specs.declared.Protocol.{Protocol}
@@ -121,7 +121,7 @@ cases : (map read
     ≡ Refused BadSetting ∷ Refused BadSetting ∷ Refused BadSetting ∷ Refused BadSetting
     ∷ Refused TooManyElements ∷ Refused TooManyParams ∷ Refused BadSetting ∷ [])
     × (map (λ n. answered (replicate n 97) 3 2023 (pos 60) noReading 0 0) (8192 ∷ 8193 ∷ []) ≡ Refused BadSetting ∷ Refused LineTooLong ∷ [])
-unfolding outcomeOf byVariant utf8From trimmed textEnd whiteFrom whiteLen codePoint isWhite charLen wellFormed leadOf run fieldLen decimalFrom numberAt fixedAt fractionAt leap monthDays validDate validTime valid yearDays daysBeforeYear daysOfMonths dayNumber localSeconds secondsOf spanFrom yearOf monthOf clockOf shown priAt plainAt hostAt tagLen tagAt someBlanksFrom byteFrom numberFrom plainFrom hostFrom tagFrom namedFrom monthNumber monthFrom clockFrom fixedFrom eitherFrom dateFrom timeFrom nanosFrom minutesFrom zoneFrom endFrom fullFrom rfc3339From dayFrom withoutYear withYear rfc3164From quotedLen paramAt idLen moreParams paramsFrom elementFrom itemFrom elementsFrom dataFrom splitAt splitOf hostAndTag spacedHost spacedTag tagEnd bodyFrom rfc3164 blankHost blankPlain startFrom fourFrom bodyFrom5424 rfc5424
+unfolding outcomeOf byVariant utf8From trimmed textEnd whiteFrom whiteLen codePoint isWhite charLen wellFormed leadOf run fieldLen decimalFrom numberAt fixedAt fractionAt leap monthDays validDate validTime valid yearDays daysBeforeYear daysOfMonths dayNumber localSeconds secondsOf spanFrom yearOf monthOf clockOf shown priAt plainAt hostAt tagLen tagAt someBlanksFrom byteFrom numberFrom plainFrom hostFrom tagFrom namedFrom monthNumber monthFrom clockFrom fixedFrom eitherFrom dateFrom timeFrom nanosFrom minutesFrom zoneFrom endFrom fullFrom rfc3339From dayFrom withoutYear withYear rfc3164From quotedLen paramAt idLen moreParams paramsFrom elementFrom itemFrom elementsFrom dataFrom splitAt splitOf hostAndTag spacedHost spacedTag tagEnd headerFrom bodyFrom rfc3164 blankHost blankPlain startFrom fourFrom bodyFrom5424 rfc5424
 cases = (refl, refl, refl, refl, refl)
 
 -- a line that is the message, written out

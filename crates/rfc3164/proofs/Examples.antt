@@ -32,7 +32,7 @@ use Rattle.structured_data.specs.Data.{Rows, endAt, itemFrom, elementsFrom, dat
 use Rattle.draft.specs.Outcome.{Outcome}
 use Rattle.draft.specs.Outcome.Outcome.{noReading, isReading}
 use Rattle.rfc3164.specs.Names.{splitAt, splitOf, hostAndTag}
-use Rattle.rfc3164.specs.Rfc3164.{spacedHost, spacedTag, tagEnd, bodyFrom, rfc3164}
+use Rattle.rfc3164.specs.Rfc3164.{spacedHost, spacedTag, tagEnd, headerFrom, bodyFrom, rfc3164}
 use Rattle.rfc3164.specs.declared.Split.the-variants.{Whole, Parts}
 
 splits : map splitAt (bytes "a[1]" ∷ bytes "[1]" ∷ bytes "a[[1]" ∷ bytes "a" ∷ bytes "a[]" ∷ bytes "a[1" ∷ bytes "a[1]b" ∷ bytes "a[1]b]" ∷ bytes "a:b[1]" ∷ [])
@@ -92,5 +92,5 @@ lines : (reading 0 "<13>Feb  5 10:01:02 gate7 reader[42]: tap ok" ≡ read (Set 
     × (reading 0 "-x" ≡ bare absent absent absent 1 1 1 (endAt 1))
     × (reading 0 "---" ≡ bare absent absent absent 2 1 1 (endAt 2))
     × (reading 0 "<13>x" ≡ noReading)
-unfolding rfc3164 priAt numberAt decimalFrom run rfc3164From withoutYear withYear dayFrom monthFrom monthOf namedFrom someBlanksFrom numberFrom clockFrom byteFrom valid validDate validTime monthDays leap secondsOf localSeconds dayNumber daysBeforeYear yearDays daysOfMonths rfc3339From fullFrom dateFrom fixedFrom fixedAt bodyFrom spacedHost hostFrom hostAt spacedTag tagFrom tagAt tagLen tagEnd fieldLen whiteLen isWhite codePoint charLen wellFormed leadOf hostAndTag splitOf splitAt dataFrom elementsFrom itemFrom elementFrom idLen paramsFrom moreParams paramAt quotedLen
+unfolding rfc3164 priAt numberAt decimalFrom run rfc3164From withoutYear withYear dayFrom monthFrom monthOf namedFrom someBlanksFrom numberFrom clockFrom byteFrom valid validDate validTime monthDays leap secondsOf localSeconds dayNumber daysBeforeYear yearDays daysOfMonths rfc3339From fullFrom dateFrom fixedFrom fixedAt bodyFrom headerFrom spacedHost hostFrom hostAt spacedTag tagFrom tagAt tagLen tagEnd fieldLen whiteLen isWhite codePoint charLen wellFormed leadOf hostAndTag splitOf splitAt dataFrom elementsFrom itemFrom elementFrom idLen paramsFrom moreParams paramAt quotedLen
 lines = (refl, refl, refl, refl, refl, refl, refl, refl, refl, refl, refl, refl, refl, refl, refl, refl, refl)

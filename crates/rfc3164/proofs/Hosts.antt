@@ -47,23 +47,13 @@ pub ruleset names-laws = (dash-names, tag-whole, tag-parts, field-whole, field-p
 pub place-within : (s : List ℕ) (f : Field) (p : Place) (n : ℕ) → f ≡ IsField p n → FieldWithin s f → p .start + p .len ≤ length s
 place-within s f p n e w = rw e at w
 
-module _ (s : List ℕ) (host tag : Field) (r : Names) where
-  module _ (h : Place) (n : ℕ) (eh : host ≡ IsField h n) where
-    pub host-and-tag : (t : Place) (m : ℕ) → tag ≡ IsField t m → r ≡ (if t .present then withTag h t (splitOf s t) else noNames) → r ≡ hostAndTag s host tag
-    unfolding hostAndTag
-    host-and-tag t m et q = q ∙ rw (eh, et)
+module _ (s : List ℕ) (host : Place) (tag : Field) (r : Names) where
+  pub host-and-tag : (t : Place) (m : ℕ) → tag ≡ IsField t m → r ≡ (if t .present then withTag host t (splitOf s t) else noNames) → r ≡ hostAndTag s host tag
+  unfolding hostAndTag
+  host-and-tag t m et q = q ∙ rw et
 
-    pub host-only : tag ≡ NoField → r ≡ (if h .present then onlyField h (splitOf s h) else noNames) → r ≡ hostAndTag s host tag
-    unfolding hostAndTag
-    host-only et q = q ∙ rw (eh, et)
+  pub host-only : tag ≡ NoField → r ≡ (if host .present then onlyField host (splitOf s host) else noNames) → r ≡ hostAndTag s host tag
+  unfolding hostAndTag
+  host-only et q = q ∙ rw et
 
-  module _ (eh : host ≡ NoField) where
-    pub tag-only : (t : Place) (m : ℕ) → tag ≡ IsField t m → r ≡ (if t .present then onlyField t (splitOf s t) else noNames) → r ≡ hostAndTag s host tag
-    unfolding hostAndTag
-    tag-only t m et q = q ∙ rw (eh, et)
-
-    pub no-fields : tag ≡ NoField → r ≡ noNames → r ≡ hostAndTag s host tag
-    unfolding hostAndTag
-    no-fields et q = q ∙ rw (eh, et)
-
-pub ruleset host-laws = (place-within, host-and-tag, host-only, tag-only, no-fields)
+pub ruleset host-laws = (place-within, host-and-tag, host-only)

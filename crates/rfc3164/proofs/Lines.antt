@@ -17,8 +17,9 @@ use Rattle.record.specs.declared.Record.{Record}
 use Rattle.pri.specs.Pri.{priAt}
 use Rattle.pri.specs.declared.Pri.{Pri}
 use Rattle.pri.proofs.Readers.{pri-next}
-use Rattle.parsers.specs.Steps.{blanksFrom, colonFrom}
+use Rattle.parsers.specs.Steps.{blanksFrom, colonFrom, onField}
 use Rattle.parsers.specs.declared.Field.{Field}
+use Rattle.parsers.specs.declared.Field.the-variants.{NoField, IsField}
 use Rattle.parsers.proofs.Steps as steps
 use Rattle.parsers.proofs.Steps.{blanks-within}
 use Rattle.timestamp.specs.Timestamp.{rfc3164From}
@@ -36,9 +37,9 @@ use Rattle.draft.specs.Drafts.{draftOf}
 use Rattle.draft.specs.declared.Draft.{Draft}
 use Rattle.draft.specs.declared.Draft.the-variants.{NoDraft, IsDraft}
 use Rattle.draft.proofs.Outcomes.{RowsIn}
-use Rattle.rfc3164.specs.Names.{hostAndTag}
-use Rattle.rfc3164.specs.Rfc3164.{spacedHost, spacedTag, behindField, tagEnd, bodyFrom, onStamping, rfc3164}
-use Rattle.rfc3164.specs.Steps.{taggedFrom, headerFrom, restOf, restFrom, recordOf}
+use Rattle.rfc3164.specs.Names.{noNames, hostAndTag}
+use Rattle.rfc3164.specs.Rfc3164.{spacedHost, spacedTag, behindField, tagEnd, taggedFrom, headerFrom, bodyFrom, onStamping, rfc3164}
+use Rattle.rfc3164.specs.Steps.{restOf, restFrom, recordOf}
 use Rattle.rfc3164.specs.declared.Names.{Names}
 use Rattle.rfc3164.specs.declared.Header.{Header}
 use Rattle.rfc3164.specs.declared.Rest.{Rest}
@@ -56,29 +57,44 @@ module _ (s : List ℕ) (at a b : ℕ) (ea : a ≡ blanksFrom s at) (eb : b ≡ 
 
 pub ruleset end-laws = (colon-within, tag-end-is)
 
-end-within : (s : List ℕ) (at : ℕ) → at ≤ length s → tagEnd s at ≤ length s
+pub end-within : (s : List ℕ) (at : ℕ) → at ≤ length s → (n : ℕ) → n ≡ tagEnd s at → n ≤ length s
 unfolding tagEnd
-end-within s at h = blanks-within s _ _ refl (colon-within s at _ _ refl refl h)
+end-within s at h n e = blanks-within s _ n e (colon-within s at _ _ refl refl h)
 
 -- host and tag
-module _ (s : List ℕ) (at : ℕ) where
-  pub tagged-is : (host tag : Field) → tag ≡ spacedTag s at → (a : ℕ) → a ≡ behindField at tag → (n : ℕ) → n ≡ tagEnd s a
-      → (names : Names) → names ≡ hostAndTag s host tag → record { names = names; next = n } ≡ taggedFrom s host at
-  tagged-is host tag et a ea n en names e = rw (e, en, ea, et)
+pub tagged-is : (s : List ℕ) (at : ℕ) (host : Place) (tag : Field) → tag ≡ spacedTag s at → (a : ℕ) → a ≡ behindField at tag
+    → (names : Names) → names ≡ hostAndTag s host tag → record { names = names; next = a } ≡ taggedFrom s host at
+tagged-is s at host tag et a ea names e = rw (e, ea, et)
 
-  module _ (host : Field) (eh : host ≡ spacedHost s at) (a : ℕ) (ea : a ≡ behindField at host) (r : Header) (e : r ≡ taggedFrom s host a) where
-    pub header-is : r ≡ headerFrom s at
-    header-is = e ∙ rw (ea, eh)
+module _ (s : List ℕ) (at : ℕ) where
+  module _ (f : Field) (ef : f ≡ spacedHost s at) where
+    pub header-none : f ≡ NoField → (names : Names) → names ≡ noNames → record { names = names; next = at } ≡ headerFrom s at
+    unfolding headerFrom
+    header-none z names e = rw (e, ← ef, z)
+
+    pub header-is : (host : Place) (a : ℕ) → f ≡ IsField host a → (r : Header) → r ≡ taggedFrom s host a → r ≡ headerFrom s at
+    unfolding headerFrom
+    header-is host a z r e = e ∙ rw (← ef, z)
+
+  -- a case at the host
+  pub by-header : (P : Header → Type 0) → (spacedHost s at ≡ NoField → P (record { names = noNames; next = at }))
+      → ((host : Place) (a : ℕ) → spacedHost s at ≡ IsField host a → P (taggedFrom s host a)) → P (headerFrom s at)
+  unfolding headerFrom
+  by-header P none some = go (spacedHost s at) refl
+    where
+      go : (f : Field) → spacedHost s at ≡ f → P (onField f (record { names = noNames; next = at }) (λ host a. taggedFrom s host a))
+      go NoField z = none z
+      go (IsField host a) z = some host a z
 
   header-next : at ≤ length s → headerFrom s at .next ≤ length s
   header-next h =
-      let host = spacedHost s at in
-      let a = behindField at host in
-      let tag = spacedTag s a in
-      end-within s (behindField a tag) (behind-tag s a tag (behind-host s at host h a refl refl) (behindField a tag) refl refl)
+      by-header (λ r. r .next ≤ length s) (λ z. h) λ host a z.
+      behind-tag s a (spacedTag s a) refl (behind-host s at (spacedHost s at) refl host a z) (behindField a (spacedTag s a)) refl
 
   pub header-within : at ≤ length s → (r : Header) → r ≡ headerFrom s at → r .next ≤ length s
   header-within h r e = rw e (header-next h)
+
+pub ruleset header-laws = (header-none, header-is)
 
 -- structured data and message
 module _ (s : List ℕ) (at : ℕ) (g : Counts) (eg : g ≡ countsOf (dataFrom Rfc3164Rules s at)) where
@@ -129,13 +145,13 @@ pub record-is : (pri : Pri) (stamp : Stamp) (names : Names) (message : Span) (n 
     ≡ recordOf pri stamp names message
 record-is pri stamp names message n e = rw e
 
-pub body-is : (pri : Pri) (stamp : Stamp) (s : List ℕ) (at : ℕ) (h : Header) → h ≡ headerFrom s at → (r : Rest) → r ≡ restFrom s (h .next)
+pub body-is : (pri : Pri) (stamp : Stamp) (s : List ℕ) (at : ℕ) (h : Header) → h ≡ headerFrom s at → (b : ℕ) → b ≡ tagEnd s (h .next) → (r : Rest) → r ≡ restFrom s b
     → (x : Record) → x ≡ recordOf pri stamp (h .names) (record { start = r .message; len = length s - r .message })
-    → IsDraft Rfc3164Rules x (h .next) (r .elements) (r .params) ≡ draftOf (bodyFrom pri stamp s at)
+    → IsDraft Rfc3164Rules x b (r .elements) (r .params) ≡ draftOf (bodyFrom pri stamp s at)
 unfolding bodyFrom
-body-is pri stamp s at h eh r er x ex = rw (ex, er, eh)
+body-is pri stamp s at h eh b eb r er x ex = rw (ex, er, eb, eh)
 
-pub ruleset body-laws = (header-within, message-within, body-is)
+pub ruleset body-laws = (header-within, end-within, message-within, body-is)
 
 -- the whole line
 module _ (year : ℕ) (o : ℤ) (s : List ℕ) (start : ℕ) (u : List ℕ) (eu : u ≡ drop start s) (pri : Pri) (ep : pri ≡ priAt u) where

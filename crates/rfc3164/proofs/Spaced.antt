@@ -1,6 +1,6 @@
 -- One space and a field, and that both lie in the line.
-use Prim.Native.Nat.{ℕ, _≤_}
-use mathlib.Core.Path.{_≡_, refl, _∙_}
+use Prim.Native.Nat.{ℕ, _+_, _≤_}
+use mathlib.Core.Path.{_≡_, refl, sym, _∙_}
 use mathlib.Core.List.{List}
 use native.Mathlib.Omega.{arith}
 use lib.ListN.{length}
@@ -69,17 +69,21 @@ module _ (s : List ℕ) where
   behind-within at h (IsField p n) i = i .within-line
 
   module _ (at : ℕ) (f : Field) where
-    pub host-within : f ≡ spacedHost s at → FieldWithin s f
-    host-within e = rw e (field-within (spacedHost s at) (host-lies at))
+    module _ (e : f ≡ spacedHost s at) (p : Place) (n : ℕ) (z : f ≡ IsField p n) where
+      there : FieldIn (length s) p n
+      there = rw (sym e ∙ z) at (host-lies at)
 
-    pub tag-within : f ≡ spacedTag s at → FieldWithin s f
-    tag-within e = rw e (field-within (spacedTag s at) (tag-lies at))
+      pub host-within : p .start + p .len ≤ length s
+      host-within = omega (arith, there .ends, there .within-line)
 
-    module _ (h : at ≤ length s) (n : ℕ) (q : n ≡ behindField at f) where
-      pub behind-host : f ≡ spacedHost s at → n ≤ length s
-      behind-host e = rw (q, e) (behind-within at h (spacedHost s at) (host-lies at))
+      pub behind-host : n ≤ length s
+      behind-host = there .within-line
 
-      pub behind-tag : f ≡ spacedTag s at → n ≤ length s
-      behind-tag e = rw (q, e) (behind-within at h (spacedTag s at) (tag-lies at))
+    module _ (e : f ≡ spacedTag s at) where
+      pub tag-within : FieldWithin s f
+      tag-within = rw e (field-within (spacedTag s at) (tag-lies at))
 
-pub ruleset within-laws = (host-within, tag-within, behind-host, behind-tag)
+      pub behind-tag : at ≤ length s → (n : ℕ) → n ≡ behindField at f → n ≤ length s
+      behind-tag h n q = rw (q, e) (behind-within at h (spacedTag s at) (tag-lies at))
+
+pub ruleset within-laws = (host-within, behind-host, tag-within, behind-tag)

@@ -14,14 +14,14 @@ use Rattle.parsers.specs.declared.Field.the-variants.{NoField, IsField}
 use Rattle.draft.specs.Outcome.{Outcome}
 use Rattle.draft.specs.Outcome.Outcome.{noReading, isReading}
 use Rattle.rfc3164.specs.Names.{splitOf, noNames, withTag, onlyField, hostAndTag}
-use Rattle.rfc3164.specs.Rfc3164.{spacedHost, spacedTag, behindField, bodyFrom}
-use Rattle.rfc3164.specs.Steps.{FieldWithin, headerFrom, restFrom}
+use Rattle.rfc3164.specs.Rfc3164.{spacedHost, spacedTag, tagEnd, headerFrom, bodyFrom}
+use Rattle.rfc3164.specs.Steps.{FieldWithin, restFrom}
 use Rattle.rfc3164.specs.declared.Split.{Split}
 use Rattle.rfc3164.specs.declared.Split.the-variants.{Whole, Parts}
 use Rattle.rfc3164.specs.declared.Names.{Names}
 use Rattle.rfc3164.proofs.Splits.{parts-within}
 use Rattle.rfc3164.proofs.Spaced.{host-within, tag-within}
-use Rattle.rfc3164.proofs.Lines.{header-within, message-within}
+use Rattle.rfc3164.proofs.Lines.{by-header, header-within, end-within, message-within}
 
 abbrev pub PlaceIn : ℕ → Place → Type 0
 PlaceIn n p = p .start + p .len ≤ n
@@ -48,13 +48,15 @@ module _ (s : List ℕ) where
       let l = parts-within s f (Parts a p) e a p refl h in
       record { host-in = omega arith; app-in = omega arith; procid-in = omega arith }
 
-  names-in : (host tag : Field) → FieldWithin s host → FieldWithin s tag → NamesIn (length s) (hostAndTag s host tag)
+  names-in : (host : Place) (tag : Field) → PlaceIn (length s) host → FieldWithin s tag → NamesIn (length s) (hostAndTag s host tag)
   unfolding hostAndTag
-  names-in (IsField h n) (IsField t m) a b =
-      by-if (NamesIn (length s)) (t .present) _ _ (λ q. tagged-in h t a b (splitOf s t) refl) (λ q. none-in (length s))
-  names-in (IsField h n) NoField a b = by-if (NamesIn (length s)) (h .present) _ _ (λ q. only-in h a (splitOf s h) refl) (λ q. none-in (length s))
-  names-in NoField (IsField t m) a b = by-if (NamesIn (length s)) (t .present) _ _ (λ q. only-in t b (splitOf s t) refl) (λ q. none-in (length s))
-  names-in NoField NoField a b = none-in (length s)
+  names-in h (IsField t m) a b = by-if (NamesIn (length s)) (t .present) _ _ (λ q. tagged-in h t a b (splitOf s t) refl) (λ q. none-in (length s))
+  names-in h NoField a b = by-if (NamesIn (length s)) (h .present) _ _ (λ q. only-in h a (splitOf s h) refl) (λ q. none-in (length s))
+
+  header-in : (at : ℕ) → NamesIn (length s) (headerFrom s at .names)
+  header-in at =
+      by-header s at (λ r. NamesIn (length s) (r .names)) (λ z. none-in (length s)) λ host a z.
+      names-in host (spacedTag s a) (host-within s at (spacedHost s at) refl host a z) (tag-within s a (spacedTag s a) refl)
 
 -- A record that is read from a line of `n` bytes, and the position of its structured data
 pub record RecordIn (n : ℕ) (r : Record) (at : ℕ) : Type 0 where
@@ -72,11 +74,10 @@ OutcomeIn n (isReading r at rows) = RecordIn n r at
 pub body-in : (pri : Pri) (stamp : Stamp) (s : List ℕ) (at : ℕ) → at ≤ length s → OutcomeIn (length s) (bodyFrom pri stamp s at)
 unfolding bodyFrom
 body-in pri stamp s at h =
-    let host = spacedHost s at in
-    let tag = spacedTag s (behindField at host) in
-    let names = names-in s host tag (host-within s at host refl) (tag-within s (behindField at host) tag refl) in
-    let «data» = header-within s at h (headerFrom s at) refl in
-    let message = message-within s (headerFrom s at .next) «data» (restFrom s (headerFrom s at .next)) refl in
+    let names = header-in s at in
+    let b = tagEnd s (headerFrom s at .next) in
+    let «data» = end-within s (headerFrom s at .next) (header-within s at h (headerFrom s at) refl) b refl in
+    let message = message-within s b «data» (restFrom s b) refl in
     record {
       data-in = «data»;
       host-in = names .host-in;

@@ -47,9 +47,7 @@ abbrev pub onlyField : Place → Split → Names
 onlyField field Whole = names field absent absent
 onlyField field (Parts a p) = names absent (place (field .start) a) (place (field .start + a + 1) p)
 
--- a tag `-`, or a lone field `-`: all three absent
-unfoldable pub hostAndTag : List ℕ → Field → Field → Names
-hostAndTag s (IsField host n) (IsField tag m) = if tag .present then withTag host tag (splitOf s tag) else noNames
-hostAndTag s (IsField host n) NoField = if host .present then onlyField host (splitOf s host) else noNames
-hostAndTag s NoField (IsField tag m) = if tag .present then onlyField tag (splitOf s tag) else noNames
-hostAndTag s NoField NoField = noNames
+-- what a host and the tag after it give; a tag `-`, or a lone host `-`: all three absent
+unfoldable pub hostAndTag : List ℕ → Place → Field → Names
+hostAndTag s host (IsField tag m) = if tag .present then withTag host tag (splitOf s tag) else noNames
+hostAndTag s host NoField = if host .present then onlyField host (splitOf s host) else noNames

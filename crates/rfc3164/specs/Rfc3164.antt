@@ -5,11 +5,12 @@ use mathlib.Core.List.{List}
 use lib.ListN.{length, drop}
 use lib.IntN.{ℤ}
 use Rattle.record.specs.Places.{absent}
+use Rattle.record.specs.declared.Place.{Place}
 use Rattle.record.specs.declared.Stamp.{Stamp}
 use Rattle.record.specs.declared.Protocol.the-variants.{Rfc3164}
 use Rattle.pri.specs.Pri.{priAt}
 use Rattle.pri.specs.declared.Pri.{Pri}
-use Rattle.parsers.specs.Steps.{blanksFrom, byteFrom, colonFrom, hostFrom, tagFrom, onPos}
+use Rattle.parsers.specs.Steps.{blanksFrom, byteFrom, colonFrom, hostFrom, tagFrom, onPos, onField}
 use Rattle.parsers.specs.declared.Field.{Field}
 use Rattle.parsers.specs.declared.Field.the-variants.{NoField, IsField}
 use Rattle.timestamp.specs.Timestamp.{rfc3164From}
@@ -19,7 +20,8 @@ use Rattle.structured_data.specs.Data.{dataFrom, rowsOr}
 use Rattle.structured_data.specs.declared.Rules.the-variants.{Rfc3164Rules}
 use Rattle.draft.specs.Outcome.{Outcome}
 use Rattle.draft.specs.Outcome.Outcome.{noReading, isReading}
-use Rattle.rfc3164.specs.Names.{hostAndTag}
+use Rattle.rfc3164.specs.Names.{noNames, hostAndTag}
+use Rattle.rfc3164.specs.declared.Header.{Header}
 
 -- one space and a field
 unfoldable pub spacedHost : List ℕ → ℕ → Field
@@ -33,29 +35,36 @@ abbrev pub behindField : ℕ → Field → ℕ
 behindField at NoField = at
 behindField at (IsField p n) = n
 
--- host, tag, and the position of the structured data
+-- blanks, an optional `:`, blanks
 unfoldable pub tagEnd : List ℕ → ℕ → ℕ
 tagEnd s at = blanksFrom s (colonFrom s (blanksFrom s at))
 
--- behind the timestamp
+-- after the host: the tag, and what both give
+abbrev pub taggedFrom : List ℕ → Place → ℕ → Header
+taggedFrom s host at =
+    let tag = spacedTag s at in
+    record { names = hostAndTag s host tag; next = behindField at tag }
+
+-- host and tag; where there is no host, no tag is tried
+unfoldable pub headerFrom : List ℕ → ℕ → Header
+headerFrom s at = onField (spacedHost s at) (record { names = noNames; next = at }) λ host a. taggedFrom s host a
+
+-- after the timestamp: all that is left of the line
 unfoldable pub bodyFrom : Pri → Stamp → List ℕ → ℕ → Outcome
 bodyFrom pri stamp s at =
-    let host = spacedHost s at in
-    let a = behindField at host in
-    let tag = spacedTag s a in
-    let b = tagEnd s (behindField a tag) in
+    let header = headerFrom s at in
+    let b = tagEnd s (header .next) in
     let rows = rowsOr b (dataFrom Rfc3164Rules s b) in
     let message = blanksFrom s (rows .next) in
-    let names = hostAndTag s host tag in
     isReading
     (record {
       protocol = Rfc3164;
       facility = pri .facility;
       severity = pri .severity;
       timestamp = stamp;
-      host = names .host;
-      app = names .app;
-      procid = names .procid;
+      host = header .names .host;
+      app = header .names .app;
+      procid = header .names .procid;
       msgid = absent;
       message = record { start = message; len = length s - message };
     })

@@ -16,10 +16,7 @@ use Rattle.parsers.specs.declared.Field.{Field}
 use Rattle.parsers.specs.declared.Field.the-variants.{NoField, IsField}
 use Rattle.structured_data.specs.Data.{Rows, dataFrom, rowsOr}
 use Rattle.structured_data.specs.declared.Rules.the-variants.{Rfc3164Rules}
-use Rattle.rfc3164.specs.Names.{hostAndTag}
-use Rattle.rfc3164.specs.Rfc3164.{spacedHost, spacedTag, behindField, tagEnd}
 use Rattle.rfc3164.specs.declared.Names.{Names}
-use Rattle.rfc3164.specs.declared.Header.{Header}
 use Rattle.rfc3164.specs.declared.Rest.{Rest}
 
 -- the byte at `end` is a `]`, and the last
@@ -30,18 +27,6 @@ closesAt t end = isAt t end 93 && eqb (end + 1) (length t)
 abbrev pub FieldWithin : List ℕ → Field → Type 0
 FieldWithin s NoField = Unit {0}
 FieldWithin s (IsField p n) = p .start + p .len ≤ length s
-
--- behind the host: the tag, and where the structured data stands
-abbrev pub taggedFrom : List ℕ → Field → ℕ → Header
-taggedFrom s host at =
-    let tag = spacedTag s at in
-    record { names = hostAndTag s host tag; next = tagEnd s (behindField at tag) }
-
--- behind the timestamp
-abbrev pub headerFrom : List ℕ → ℕ → Header
-headerFrom s at =
-    let host = spacedHost s at in
-    taggedFrom s host (behindField at host)
 
 -- what is counted of the rows, and the message behind them
 abbrev pub restOf : List ℕ → Rows → Rest

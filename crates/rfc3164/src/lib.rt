@@ -18,8 +18,8 @@ ghost use Rattle.base.specs.Choose.{if_then_else_};
 ghost use Rattle.base.specs.Runs.{run};
 ghost use Rattle.draft.specs.Drafts.{draftOf};
 ghost use Rattle.rfc3164.specs.Names.{isApp, splitAt, splitOf, noNames, withTag, onlyField, hostAndTag};
-ghost use Rattle.rfc3164.specs.Rfc3164.{spacedHost, spacedTag, behindField, tagEnd, bodyFrom, rfc3164};
-ghost use Rattle.rfc3164.specs.Steps.{closesAt, FieldWithin, taggedFrom, headerFrom, restFrom, recordOf};
+ghost use Rattle.rfc3164.specs.Rfc3164.{spacedHost, spacedTag, behindField, tagEnd, taggedFrom, headerFrom, bodyFrom, rfc3164};
+ghost use Rattle.rfc3164.specs.Steps.{closesAt, FieldWithin, restFrom, recordOf};
 
 // A field that is `app[pid]`, by the lengths of both, or whole.
 pub enum Split {
@@ -34,7 +34,7 @@ pub struct Names {
     pub procid: Place,
 }
 
-// Host and tag, and the position of the structured data.
+// What host and tag give, and the position after them.
 struct Header {
     names: Names,
     next: usize,
@@ -164,20 +164,15 @@ fn only_field(s: &[u8], field: Place) -> Names
     }
 }
 
-fn host_and_tag(s: &[u8], host: Field, tag: Field) -> Names
-    requires { ⌜ FieldWithin (now s) host ⌝ }
+// What a host and the tag after it give.
+fn host_and_tag(s: &[u8], host: Place, tag: Field) -> Names
+    requires { ⌜ host .start + host .len ≤ length (now s) ⌝ }
     requires { ⌜ FieldWithin (now s) tag ⌝ }
     ensures { λ r. ⌜ r ≡ hostAndTag (now (s .entry)) host tag ⌝ }
 {
-    match host {
-        Field::IsField(h, _) => match tag {
-            Field::IsField(t, _) => with_tag(s, h, t),
-            Field::NoField => only_field(s, h),
-        },
-        Field::NoField => match tag {
-            Field::IsField(t, _) => only_field(s, t),
-            Field::NoField => no_names(),
-        },
+    match tag {
+        Field::IsField(t, _) => with_tag(s, host, t),
+        Field::NoField => only_field(s, host),
     }
 }
 
@@ -220,27 +215,32 @@ fn tag_end(s: &[u8], at: usize) -> usize
     parsers::blanks_from(s, next)
 }
 
-// Behind the host: the tag, and what both give.
-fn tagged_from(s: &[u8], host: Field, at: usize) -> Header
-    requires { ⌜ FieldWithin (now s) host ⌝ }
+// After the host: the tag, and what both give.
+fn tagged_from(s: &[u8], host: Place, at: usize) -> Header
+    requires { ⌜ host .start + host .len ≤ length (now s) ⌝ }
     requires { ⌜ at ≤ length (now s) ⌝ }
     ensures { λ r. ⌜ r ≡ taggedFrom (now (s .entry)) host at ⌝ }
 {
     let tag = spaced_tag(s, at);
-    let next = tag_end(s, behind_field(at, tag));
+    let next = behind_field(at, tag);
     Header {
         names: host_and_tag(s, host, tag),
         next,
     }
 }
 
-// Behind the timestamp: host and tag.
+// Host and tag. Where there is no host, no tag is tried.
 fn header_from(s: &[u8], at: usize) -> Header
     requires { ⌜ at ≤ length (now s) ⌝ }
     ensures { λ r. ⌜ r ≡ headerFrom (now (s .entry)) at ⌝ }
 {
-    let host = spaced_host(s, at);
-    tagged_from(s, host, behind_field(at, host))
+    let Field::IsField(host, next) = spaced_host(s, at) else {
+        return Header {
+            names: no_names(),
+            next: at,
+        };
+    };
+    tagged_from(s, host, next)
 }
 
 // Optional structured data, blanks, message.
@@ -296,7 +296,7 @@ fn body_from(pri: Pri, stamp: Stamp, s: &[u8], at: usize) -> Draft
 {
     let header = header_from(s, at);
     let names = header.names;
-    let data = header.next;
+    let data = tag_end(s, header.next);
     let rest = rest_from(s, data);
     let start = rest.message;
     let message = Span {

@@ -39,6 +39,7 @@ use Rattle.rfc3164.specs.Rfc3164 as rfc3164
 use Rattle.rfc3164.specs.declared.Split.{Split}
 use Rattle.rfc3164.specs.declared.Split.the-variants.{Whole, Parts}
 use Rattle.rfc3164.specs.declared.Names.{Names}
+use Rattle.rfc3164.proofs.Lines.{by-header}
 use Rattle.rfc5424.specs.Rfc5424 as rfc5424
 use Rattle.rfc5424.specs.declared.Start.{Start}
 use Rattle.rfc5424.specs.declared.Start.the-variants.{NoStart, IsStart}
@@ -193,13 +194,10 @@ module _ (s : List ℕ) (u : isUtf8 s ≡ true) where
   only-cut f h Whole q = record { host = h; app = absent-cut; procid = absent-cut }
   only-cut f h (Parts a p) q = record { host = absent-cut; app = q .0; procid = q .1 }
 
-  names-cut : (host tag : Field) → FieldCut s host → FieldCut s tag → NamesCut s (hostAndTag s host tag)
+  names-cut : (host : Place) (tag : Field) → PlaceCut s host → FieldCut s tag → NamesCut s (hostAndTag s host tag)
   unfolding hostAndTag
-  names-cut (IsField h n) (IsField t m) a b =
-      by-if (NamesCut s) (t .present) _ _ (λ q. tagged-cut h t (a .0) (b .0) (splitOf s t) (split-cut t (b .0))) (λ q. none-cut)
-  names-cut (IsField h n) NoField a b = by-if (NamesCut s) (h .present) _ _ (λ q. only-cut h (a .0) (splitOf s h) (split-cut h (a .0))) (λ q. none-cut)
-  names-cut NoField (IsField t m) a b = by-if (NamesCut s) (t .present) _ _ (λ q. only-cut t (b .0) (splitOf s t) (split-cut t (b .0))) (λ q. none-cut)
-  names-cut NoField NoField a b = none-cut
+  names-cut h (IsField t m) a b = by-if (NamesCut s) (t .present) _ _ (λ q. tagged-cut h t a (b .0) (splitOf s t) (split-cut t (b .0))) (λ q. none-cut)
+  names-cut h NoField a b = by-if (NamesCut s) (h .present) _ _ (λ q. only-cut h a (splitOf s h) (split-cut h a)) (λ q. none-cut)
 
   space-cut : (at : ℕ) → PosCut s (byteFrom s at 32)
   space-cut at = byte-cut s u at 32 refl
@@ -220,15 +218,18 @@ module _ (s : List ℕ) (u : isUtf8 s ≡ true) where
   unfolding rfc3164.tagEnd
   tag-end-cut at c = blanks-on s _ (colon-cut s u _ (blanks-on s at c))
 
+  header-cut : (at : ℕ) → Cut s at → NamesCut s (rfc3164.headerFrom s at .names) × Cut s (rfc3164.headerFrom s at .next)
+  header-cut at c =
+      by-header s at (λ r. NamesCut s (r .names) × Cut s (r .next)) (λ z. (none-cut, c)) λ host a z.
+      let h : FieldCut s (IsField host a) = rw z at (spaced-host-cut at) in
+      let tag = rfc3164.spacedTag s a in
+      (names-cut host tag (h .0) (spaced-tag-cut a), after-cut a tag (h .1) (spaced-tag-cut a))
+
   body-cut : (pri : Pri) (stamp : Stamp) (at : ℕ) → Cut s at → OutcomeCut s (rfc3164.bodyFrom pri stamp s at)
   unfolding rfc3164.bodyFrom
   body-cut pri stamp at c =
-      let host = rfc3164.spacedHost s at in
-      let a = rfc3164.behindField at host in
-      let tag = rfc3164.spacedTag s a in
-      let names = names-cut host tag (spaced-host-cut at) (spaced-tag-cut a) in
-      let from = tag-end-cut (rfc3164.behindField a tag) (after-cut a tag (after-cut at host c (spaced-host-cut at)) (spaced-tag-cut a)) in
-      let «data» = rows-cut s u Rfc3164Rules (rfc3164.tagEnd s (rfc3164.behindField a tag)) from in (
+      let (names, next) = header-cut at c in
+      let «data» = rows-cut s u Rfc3164Rules (rfc3164.tagEnd s (rfc3164.headerFrom s at .next)) (tag-end-cut _ next) in (
         record {
           host = names .host;
           app = names .app;

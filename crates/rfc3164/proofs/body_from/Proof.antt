@@ -6,6 +6,9 @@ use Rattle.rfc3164.proofs.body_from.Tie as tie
 header-from-requires : tie.Need-header-from-requires
 header-from-requires c κs = search needs
 
+tag-end-requires : tie.Need-tag-end-requires
+tag-end-requires c κs = search (body-laws, needs)
+
 rest-from-requires : tie.Need-rest-from-requires
 rest-from-requires c κs = search (body-laws, needs)
 
@@ -20,4 +23,4 @@ returns c = search (body-laws, needs)
 
 pub body-from-spec : {M : Type 1} → statement M
 body-from-spec =
-    tie.close (tie.spec header-from-requires rest-from-requires sub-t13 record-of-requires returns)
+    tie.close (tie.spec header-from-requires tag-end-requires rest-from-requires sub-t13 record-of-requires returns)

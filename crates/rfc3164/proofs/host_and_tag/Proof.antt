@@ -3,9 +3,6 @@ use Rattle.rfc3164.proofs.Hosts.{host-laws}
 use Rattle.rfc3164.proofs.host_and_tag.Statement.{statement}
 use Rattle.rfc3164.proofs.host_and_tag.Tie as tie
 
-enum-known-host : tie.Need-enum-known-host
-enum-known-host c = search needs
-
 enum-known-tag : tie.Need-enum-known-tag
 enum-known-tag c = search needs
 
@@ -16,22 +13,7 @@ enum-told : tie.Need-enum-told
 enum-told c = search needs
 
 only-field-requires : tie.Need-only-field-requires
-only-field-requires c κs = search (host-laws, needs)
-
-enum-told-2 : tie.Need-enum-told-2
-enum-told-2 c = search needs
-
-enum-known-tag-2 : tie.Need-enum-known-tag-2
-enum-known-tag-2 c = search needs
-
-only-field-requires-2 : tie.Need-only-field-requires-2
-only-field-requires-2 c κs = search (host-laws, needs)
-
-enum-told-3 : tie.Need-enum-told-3
-enum-told-3 c = search needs
-
-no-names-requires : tie.Need-no-names-requires
-no-names-requires c κs = search needs
+only-field-requires c κs = search needs
 
 returns : tie.Need-returns
 returns c = search (host-laws, needs)
@@ -39,27 +21,7 @@ returns c = search (host-laws, needs)
 returns-2 : tie.Need-returns-2
 returns-2 c = search (host-laws, needs)
 
-returns-3 : tie.Need-returns-3
-returns-3 c = search (host-laws, needs)
-
-returns-4 : tie.Need-returns-4
-returns-4 c = search (host-laws, needs)
-
 pub host-and-tag-spec : {M : Type 1} → statement M
 host-and-tag-spec =
     tie.close
-    (tie.spec
-    enum-known-host
-    enum-known-tag
-    with-tag-requires
-    enum-told
-    only-field-requires
-    enum-told-2
-    enum-known-tag-2
-    only-field-requires-2
-    enum-told-3
-    no-names-requires
-    returns
-    returns-2
-    returns-3
-    returns-4)
+    (tie.spec enum-known-tag with-tag-requires enum-told only-field-requires returns returns-2)

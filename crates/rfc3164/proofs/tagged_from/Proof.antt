@@ -10,9 +10,6 @@ spaced-tag-requires c κs = search needs
 behind-field-requires : tie.Need-behind-field-requires
 behind-field-requires c κs = search needs
 
-tag-end-requires : tie.Need-tag-end-requires
-tag-end-requires c κs = search (within-laws, needs)
-
 host-and-tag-requires : tie.Need-host-and-tag-requires
 host-and-tag-requires c κs = search (within-laws, needs)
 
@@ -25,6 +22,5 @@ tagged-from-spec =
     (tie.spec
     spaced-tag-requires
     behind-field-requires
-    tag-end-requires
     host-and-tag-requires
     returns)
