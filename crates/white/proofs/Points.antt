@@ -1,4 +1,4 @@
--- White_Space from the orders that the arms of a `match` know.
+-- White_Space of a code point, from where it lies.
 use Prim.Native.Nat.{ℕ, _≤_, _<_}
 use mathlib.Core.Path.{_≡_, refl, sym, _∙_}
 use mathlib.Core.Logic.{_⊎_, ⊎-elim, inl, inr, _≢_}
@@ -12,7 +12,7 @@ use Rattle.base.proofs.Ranges.{inside, outside}
 use Rattle.base.proofs.Tests.{clash}
 use Rattle.white.specs.White.{isWhite}
 
--- the code points that stand alone, as the arm of a `match` knows them
+-- the code points that stand alone
 abbrev pub Keys : ℕ → Type 0
 Keys u = (u ≡ 0x20) ⊎ ((u ≡ 0x85) ⊎ ((u ≡ 0xA0) ⊎ ((u ≡ 0x1680) ⊎ ((u ≡ 0x202F) ⊎ ((u ≡ 0x205F) ⊎ (u ≡ 0x3000))))))
 
@@ -52,10 +52,6 @@ module _ (u : ℕ) where
         ne-eqb u 0x3000 (λ e. n (inr (inr (inr (inr (inr (inr e))))))),
       )
 
-  pub white-control : 0x9 ≤ u → u ≤ 0xD → true ≡ isWhite u
-  unfolding isWhite
-  white-control p q = rw (inside 0x9 0xD u p q)
-
   pub white-space : 0x2000 ≤ u → u ≤ 0x200A → true ≡ isWhite u
   unfolding isWhite
   white-space p q =
@@ -67,10 +63,6 @@ module _ (u : ℕ) where
         ne-eqb u 0x1680 (omega arith),
         inside 0x2000 0x200A u p q,
       )
-
-  pub white-key : Keys u → true ≡ isWhite u
-  unfolding isWhite
-  white-key = each-key (λ k. true ≡ isWhite k) (refl, refl, refl, refl, refl, refl, refl) u
 
   pub white-line : 0x2028 ≤ u → u ≤ 0x2029 → true ≡ isWhite u
   unfolding isWhite

@@ -16,27 +16,7 @@ pub struct Ends {
     pub end: usize,
 }
 
-// Unicode's property White_Space of a code point. The walks below ask it of a character's bytes.
-pub fn is_white(u: u32) -> bool
-    ensures { λ r. ⌜ r ≡ isWhite u ⌝ }
-{
-    match u {
-        0x0009..=0x000D
-        | 0x0020
-        | 0x0085
-        | 0x00A0
-        | 0x1680
-        | 0x2000..=0x200A
-        | 0x2028
-        | 0x2029
-        | 0x202F
-        | 0x205F
-        | 0x3000 => true,
-        _ => false,
-    }
-}
-
-// Is the byte of ASCII white?
+// Whether the byte of ASCII is white.
 fn is_blank(b: u8) -> bool
     requires { ⌜ b < 128 ⌝ }
     ensures { λ r. ⌜ r ≡ isWhite b ⌝ }
@@ -44,14 +24,14 @@ fn is_blank(b: u8) -> bool
     ((9 <= b) & (b <= 13)) | (b == 32)
 }
 
-// Are the two bytes a white character? U+0085 and U+00A0 are.
+// Whether the two bytes are a white character: U+0085 or U+00A0.
 fn white_pair(a: u8, b: u8) -> bool
     ensures { λ r. ⌜ r ≡ eqb (whiteLen (a ∷ b ∷ [])) 2 ⌝ }
 {
     (a == 0xC2) & ((b == 0x85) | (b == 0xA0))
 }
 
-// Are E2 and the two bytes one, of General Punctuation? U+2000 to U+200A, U+2028, U+2029, U+202F and U+205F are.
+// Whether E2 and the two bytes are one, of General Punctuation: U+2000 to U+200A, U+2028, U+2029, U+202F or U+205F.
 fn white_general(b: u8, c: u8) -> bool
     ensures { λ r. ⌜ r ≡ eqb (whiteLen (0xE2 ∷ b ∷ c ∷ [])) 3 ⌝ }
 {
@@ -61,7 +41,7 @@ fn white_general(b: u8, c: u8) -> bool
     (b == 0x81) & (c == 0x9F)
 }
 
-// Are the three bytes one? U+1680, those of General Punctuation and U+3000 are.
+// Whether the three bytes are one: U+1680, one of General Punctuation, or U+3000.
 fn white_triple(a: u8, b: u8, c: u8) -> bool
     ensures { λ r. ⌜ r ≡ eqb (whiteLen (a ∷ b ∷ c ∷ [])) 3 ⌝ }
 {
@@ -73,7 +53,7 @@ fn white_triple(a: u8, b: u8, c: u8) -> bool
     }
 }
 
-// Does a white character of more than one byte begin with the byte?
+// Whether a white character of more than one byte begins with the byte.
 fn begins_long(b: u8) -> bool
     ensures { λ r. ⌜ r ≡ (eqb b 0xC2 || within 0xE1 0xE3 b) ⌝ }
 {
@@ -120,7 +100,7 @@ pub fn white_len(s: &[u8]) -> usize
     0
 }
 
-// Are the four bytes from `i` on ASCII above the space, which is not white? All are asked, so that the compiler makes one test of them.
+// Whether the four bytes from `i` on are ASCII above the space, so that none is white. All are asked, so that the compiler makes one test of them.
 fn four_plain(s: &[u8], i: usize) -> bool
     requires { ⌜ i + 4 ≤ length (now s) ⌝ }
     ensures { λ r. ⌜ r ≡ (within 33 127 (getD (now (s .entry)) i 0) && within 33 127 (getD (now (s .entry)) (i + 1) 0) && within 33 127 (getD (now (s .entry)) (i + 2) 0) && within 33 127 (getD (now (s .entry)) (i + 3) 0)) ⌝ }
