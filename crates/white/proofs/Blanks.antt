@@ -6,14 +6,14 @@ use mathlib.Core.List.{List, _++_}
 use native.Mathlib.Decide.{ℕ-discrete, decLe}
 use native.Mathlib.Omega.{arith}
 use lib.ListN.{length, take, drop, length-append, length-drop, take-append-drop}
-use lib.Seq.{drop-drop, take-take, length-take-le}
+use lib.Seq.{drop-drop, length-take-le}
 use borrow.Author.Tests.{eq-eqb, eqb-true, le-leb, leb-true}
 use Rattle.base.proofs.Tests.{both}
 use Rattle.utf8.specs.Rfc3629.{Utf8Char}
 use Rattle.white.specs.White.{whiteLen}
 use Rattle.white.specs.Trim.{whiteRun}
 use Rattle.white.specs.Before.{endsWhite}
-use Rattle.white.proofs.Whites.{begun, begins, white-fits, white-most, white-inside}
+use Rattle.white.proofs.Whites.{begun, alone, white-fits, white-most, white-inside}
 use Rattle.white.proofs.Walks.{run-more, run-stops}
 
 -- nothing but white characters
@@ -28,18 +28,6 @@ ends s e n h = let b = both _ _ h in (leb-true n e (b .0), eqb-true _ n (b .1))
 ending : (s : List ℕ) (e n : ℕ) → n ≤ e → whiteLen (take n (drop (e - n) s)) ≡ n → endsWhite s e n ≡ true
 unfolding endsWhite
 ending s e n l h = rw (le-leb n e l, h) (eq-eqb n n refl)
-
--- The first `n` bytes of `s` are a white character by themselves, too
-module _ (s : List ℕ) (n : ℕ) (l : n ≤ length s) (z : n ≡ 0 → ⊥) where
-  same : take n (take n s) ≡ take n s
-  same = take-take n n s (omega arith)
-
-  alone : n ≡ whiteLen s → whiteLen (take n s) ≡ n
-  alone e =
-      begins (take n s) n (omega (arith, length-take-le n s l)) (rw same (begun s n e z))
-
-  pub together : whiteLen (take n s) ≡ n → whiteLen s ≡ n
-  together e = begins s n l (rw same at (begun (take n s) n (sym e) z))
 
 -- no place within a character has white characters alone after it
 pub not-inside : {c : List ℕ} → Utf8Char c → (t : List ℕ) (m : ℕ) → 1 ≤ m → m < length c → Blank (drop m (c ++ t)) → ⊥

@@ -1,5 +1,6 @@
 pub mod Points
 pub mod Whites
+pub mod Bytes
 pub mod Walks
 pub mod Blanks
 pub mod Trims

@@ -6,15 +6,20 @@ use mathlib.Core.List.{List, [], _∷_}
 use native.Mathlib.Decide.{decLe}
 use native.Mathlib.Omega.{arith}
 use lib.Dec.{eqb}
-use lib.ListN.{length, take, drop, length-drop}
-use lib.Seq.{drop-drop, drop-length}
+use lib.ListN.{length, getD, take, drop, length-drop}
+use lib.Seq.{drop-drop, drop-length, take-suc, getD-take, getD-drop, length-take-le}
 use borrow.Author.Tests.{eq-eqb, ne-eqb, eqb-true, eqb-false, le-leb, lt-leb}
+use Rattle.base.specs.Choose.{if_then_else_}
 use Rattle.base.proofs.Tests.{clash, by-if}
-use Rattle.white.specs.White.{whiteLen}
+use Rattle.base.proofs.Ranges.{orders}
+use Rattle.utf8.proofs.Chars.{later-tails}
+use Rattle.white.specs.White.{isWhite, whiteLen}
 use Rattle.white.specs.Trim.{whiteFrom, whiteRun, textEnd, trimmed}
 use Rattle.white.specs.Before.{endsWhite, whiteBefore}
 use Rattle.white.specs.declared.Ends.{Ends}
-use Rattle.white.proofs.Blanks.{Blank, Last, ends, together, last-behind, meets}
+use Rattle.white.proofs.Blanks.{Blank, Last, ends, last-behind, meets}
+use Rattle.white.proofs.Whites.{begun, together}
+use Rattle.white.proofs.Bytes.{front-leads, ascii-front, first-two, first-three}
 use Rattle.white.proofs.Walks.{run-more}
 
 -- The end of the text is the first place after which there are white characters alone
@@ -113,38 +118,129 @@ module _ (s : List ℕ) (e : ℕ) (b : Blank (drop e s)) where
 
 pub ruleset end-laws = (blank-none, end-start, before-le, end-next, end-here)
 
--- What `ends_white` and `white_before` answer
+-- What `white_before` answers
 module _ (s : List ℕ) (e n : ℕ) where
-  pub ends-past : e < n → false ≡ endsWhite s e n
+  ends-past : e < n → endsWhite s e n ≡ false
   unfolding endsWhite
   ends-past h = rw (lt-leb n e h)
 
-  pub ends-is : n ≤ e → (w : ℕ) → w ≡ whiteLen (take (e - (e - n)) (drop (e - n) s)) → eqb w n ≡ endsWhite s e n
+  ends-is : n ≤ e → (c : List ℕ) → take n (drop (e - n) s) ≡ c → endsWhite s e n ≡ eqb (whiteLen c) n
   unfolding endsWhite
-  ends-is h w q = let p : e - (e - n) ≡ n = omega arith in rw (q, p, le-leb n e h)
+  ends-is h c q = rw (q, le-leb n e h)
 
-pub ruleset ends-laws = (ends-past, ends-is)
+  module _ (l : e ≤ length s) (z : n ≡ 0 → ⊥) (h : endsWhite s e n ≡ true) where
+    rest-fits : n ≤ length (drop (e - n) s)
+    rest-fits = simp length-drop (omega (arith, ends s e n h .0))
 
-module _ (s : List ℕ) (e : ℕ) (p : Bool) (ep : p ≡ endsWhite s e 1) where
-  pub before-1 : p ≡ true → 1 ≡ whiteBefore s e
+    ends-here : n ≡ whiteLen (drop (e - n) s)
+    ends-here = sym (together (drop (e - n) s) n rest-fits z (ends s e n h .1))
+
+    -- the byte before the place
+    last-byte : getD (drop (e - n) s) (n - 1) 0 ≡ getD s (e - 1) 0
+    last-byte =
+        let p : e - n + (n - 1) ≡ e - 1 = omega (arith, ends s e n h .0) in
+        getD-drop (e - n) s (n - 1) 0 ∙ ap (λ (k : ℕ). getD s k 0) p
+
+    -- is ASCII, or a tail
+    last-ascii : n ≡ 1 → getD s (e - 1) 0 < 128
+    last-ascii q =
+        let o = front-leads (drop (e - n) s) n ends-here z .one q in
+        let p : n - 1 ≡ 0 = omega arith in
+        omega (arith, rw p at last-byte)
+
+    last-tail : 2 ≤ n → 128 ≤ getD s (e - 1) 0
+    last-tail q =
+        let r = drop (e - n) s in
+        let t = later-tails (begun r n ends-here z .is) (n - 1) (omega arith) (omega (arith, length-take-le n r rest-fits)) in
+        omega (arith, orders 0x80 0xBF (getD (take n r) (n - 1) 0) t .0, getD-take n r (n - 1) 0 (omega arith), last-byte)
+
+module _ (s : List ℕ) (e : ℕ) where
+  before-1 : endsWhite s e 1 ≡ true → 1 ≡ whiteBefore s e
   unfolding whiteBefore
-  before-1 h = rw (← ep, h)
+  before-1 p = rw p
 
-  module _ (p1 : p ≡ false) (q : Bool) (eq : q ≡ endsWhite s e 2) where
-    pub before-2 : q ≡ true → 2 ≡ whiteBefore s e
+  module _ (p : endsWhite s e 1 ≡ false) where
+    before-2 : endsWhite s e 2 ≡ true → 2 ≡ whiteBefore s e
     unfolding whiteBefore
-    before-2 h = rw (← ep, p1, ← eq, h)
+    before-2 q = rw (p, q)
 
-    module _ (q1 : q ≡ false) (r : Bool) (er : r ≡ endsWhite s e 3) where
-      pub before-3 : r ≡ true → 3 ≡ whiteBefore s e
+    module _ (q : endsWhite s e 2 ≡ false) where
+      before-3 : endsWhite s e 3 ≡ true → 3 ≡ whiteBefore s e
       unfolding whiteBefore
-      before-3 h = rw (← ep, p1, ← eq, q1, ← er, h)
+      before-3 r = rw (p, q, r)
 
-      pub before-0 : r ≡ false → 0 ≡ whiteBefore s e
+      before-0 : endsWhite s e 3 ≡ false → 0 ≡ whiteBefore s e
       unfolding whiteBefore
-      before-0 h = rw (← ep, p1, ← eq, q1, ← er, h)
+      before-0 r = rw (p, q, r)
 
-pub ruleset before-laws = (before-1, before-2, before-3, before-0)
+refuted : (t : Bool) → (t ≡ true → ⊥) → t ≡ false
+refuted true f = absurd (f refl)
+refuted false f = refl
+
+module _ (s : List ℕ) (e : ℕ) (z : 0 < e) (l : e ≤ length s) where
+  byte-at : (n i j : ℕ) → e - n + i ≡ j → getD (drop (e - n) s) i 0 ≡ getD s j 0
+  byte-at n i j q = getD-drop (e - n) s i 0 ∙ ap (λ (k : ℕ). getD s k 0) q
+
+  -- behind a byte of ASCII
+  module _ (h : getD s (e - 1) 0 < 128) (t : Bool) (q : t ≡ isWhite (getD s (e - 1) 0)) where
+    ascii-ends : endsWhite s e 1 ≡ t
+    ascii-ends =
+        let b = getD s (e - 1) 0 in
+        let f : 0 < length (drop (e - 1) s) = simp length-drop (omega arith) in
+        let c : take 1 (drop (e - 1) s) ≡ b ∷ [] = rw (take-suc (drop (e - 1) s) 0 0 f, byte-at 1 0 (e - 1) (omega arith)) in
+        ends-is s e 1 (omega arith) (b ∷ []) c ∙ ap (λ (k : ℕ). eqb k 1) (ascii-front b [] h) ∙ rw (← q) (go t)
+      where
+        go : (x : Bool) → eqb (if x then 1 else 0) 1 ≡ x
+        go true = refl
+        go false = refl
+
+    pub before-blank : t ≡ true → 1 ≡ whiteBefore s e
+    before-blank y = before-1 s e (ascii-ends ∙ y)
+
+    pub before-ascii : t ≡ false → 0 ≡ whiteBefore s e
+    before-ascii y =
+        before-0 s e (ascii-ends ∙ y)
+        (refuted (endsWhite s e 2) (λ w. omega (arith, last-tail s e 2 l (omega arith) w (omega arith))))
+        (refuted (endsWhite s e 3) (λ w. omega (arith, last-tail s e 3 l (omega arith) w (omega arith))))
+
+  -- behind another
+  module _ (h : 128 ≤ getD s (e - 1) 0) where
+    not-one : endsWhite s e 1 ≡ false
+    not-one = refuted (endsWhite s e 1) (λ w. omega (arith, last-ascii s e 1 l (omega arith) w refl))
+
+    pub before-first : e < 2 → 0 ≡ whiteBefore s e
+    before-first m = before-0 s e not-one (ends-past s e 2 m) (ends-past s e 3 (omega arith))
+
+    module _ (m : 2 ≤ e) (p : Bool) (f : p ≡ eqb (whiteLen (getD s (e - 2) 0 ∷ getD s (e - 1) 0 ∷ [])) 2) where
+      pair-ends : endsWhite s e 2 ≡ p
+      pair-ends =
+          let r = drop (e - 2) s in
+          let g : 2 ≤ length r = simp length-drop (omega arith) in
+          ends-is s e 2 m (getD s (e - 2) 0 ∷ getD s (e - 1) 0 ∷ [])
+          (rw (first-two r g, byte-at 2 0 (e - 2) (omega arith), byte-at 2 1 (e - 1) (omega arith))) ∙ sym f
+
+      pub before-pair : p ≡ true → 2 ≡ whiteBefore s e
+      before-pair y = before-2 s e not-one (pair-ends ∙ y)
+
+      module _ (y : p ≡ false) where
+        pub before-second : e < 3 → 0 ≡ whiteBefore s e
+        before-second k = before-0 s e not-one (pair-ends ∙ y) (ends-past s e 3 k)
+
+        module _ (k : 3 ≤ e) (t : Bool) (u : t ≡ eqb (whiteLen (getD s (e - 3) 0 ∷ getD s (e - 2) 0 ∷ getD s (e - 1) 0 ∷ [])) 3) where
+          triple-ends : endsWhite s e 3 ≡ t
+          triple-ends =
+              let r = drop (e - 3) s in
+              let g : 3 ≤ length r = simp length-drop (omega arith) in
+              ends-is s e 3 k (getD s (e - 3) 0 ∷ getD s (e - 2) 0 ∷ getD s (e - 1) 0 ∷ [])
+              (rw (first-three r g, byte-at 3 0 (e - 3) (omega arith), byte-at 3 1 (e - 2) (omega arith), byte-at 3 2 (e - 1) (omega arith))) ∙ sym u
+
+          pub before-triple : t ≡ true → 3 ≡ whiteBefore s e
+          before-triple x = before-3 s e not-one (pair-ends ∙ y) (triple-ends ∙ x)
+
+          pub before-none : t ≡ false → 0 ≡ whiteBefore s e
+          before-none x = before-0 s e not-one (pair-ends ∙ y) (triple-ends ∙ x)
+
+pub ruleset before-laws = (before-blank, before-ascii, before-first, before-pair, before-second, before-triple, before-none)
 
 -- The trimmed text
 module _ (s : List ℕ) (n : ℕ) (e : n ≡ textEnd s) where

@@ -1,19 +1,24 @@
 -- The walks from the front, `field_len` and `white_run`: what each says of the rest of the text, its steps and its ends.
 use Prim.Native.Nat.{ℕ, zero, suc, _+_, _-_, _^_, _≤_, _<_}
 use mathlib.Core.Path.{_≡_, refl, sym, ap, _∙_}
+use mathlib.Core.Bool.{Bool, true, false, not, _&&_}
 use mathlib.Core.List.{List, [], _∷_}
 use native.Mathlib.Omega.{arith}
 use mir.Syntax.{w64}
 use mir.Val.{Fits}
 use lib.Dec.{eqb}
-use lib.ListN.{length, take, drop}
+use lib.ListN.{length, getD, take, drop}
 use lib.Seq.{drop-drop}
 use borrow.Author.Tests.{ne-eqb}
 use Rattle.base.proofs.Parts.{ended, step}
-use Rattle.white.specs.White.{whiteLen}
+use Rattle.white.specs.White.{isWhite, whiteLen}
 use Rattle.white.specs.Trim.{fieldLen, whiteFrom, whiteRun}
-use Rattle.base.proofs.Tests.{by-if}
+use Rattle.base.specs.Choose.{within}
+use Rattle.base.proofs.Ranges.{outside, orders}
+use Rattle.base.proofs.Tests.{both, told, by-if}
+use Rattle.white.proofs.Points.{white-ascii}
 use Rattle.white.proofs.Whites.{here, white-fits, white-within}
+use Rattle.white.proofs.Bytes.{ascii-front}
 
 -- The field
 pub field-le : (s : List ℕ) → fieldLen s ≤ length s
@@ -45,6 +50,37 @@ module _ (s : List ℕ) (i : ℕ) (inv : fieldLen s ≡ i + fieldLen (drop i s))
 
     pub field-stop : (w ≡ 0 → ⊥) → i ≡ fieldLen s
     field-stop z = omega (arith, field-stops (drop i s) (λ q. z (here s i w e ∙ q)))
+
+-- ASCII above the space is not white
+plain-next : (s : List ℕ) (i j : ℕ) → j ≡ i + 1 → i < length s → within 33 127 (getD s i 0) ≡ true → fieldLen (drop i s) ≡ suc (fieldLen (drop j s))
+plain-next s i j e h p =
+    let b = getD s i 0 in
+    let o = orders 33 127 b p in
+    let n : isWhite b ≡ false = sym (white-ascii b (omega arith)) ∙ rw (outside 9 13 b (omega arith), ne-eqb b 32 (omega arith)) in
+    ap fieldLen (step s i h) ∙ rw (e, field-more b (drop (i + 1) s) (ascii-front b (drop (i + 1) s) (omega arith) ∙ rw n))
+
+-- how far a field was walked
+pub record Walked (s : List ℕ) (i : ℕ) : Type 0 where
+  pub inside : i ≤ length s
+  pub left : fieldLen s ≡ i + fieldLen (drop i s)
+
+pub walked-none : (s : List ℕ) → Walked s 0
+walked-none s = omega arith
+
+pub plain-on : (s : List ℕ) (i : ℕ) → Walked s i → i + 4 ≤ length s → (t : Bool)
+    → t ≡ (within 33 127 (getD s i 0) && within 33 127 (getD s (i + 1) 0) && within 33 127 (getD s (i + 2) 0) && within 33 127 (getD s (i + 3) 0))
+    → not t ≡ false → Walked s (i + 4)
+plain-on s i w h t e q =
+    let (abc, d) = both _ (within 33 127 (getD s (i + 3) 0)) (told t _ e q) in
+    let (ab, c) = both _ (within 33 127 (getD s (i + 2) 0)) abc in
+    let (a, b) = both (within 33 127 (getD s i 0)) (within 33 127 (getD s (i + 1) 0)) ab in
+    let f = plain-next s i (i + 1) refl (omega arith) a in
+    let g = plain-next s (i + 1) (i + 2) (omega arith) (omega arith) b in
+    let k = plain-next s (i + 2) (i + 3) (omega arith) (omega arith) c in
+    let l = plain-next s (i + 3) (i + 4) (omega arith) (omega arith) d in
+    record { inside = h; left = omega (arith, w .left) }
+
+pub ruleset plain-laws = (walked-none, plain-on)
 
 pub ruleset field-laws = (field-end, field-next, field-stop)
 

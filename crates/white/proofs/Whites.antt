@@ -1,37 +1,22 @@
 -- The white character at the front of a text: what `white_len` answers, how long it is, and what it is.
 use Prim.Native.Nat.{ℕ, _+_, _-_, _≤_, _<_}
 use mathlib.Core.Path.{_≡_, refl, sym, ap, _∙_}
-use mathlib.Core.Bool.{Bool, true, false}
+use mathlib.Core.Bool.{true}
 use mathlib.Core.List.{List, [], _∷_, _++_}
 use native.Mathlib.Decide.{ℕ-discrete}
 use native.Mathlib.Omega.{arith}
 use lib.ListN.{length, take, drop, length-append, length-drop, take-append-drop, List·getD-append}
-use lib.Seq.{take-at, length-take-le}
+use lib.Seq.{take-at, take-take, length-take-le}
 use Rattle.base.specs.Choose.{if_then_else_}
 use Rattle.base.proofs.Parts.{rest, step}
-use Rattle.base.proofs.Tests.{clash, by-if}
+use Rattle.base.proofs.Tests.{by-if}
 use Rattle.utf8.specs.Rfc3629.{isTail, Utf8Char, utf8-1, utf8-2, utf8-3-E0, utf8-3-E1, utf8-3-ED, utf8-3-EE, utf8-4-F0, utf8-4-F1, utf8-4-F4}
 use Rattle.utf8.specs.Lead.{charLen}
 use Rattle.base.proofs.Ranges.{orders}
-use Rattle.utf8.proofs.Chars.{char-fits, char-most, char-is, char-found, later-tails, tail-begins-none}
+use Rattle.utf8.proofs.Chars.{char-fits, char-is, char-found, later-tails, tail-begins-none}
 use Rattle.white.specs.White.{isWhite, codePoint, whiteLen}
 use Rattle.white.specs.Characters.{whiteChar}
 use Rattle.white.proofs.Points.{white-small}
-
-module _ (s : List ℕ) (n u : ℕ) (t : Bool) (e : n ≡ charLen s) (p : u ≡ codePoint (take n s)) (w : t ≡ isWhite u) where
-  pub white-yes : t ≡ true → n ≡ whiteLen s
-  unfolding whiteLen
-  white-yes h = rw (← e, ← p, ← w, h)
-
-  pub white-no : t ≡ false → 0 ≡ whiteLen s
-  unfolding whiteLen
-  white-no h = rw (← e, ← p, ← w, h)
-
--- what `code_point` requires
-pub front-fits : (s : List ℕ) (n : ℕ) → n ≡ charLen s → (n ≤ 4) × (n ≤ length s)
-front-fits s n e = omega (arith, char-most s, char-fits s)
-
-pub ruleset front-laws = (white-yes, white-no, front-fits)
 
 -- a white character
 pub record Space (c : List ℕ) : Type 0 where
@@ -64,8 +49,20 @@ module _ (s : List ℕ) (n : ℕ) where
   begins l h =
       ap whiteLen (sym (take-append-drop n s)) ∙ white-at (h .is) (drop n s) ∙ rw (h .white) (length-take-le n s l)
 
-large : {A : Type 0} (c : List ℕ) → 0x3000 < codePoint c → whiteChar c ≡ true → A
-large c h w = clash (sym w ∙ sym (white-small (codePoint c) h))
+-- The first `n` bytes of `s` are a white character by themselves, too
+module _ (s : List ℕ) (n : ℕ) (l : n ≤ length s) (z : n ≡ 0 → ⊥) where
+  same : take n (take n s) ≡ take n s
+  same = take-take n n s (omega arith)
+
+  pub alone : n ≡ whiteLen s → whiteLen (take n s) ≡ n
+  alone e =
+      begins (take n s) n (omega (arith, length-take-le n s l)) (rw same (begun s n e z))
+
+  pub together : whiteLen (take n s) ≡ n → whiteLen s ≡ n
+  together e = begins s n l (rw same at (begun (take n s) n (sym e) z))
+
+pub large : {A : Type 0} (c : List ℕ) → 0x3000 < codePoint c → whiteChar c ≡ true → A
+large c h w = absurd (white-small (codePoint c) h w)
 
 -- no white character is longer than three bytes
 short : {c : List ℕ} → Utf8Char c → whiteChar c ≡ true → length c ≤ 3

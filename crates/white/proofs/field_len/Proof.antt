@@ -13,6 +13,9 @@ Inv-loop s i₀ i = (i ≤ length s) × (fieldLen s ≡ i + fieldLen (drop i s))
 abbrev μ-loop : tie.MeasureT-loop
 μ-loop s i₀ i = length s - i
 
+plain-front-requires : tie.Need-plain-front-requires Inv-loop μ-loop
+plain-front-requires c κs = search (field-laws, needs)
+
 loop-holds : tie.Need-loop-holds Inv-loop μ-loop
 loop-holds c = search (field-laws, needs)
 
@@ -49,6 +52,7 @@ field-len-spec =
     (tie.spec
     Inv-loop
     μ-loop
+    plain-front-requires
     loop-holds
     sub-white-len
     part-white-len-start
