@@ -34,7 +34,7 @@ fn text_is(line: &[u8], start: usize, len: usize, text: &[u8]) -> bool
     base::same_text(&line[start..end], text)
 }
 
-// Has element `k` the id? `same` says so of element `last`, so that an id is compared once for all its parameters.
+// Whether element `k` has the id. `same` says so of element `last`, so that an id is compared once for all its parameters.
 fn id_is(line: &[u8], elements: &[[usize; 2]], id: &[u8], last: usize, same: bool, k: usize) -> bool
     requires { ⌜ k < length (now elements) ⌝ }
     requires { ⌜ getD (getD (now elements) k []) 0 0 + getD (getD (now elements) k []) 1 0 ≤ length (now line) ⌝ }
@@ -48,7 +48,7 @@ fn id_is(line: &[u8], elements: &[[usize; 2]], id: &[u8], last: usize, same: boo
     text_is(line, row[0], row[1], id)
 }
 
-// Is this the parameter, where its element has the id?
+// Whether this is the parameter. `same`: its element has the id.
 fn matches(line: &[u8], name: &[u8], same: bool, p: Param) -> bool
     requires { ⌜ p .«name_start» + p .«name_len» ≤ length (now line) ⌝ }
     ensures { λ r. ⌜ r ≡ (same && sameText (textAt (now (line .entry)) (p .«name_start») (p .«name_len»)) (now (name .entry))) ⌝ }

@@ -17,7 +17,7 @@ ghost use Rattle.record.specs.declared.Written.the-variants.{Refused};
 ghost use Rattle.suits.specs.Suits.{levelSuits, stampSuits, recordSuits, elementsSuit, paramSuits, suits};
 ghost use Rattle.suits.specs.Checks.{headSuits, checkAt};
 
-// Does the place end within `n` bytes? (The sum may not fit.)
+// Whether the place ends within `n` bytes. (The sum may not fit.)
 fn place_suits(n: usize, start: usize, len: usize) -> bool
     ensures { λ b. ⌜ b ≡ leb (start + len) n ⌝ }
 {
