@@ -68,6 +68,9 @@ struct Search {
     value: Place,
 }
 
+// ---- for the prover alone: `find` names the parameter table and so only calls. `search_from`, `search_param` and `value_of` start the search, take an entry and
+// copy what was found.
+
 fn search_from(element_count: usize) -> Search
     ensures { λ r. ⌜ r ≡ searchFrom «element_count» ⌝ }
 {
@@ -136,6 +139,8 @@ fn find(
     }
     value_of(s)
 }
+
+// ---- unescaping
 
 // What a byte of a value adds: nothing, one byte, or a backslash and a byte.
 enum Added {
@@ -254,6 +259,8 @@ fn give(line: &[u8], value: Place, loose: bool, out: &mut [u8]) -> Written
     let end = start + value.len;
     put_value(&line[start..end], loose, out)
 }
+
+// ---- for the prover alone: `lookup` names the parameter table and so only calls, for a comparison and for an answer too
 
 // By the kind.
 fn give_by(line: &[u8], value: Place, kind: u32, out: &mut [u8]) -> Written

@@ -1,4 +1,4 @@
--- Steps of the reading, by positions of the line. (For private contracts alone.)
+-- For private contracts alone: steps of the reading, by positions of the line.
 use Prim.Native.Nat.{ℕ, _+_, _≤_}
 use mathlib.Core.List.{List}
 use mathlib.Core.Bool.{Bool, _&&_}

@@ -1,4 +1,4 @@
--- Steps of the walk over structured data, by positions of the text `s`. (For private contracts alone.)
+-- For private contracts alone: steps of the walk over structured data, by positions of the text `s`.
 use Prim.Native.Nat.{ℕ, _+_, _-_, _≤_, _<_}
 use mathlib.Core.Path.{_≡_}
 use mathlib.Core.List.{List}

@@ -139,6 +139,9 @@ struct Check {
     suits: bool,
 }
 
+// ---- for the prover alone: `is_suitable` names the parameter table and so only calls. `check_head` starts the check, `check_param` takes an entry, and `check_at`
+// makes the struct for both.
+
 fn check_at(suits: bool, next: usize, low: usize, count: usize) -> Check
     ensures { λ c. ⌜ c ≡ checkAt suits next low count ⌝ }
 {
@@ -199,7 +202,7 @@ pub fn is_suitable(
     c.suits
 }
 
-// The answer where they do not suit.
+// The answer where they do not suit, for callers that name the table and so only call.
 pub fn unsuitable() -> Written
     ensures { λ w. ⌜ w ≡ Refused Unsuitable ⌝ }
 {
