@@ -6,10 +6,10 @@ use mathlib.Core.List.{List, [], _∷_}
 use native.Mathlib.Omega.{arith}
 use lib.Dec.{eqb}
 use lib.ListN.{length, getD, take, drop}
-use borrow.Author.Tests.{eq-eqb, ne-eqb, eqb-true, eqb-false, not-true}
+use borrow.Author.Tests.{eq-eqb, ne-eqb, eqb-true, not-true}
 use Rattle.base.specs.Choose.{if_then_else_}
-use Rattle.base.specs.Texts.{textAt, sameText, commonLen, Differ, Distinct, isIn, allDifferent}
-use Rattle.base.proofs.Tests.{both, clash, by-test, by-if}
+use Rattle.base.specs.Texts.{textAt, sameText, commonLen, Distinct, isIn, allDifferent}
+use Rattle.base.proofs.Tests.{both, clash, by-test}
 use Rattle.base.proofs.Parts.{step, ended}
 
 -- ---- the same text
@@ -38,13 +38,6 @@ pub same-bytes : (a b : List ℕ) (p : ℕ) → (getD a p 0 ≡ getD b p 0 → �
 same-bytes a b p h = same-not a b (λ e. h (ap (λ (u : List ℕ). getD u p 0) e))
 
 -- ---- the walk that compares
-
-pub common-most : (a b : List ℕ) → commonLen a b ≤ length a
-common-most [] b = omega arith
-common-most (x ∷ a) [] = omega arith
-common-most (x ∷ a) (y ∷ b) =
-    let l = common-most a b in
-    by-if (λ n. n ≤ suc (length a)) (eqb x y) (suc (commonLen a b)) 0 (λ _. omega arith) (λ _. omega arith)
 
 -- texts of one length are the same where all of one is common
 pub common-tells : (a b : List ℕ) → length a ≡ length b → eqb (commonLen a b) (length a) ≡ sameText a b

@@ -63,7 +63,7 @@ shownAt (negsuc n) = Outside
 unfoldable pub shown : ℤ → ℤ → Shown
 shown seconds offset = shownAt (seconds +ℤ offset *ℤ pos 60 +ℤ pos epoch)
 
--- is the local year one of 0 to 9999?
+-- whether the local year is one of 0 to 9999
 abbrev pub isShown : Shown → Bool
 isShown Outside = false
 isShown (At t) = true

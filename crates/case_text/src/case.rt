@@ -14,6 +14,7 @@ pub struct Set {
     pub next: usize,
 }
 
+// For the prover alone: a cast must fit. No service takes a larger number.
 fn low_half(n: u64) -> u32 {
     (n % 4294967296) as u32
 }
@@ -42,7 +43,7 @@ pub fn settings(text: &[u8], at: usize, fallback: bool) -> Set {
     }
 }
 
-// Does the rest of the case say these numbers, and nothing more?
+// Whether the rest of the case is these numbers and nothing more.
 fn is_numbers(text: &[u8], at: usize, numbers: &[u64]) -> bool {
     let mut next = at;
     let mut i = 0;
@@ -89,7 +90,7 @@ fn same(a: &[u8], b: &[u8]) -> bool {
     true
 }
 
-// Does the rest of the case say this number and these bytes, and nothing more?
+// Whether the rest of the case is this number, these bytes and nothing more.
 fn is_output(
     text: &[u8],
     at: usize,

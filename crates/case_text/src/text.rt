@@ -14,6 +14,9 @@ fn is_digit(b: u8) -> bool {
     (b'0' <= b) & (b <= b'9')
 }
 
+// ---- for the prover alone: remainders that keep each sum within its type whatever the byte is, so that no caller has to show what it gives. They change nothing
+// of a digit, decimal or hexadecimal.
+
 fn digit_of(b: u8) -> u64 {
     ((b % 16) % 10) as u64
 }
@@ -25,6 +28,20 @@ fn with_digit(n: u64, d: u64) -> u64 {
     }
     18446744073709551610 + d % 6
 }
+
+fn nibble(b: u8) -> u8 {
+    if is_digit(b) {
+        b % 16
+    } else {
+        (b % 16 + 9) % 16
+    }
+}
+
+fn byte_of(high: u8, low: u8) -> u8 {
+    nibble(high) % 16 * 16 + nibble(low) % 16
+}
+
+// ---- the fields
 
 fn no_field(next: usize) -> Field {
     Field {
@@ -58,18 +75,6 @@ pub fn number(text: &[u8], at: usize) -> Field {
         value: n,
         next: i,
     }
-}
-
-fn nibble(b: u8) -> u8 {
-    if is_digit(b) {
-        b % 16
-    } else {
-        (b % 16 + 9) % 16
-    }
-}
-
-fn byte_of(high: u8, low: u8) -> u8 {
-    nibble(high) % 16 * 16 + nibble(low) % 16
 }
 
 // Bytes into a lent buffer.

@@ -7,19 +7,24 @@ use case_calls::answers::up_to;
 use case_text::words::say;
 use case_text::words::say_number;
 
-// Number `i` of the answer; 0 past its end.
+// What the strict reader adds after a record's words: the place of the timestamp's text, and the mark of a message.
+const TEXT_WORD: usize = layout::WORD_COUNT;
+
+const MARK_WORD: usize = layout::STRICT_WORD_COUNT - 1;
+
+// Number `i`; 0 past the end.
 fn at(numbers: &[u64], i: usize) -> u64 {
     if i < numbers.len() { numbers[i] } else { 0 }
 }
 
 // A number in two's complement.
-fn say_signed(before: &[u8], n: u64, behind: &[u8]) {
+fn say_signed(before: &[u8], n: u64, after: &[u8]) {
     if n < 9223372036854775808 {
-        say_number(before, n, behind);
+        say_number(before, n, after);
         return;
     }
     say(before);
-    say_number(b"-", u64::MAX - n + 1, behind);
+    say_number(b"-", u64::MAX - n + 1, after);
 }
 
 // The text at a place, between its label and the line's end.
@@ -32,78 +37,81 @@ fn say_text(label: &[u8], line: &[u8], start: u64, len: u64) {
     say(b"\n");
 }
 
-fn say_place(label: &[u8], line: &[u8], numbers: &[u64], i: usize) {
-    if 100 < i {
+// The text of a record's field, if there is one.
+fn say_place(label: &[u8], line: &[u8], words: &[u64], i: usize) {
+    if layout::STRICT_WORD_COUNT < i {
         return;
     }
-    if at(numbers, i) == 1 {
-        say_text(label, line, at(numbers, i + 1), at(numbers, i + 2));
+    if at(words, i) == 1 {
+        say_text(label, line, at(words, i + 1), at(words, i + 2));
     }
 }
 
-// Words 0 to 9 of the record.
-fn show_front(numbers: &[u64]) {
-    if at(numbers, 1) == 0 {
+// The fields before the texts.
+fn show_front(words: &[u64]) {
+    if at(words, layout::PROTOCOL_WORD) == 0 {
         say(b"  RFC 3164\n");
     } else {
-        say_number(b"  RFC 5424, version ", at(numbers, 2), b"\n");
+        say_number(
+            b"  RFC 5424, version ",
+            at(words, layout::VERSION_WORD),
+            b"\n",
+        );
     }
-    if at(numbers, 3) == 1 {
-        say_number(b"  facility ", at(numbers, 4), b"\n");
+    if at(words, layout::FACILITY_WORD) == 1 {
+        say_number(b"  facility ", at(words, layout::FACILITY_WORD + 1), b"\n");
     }
-    if at(numbers, 5) == 1 {
-        say_number(b"  severity ", at(numbers, 6), b"\n");
+    if at(words, layout::SEVERITY_WORD) == 1 {
+        say_number(b"  severity ", at(words, layout::SEVERITY_WORD + 1), b"\n");
     }
-    if at(numbers, 7) == 1 {
-        say_signed(b"  seconds ", at(numbers, 8), b"\n");
-        say_number(b"  nanoseconds ", at(numbers, 9), b"\n");
-        say_signed(b"  offset ", at(numbers, 10), b"\n");
+    if at(words, layout::TIMESTAMP_WORD) == 1 {
+        say_signed(b"  seconds ", at(words, layout::SECONDS_WORD), b"\n");
+        say_number(b"  nanoseconds ", at(words, layout::NANOS_WORD), b"\n");
+        say_signed(b"  offset ", at(words, layout::OFFSET_WORD), b"\n");
     }
 }
 
-// Words 10 to 23.
-fn show_texts(line: &[u8], numbers: &[u64]) {
-    say_place(b"  host ", line, numbers, 11);
-    say_place(b"  app ", line, numbers, 14);
-    say_place(b"  process id ", line, numbers, 17);
-    say_place(b"  message id ", line, numbers, 20);
+fn show_texts(line: &[u8], words: &[u64]) {
+    say_place(b"  host ", line, words, layout::HOST_WORD);
+    say_place(b"  app ", line, words, layout::APP_WORD);
+    say_place(b"  process id ", line, words, layout::PROCID_WORD);
+    say_place(b"  message id ", line, words, layout::MSGID_WORD);
+}
+
+fn show_message(line: &[u8], words: &[u64]) {
+    say_text(
+        b"  message ",
+        line,
+        at(words, layout::MESSAGE_WORD),
+        at(words, layout::MESSAGE_WORD + 1),
+    );
 }
 
 // The rows after the record's words, from `first` on.
-fn show_elements(line: &[u8], numbers: &[u64], first: usize) -> usize {
-    let count = up_to(at(numbers, 25), 64);
+fn show_elements(line: &[u8], words: &[u64], first: usize) -> usize {
+    let count = up_to(at(words, layout::ELEMENTS_WORD), 64);
     let mut next = up_to(first as u64, 100);
     let mut i = 0;
     while i < count {
-        say_text(
-            b"  element ",
-            line,
-            at(numbers, next),
-            at(numbers, next + 1),
-        );
+        say_text(b"  element ", line, at(words, next), at(words, next + 1));
         next += 2;
         i += 1;
     }
     next
 }
 
-fn show_params(line: &[u8], numbers: &[u64], first: usize) {
-    let count = up_to(at(numbers, 26), 256);
+fn show_params(line: &[u8], words: &[u64], first: usize) {
+    let count = up_to(at(words, layout::PARAMS_WORD), 256);
     let mut next = up_to(first as u64, 1000);
     let mut i = 0;
     while i < count {
-        say_number(b"  parameter of element ", at(numbers, next), b"\n");
-        say_text(
-            b"    name ",
-            line,
-            at(numbers, next + 1),
-            at(numbers, next + 2),
-        );
+        say_number(b"  parameter of element ", at(words, next), b"\n");
+        say_text(b"    name ", line, at(words, next + 1), at(words, next + 2));
         say_text(
             b"    value ",
             line,
-            at(numbers, next + 3),
-            at(numbers, next + 4),
+            at(words, next + 3),
+            at(words, next + 4),
         );
         next += 5;
         i += 1;
@@ -129,18 +137,19 @@ fn show_refusal(numbers: &[u64]) -> bool {
     n != 0
 }
 
-// An exact or a fallback reading.
+// An exact or a fallback reading. Its numbers are the refusal's, the record's words and the rows.
 pub fn show_reading(line: &[u8], s: Settings) {
     let mut numbers = [0u64; 2048];
     reading(line, s, 64, 256, &mut numbers);
     if show_refusal(&numbers) {
         return;
     }
-    show_front(&numbers);
-    show_texts(line, &numbers);
-    say_text(b"  message ", line, at(&numbers, 23), at(&numbers, 24));
-    let next = show_elements(line, &numbers, 27);
-    show_params(line, &numbers, next);
+    let words = &numbers[1..2048];
+    show_front(words);
+    show_texts(line, words);
+    show_message(line, words);
+    let next = show_elements(line, words, layout::WORD_COUNT);
+    show_params(line, words, next);
     if !s.fallback {
         show_printed(line, s);
     }
@@ -153,12 +162,13 @@ pub fn show_strict(line: &[u8]) {
     if show_refusal(&numbers) {
         return;
     }
-    show_front(&numbers);
-    say_place(b"  timestamp ", line, &numbers, 27);
-    show_texts(line, &numbers);
-    if at(&numbers, 30) == 1 {
-        say_text(b"  message ", line, at(&numbers, 23), at(&numbers, 24));
+    let words = &numbers[1..2048];
+    show_front(words);
+    say_place(b"  timestamp ", line, words, TEXT_WORD);
+    show_texts(line, words);
+    if at(words, MARK_WORD) == 1 {
+        show_message(line, words);
     }
-    let next = show_elements(line, &numbers, 31);
-    show_params(line, &numbers, next);
+    let next = show_elements(line, words, layout::STRICT_WORD_COUNT);
+    show_params(line, words, next);
 }

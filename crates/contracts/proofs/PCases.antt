@@ -51,7 +51,23 @@ abbrev _and_ : {A B : Type 0} → A → B → A × B
 _and_ a b = (a, b)
 
 pub p-cases : PCases
-unfolding table found-as outcomeOf byVariant utf8From trimmed textEnd whiteFrom whiteLen codePoint isWhite charLen wellFormed leadOf run fieldLen decimalFrom numberAt fixedAt fractionAt leap monthDays validDate validTime valid yearDays daysBeforeYear daysOfMonths dayNumber localSeconds secondsOf spanFrom yearOf monthOf clockOf shown priAt plainAt hostAt tagLen tagAt someBlanksFrom byteFrom numberFrom plainFrom hostFrom tagFrom namedFrom monthNumber monthFrom clockFrom fixedFrom eitherFrom dateFrom timeFrom nanosFrom minutesFrom zoneFrom endFrom fullFrom rfc3339From dayFrom withoutYear withYear rfc3164From quotedLen paramAt idLen moreParams paramsFrom elementFrom itemFrom elementsFrom dataFrom splitAt splitOf hostAndTag spacedHost spacedTag tagEnd headerFrom bodyFrom rfc3164 blankHost blankPlain startFrom fourFrom bodyFrom5424 rfc5424 fixedText widthFrom dateText timeText clockText fractionText offsetText priText fieldText paramText paramsText otherParams openText elementsText headText printed choose closed only manyFrom _next_ into repeat fixed stop untilQuote allLeft atEnd pri version priVersion date clock secfrac zone offset full timestamp names value param element listed structured message header parse
+unfolding table found-as
+    run
+    utf8From charLen wellFormed leadOf
+    whiteLen codePoint isWhite trimmed textEnd whiteFrom fieldLen
+    decimalFrom numberAt fixedAt fractionAt
+    leap monthDays validDate validTime valid yearDays daysBeforeYear daysOfMonths dayNumber localSeconds secondsOf spanFrom yearOf monthOf clockOf shown
+    priAt
+    plainAt hostAt tagLen tagAt someBlanksFrom byteFrom numberFrom plainFrom hostFrom tagFrom
+    namedFrom monthNumber monthFrom clockFrom fixedFrom eitherFrom dateFrom timeFrom nanosFrom minutesFrom zoneFrom endFrom fullFrom rfc3339From dayFrom withoutYear withYear rfc3164From
+    quotedLen paramAt idLen moreParams paramsFrom elementFrom itemFrom elementsFrom dataFrom
+    splitAt splitOf hostAndTag spacedHost spacedTag tagEnd headerFrom bodyFrom rfc3164
+    blankHost blankPlain startFrom fourFrom bodyFrom5424 rfc5424
+    outcomeOf byVariant
+    fixedText widthFrom
+    dateText timeText clockText fractionText offsetText
+    priText fieldText paramText paramsText otherParams openText elementsText headText printed
+    choose closed only manyFrom _next_ into repeat fixed stop untilQuote allLeft atEnd pri version priVersion date clock secfrac zone offset full timestamp names value param element listed structured message header parse
 p-cases =
     (refl and refl and refl and refl and refl and refl and tt)
     and (refl and refl and tt)

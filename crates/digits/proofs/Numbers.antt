@@ -2,17 +2,16 @@
 use Prim.Native.Nat.{ℕ, _+_, _-_, _*_, _≤_, _<_}
 use mathlib.Core.Path.{_≡_, refl, sym, ap, _∙_}
 use mathlib.Core.Bool.{Bool, true, false, not, and-true, and-false}
-use mathlib.Core.List.{List, _++_}
+use mathlib.Core.List.{List}
 use native.Mathlib.Numerals.{add-one}
 use native.Mathlib.Omega.{arith}
 use lib.Dec.{leb}
 use lib.ListN.{length, getD, take}
-use lib.Seq.{take-suc, take-append-seam}
+use lib.Seq.{take-suc}
 use borrow.Author.Tests.{le-leb, lt-leb, leb-true}
 use Rattle.base.specs.Choose.{if_then_else_}
-use Rattle.base.specs.Runs.{All}
 use Rattle.base.proofs.Tests.{both, told}
-use Rattle.base.proofs.Runs.{run-le, run-text, Runs, runs-start, runs-out, runs-on, runs-off}
+use Rattle.base.proofs.Runs.{run-le, Runs, runs-start, runs-out, runs-on, runs-off}
 use Rattle.digits.specs.Digits.{isDigit, digitRun, decimalFrom, decimal, numberAt}
 use Rattle.digits.specs.declared.Number.{Number}
 use Rattle.digits.specs.declared.Number.the-variants.{Nothing, Value}
@@ -42,12 +41,6 @@ module _ (max : ℕ) (s : List ℕ) (v n : ℕ) (e : numberAt max s ≡ Value v 
 
   pub number-len : (1 ≤ n) × (n ≤ length s) × (v ≤ max)
   number-len = let i = number-is in (i .some, omega (arith, run-le isDigit s), i .small)
-
--- digits, and after them a byte that is none
-pub number-text : (max : ℕ) (t r : List ℕ) → All isDigit t → 1 ≤ length t → decimal t ≤ max → digitRun r ≡ 0
-    → numberAt max (t ++ r) ≡ Value (decimal t) (length t)
-unfolding numberAt
-number-text max t r a h g z = rw (run-text isDigit t r a z, take-append-seam t r, le-leb 1 (length t) h, le-leb (decimal t) max g)
 
 -- after the first `i` bytes, which are digits and write `v`
 pub record Passed (s : List ℕ) (max i v : ℕ) : Type 0 where

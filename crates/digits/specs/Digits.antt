@@ -32,7 +32,7 @@ numberAt max s =
     let v = decimal (take n s) in
     if leb 1 n && leb v max then Value v n else Nothing
 
--- The first `k` bytes of `s`, which are digits, as a number. What stands after them is not asked.
+-- The first `k` bytes of `s`, which are digits, as a number. What stands after them does not matter.
 unfoldable pub fixedAt : ℕ → List ℕ → Number
 fixedAt k s = if leb k (digitRun s) then Value (decimal (take k s)) k else Nothing
 

@@ -58,7 +58,7 @@ pub fn digits(s: &[u8], max: u32) -> Number
     written(value, i)
 }
 
-// The first two bytes of `s`, which are digits. What stands after them is not asked.
+// The first two bytes of `s`, which are digits. What stands after them does not matter.
 pub fn two_digits(s: &[u8]) -> Number
     ensures { λ r. ⌜ r ≡ fixedAt 2 (now (s .entry)) ⌝ }
 {

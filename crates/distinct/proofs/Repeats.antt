@@ -11,7 +11,7 @@ use borrow.Author.Tests.{eq-eqb, ne-eqb}
 use Rattle.base.specs.Texts.{sameText, Differ, Distinct, allDifferent}
 use Rattle.base.proofs.Tests.{by-test, clash}
 use Rattle.base.proofs.Texts.{same-is, same-self, different-sound, different-complete}
-use Rattle.distinct.specs.Distinct.{idOf, Rows, Repeated, FirstRepeat}
+use Rattle.distinct.specs.Distinct.{idOf, Rows, FirstRepeat}
 use Rattle.distinct.specs.Tree.{Occurs}
 use Rattle.distinct.proofs.Ids.{rows-less}
 

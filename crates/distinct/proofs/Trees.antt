@@ -11,7 +11,7 @@ use mir.Val.{Fits}
 use Rattle.base.specs.Texts.{Differ}
 use Rattle.distinct.specs.declared.Seat.{Seat}
 use Rattle.distinct.specs.declared.Seat.the-variants.{Taken, Free}
-use Rattle.distinct.specs.Distinct.{idOf, Rows, Repeated, FirstRepeat}
+use Rattle.distinct.specs.Distinct.{idOf, Rows, FirstRepeat}
 use Rattle.distinct.specs.Tree.{headOf, turnOf, Leads, Tree, Room, Seeking, Grows, Fresh, Sought, Placing, Asked}
 use Rattle.distinct.specs.Tree.Leads.{here, on}
 use Rattle.distinct.proofs.Ids.{rows-less}

@@ -1,15 +1,14 @@
 -- One turn of a walk.
-use Prim.Native.Nat.{ℕ, _+_, _*_, _/_, _%_, _≤_, _<_}
-use mathlib.Core.Path.{_≡_, refl, sym, ap, _∙_}
-use mathlib.Core.Bool.{Bool, true, false}
+use Prim.Native.Nat.{ℕ, _/_, _%_, _≤_}
+use mathlib.Core.Path.{_≡_, refl, sym, _∙_}
+use mathlib.Core.Bool.{false}
 use mathlib.Core.List.{List}
 use native.Mathlib.Omega.{arith}
 use lib.Dec.{eqb}
 use lib.ListN.{getD}
 use borrow.Author.Tests.{eq-eqb, ne-eqb, eqb-false}
-use Rattle.base.specs.Choose.{if_then_else_}
 use Rattle.base.specs.Texts.{sameText}
-use Rattle.base.proofs.Tests.{clash, by-if}
+use Rattle.base.proofs.Tests.{by-if}
 use Rattle.base.proofs.Texts.{same-bytes}
 use Rattle.distinct.specs.Tree.{bitOf, sideOf, Sided}
 

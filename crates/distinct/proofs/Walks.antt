@@ -1,5 +1,5 @@
 -- The walk of an id among the elements before its own.
-use Prim.Native.Nat.{ℕ, _+_, _*_, _-_, _%_, _≤_, _<_}
+use Prim.Native.Nat.{ℕ, _+_, _*_, _-_, _<_}
 use mathlib.Core.Path.{_≡_, refl, sym, ap, _∙_, subst}
 use mathlib.Core.Bool.{Bool, true, false}
 use mathlib.Core.List.{List}
@@ -12,7 +12,7 @@ use Rattle.base.proofs.Tests.{clash}
 use Rattle.base.proofs.Texts.{same-is, same-self}
 use Rattle.distinct.specs.declared.Turn.{Turn}
 use Rattle.distinct.specs.Distinct.{idOf, Rows, Repeated}
-use Rattle.distinct.specs.Tree.{headOf, sideOf, turnOf, Asking, Leads, Tree, Room, Seeking, Turning, Grows, Fresh}
+use Rattle.distinct.specs.Tree.{headOf, sideOf, turnOf, Asking, Leads, Seeking, Turning, Grows, Fresh}
 use Rattle.distinct.specs.Tree.Leads.{here, on}
 use Rattle.distinct.proofs.Ids.{rows-less}
 use Rattle.distinct.proofs.Turns.{side-few, sided}

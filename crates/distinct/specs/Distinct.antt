@@ -1,4 +1,4 @@
--- The first of a line's ids that occurred before. The ids are given by a start and a length each.
+-- For private contracts alone: the first of a line's ids that occurred before. The ids are given by a start and a length each.
 use Prim.Native.Nat.{ℕ, _+_, _≤_, _<_}
 use mathlib.Core.Path.{_≡_}
 use mathlib.Core.List.{List}

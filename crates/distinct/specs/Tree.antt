@@ -1,6 +1,6 @@
 -- For private contracts alone: the tree of the elements, in which an id finds its own. It is kept as slots, 128 where walks begin and three for each element; a slot
 -- holds the number of its element and one more, or 0. Where a walk turns is of no account to what it finds: the same ids walk alike.
-use Prim.Native.Nat.{ℕ, suc, _+_, _*_, _/_, _%_, _^_, _≤_, _<_}
+use Prim.Native.Nat.{ℕ, _+_, _*_, _/_, _%_, _^_, _≤_, _<_}
 use mathlib.Core.Path.{_≡_}
 use mathlib.Core.Bool.{Bool, true, false}
 use mathlib.Core.List.{List}

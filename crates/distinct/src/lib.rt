@@ -76,8 +76,8 @@ fn told_by(depths: &[u8], kids: &[u16], slot: usize) -> usize
     small(depths[k - 1] / 8)
 }
 
-// Is the id the one that it meets? Only one that goes to the third slot can be. The element there differs from the one that is met in a byte that is known, and
-// most ids that come by differ in it too: it is asked first.
+// Whether the id is the one that it meets. Only one that goes to the third slot can be. The element there differs from the one that is met in a known byte, and
+// most ids that pass differ in it too, so that byte is compared first.
 fn is_same(own: &[u8], other: &[u8], side: usize, depths: &[u8], kids: &[u16], slot: usize) -> bool
     requires { ⌜ Sided (now own) (now other) side ⌝ }
     requires { ⌜ Asking (now depths) (now kids) slot ⌝ }
@@ -202,7 +202,7 @@ pub fn first_repeat<'a>(
     n
 }
 
-// Is the id of element `i` that of an element before it?
+// Whether an element before `i` has the same id.
 fn occurs<'a>(line: &'a [u8], starts: &'a [u16], lens: &'a [u8], i: usize) -> bool
     requires { ⌜ Rows (now line) (now starts) (now lens) (i + 1) ⌝ }
     ensures { λ r. ⌜ Occurs (idOf (now (line .entry)) (now (starts .entry)) (now (lens .entry))) i r ⌝ }

@@ -1,4 +1,4 @@
--- What the code keeps of an outcome before the tables are filled. (For private contracts alone.)
+-- For private contracts alone: what the code keeps of an outcome before the tables are filled.
 use lib.ListN.{length}
 use Rattle.record.specs.declared.Protocol.{Protocol}
 use Rattle.record.specs.declared.Protocol.the-variants.{Rfc3164, Rfc5424}

@@ -285,7 +285,7 @@ fn half_at(s: &[u8], at: usize) -> u64
     pair_at(s, at) + pair_at(s, at + 2) * 65536
 }
 
-// Word `i` of the 26, from its eight bytes.
+// Word `i` of the record, from its eight bytes.
 pub fn word_at(s: &[u8], i: usize) -> u64
     requires { ⌜ recordSize ≤ length (now s) ⌝ }
     requires { ⌜ i < wordCount ⌝ }
@@ -345,7 +345,7 @@ fn marks_held(s: &[u8]) -> bool
         & (word_at(s, MSGID_WORD) < 2)
 }
 
-// Do the bytes hold a record?
+// Whether the bytes hold a record.
 pub fn holds_record(s: &[u8]) -> bool
     ensures { λ r. ⌜ r ≡ holdsRecord (now (s .entry)) ⌝ }
 {

@@ -14,7 +14,7 @@ use Rattle.lookup.specs.declared.Search.{Search}
 abbrev pub searchFrom : ℕ → Search
 searchFrom e = record { next = 0; last = e; same = false; value = absent }
 
--- has the entry's element the id, and it the name?
+-- whether the entry's element has the id, and the entry the name
 abbrev pub sameId : List ℕ → List (List ℕ) → List ℕ → Param → Bool
 sameId line elements id p = sameText (idText line elements (p .element)) id
 

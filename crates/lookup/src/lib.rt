@@ -34,7 +34,7 @@ fn text_is(line: &[u8], start: usize, len: usize, text: &[u8]) -> bool
     base::same_text(&line[start..end], text)
 }
 
-// Has element `k` the id? `same` says so of element `last`, so that an id is compared once for all its parameters.
+// Whether element `k` has the id. `same` says so of element `last`, so that an id is compared once for all its parameters.
 fn id_is(line: &[u8], elements: &[[usize; 2]], id: &[u8], last: usize, same: bool, k: usize) -> bool
     requires { ⌜ k < length (now elements) ⌝ }
     requires { ⌜ getD (getD (now elements) k []) 0 0 + getD (getD (now elements) k []) 1 0 ≤ length (now line) ⌝ }
@@ -48,7 +48,7 @@ fn id_is(line: &[u8], elements: &[[usize; 2]], id: &[u8], last: usize, same: boo
     text_is(line, row[0], row[1], id)
 }
 
-// Is this the parameter, where its element has the id?
+// Whether this is the parameter. `same`: its element has the id.
 fn matches(line: &[u8], name: &[u8], same: bool, p: Param) -> bool
     requires { ⌜ p .«name_start» + p .«name_len» ≤ length (now line) ⌝ }
     ensures { λ r. ⌜ r ≡ (same && sameText (textAt (now (line .entry)) (p .«name_start») (p .«name_len»)) (now (name .entry))) ⌝ }
@@ -67,6 +67,9 @@ struct Search {
     same: bool,
     value: Place,
 }
+
+// ---- for the prover alone: `find` names the parameter table and so only calls. `search_from`, `search_param` and `value_of` start the search, take an entry and
+// copy what was found.
 
 fn search_from(element_count: usize) -> Search
     ensures { λ r. ⌜ r ≡ searchFrom «element_count» ⌝ }
@@ -136,6 +139,8 @@ fn find(
     }
     value_of(s)
 }
+
+// ---- unescaping
 
 // What a byte of a value adds: nothing, one byte, or a backslash and a byte.
 enum Added {
@@ -254,6 +259,8 @@ fn give(line: &[u8], value: Place, loose: bool, out: &mut [u8]) -> Written
     let end = start + value.len;
     put_value(&line[start..end], loose, out)
 }
+
+// ---- for the prover alone: `lookup` names the parameter table and so only calls, for a comparison and for an answer too
 
 // By the kind.
 fn give_by(line: &[u8], value: Place, kind: u32, out: &mut [u8]) -> Written

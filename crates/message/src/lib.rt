@@ -81,7 +81,7 @@ fn put_back(out: &mut [u8], at: usize, line: &[u8], r: Record, count: usize) -> 
     put_part(out, a, line, r.message.start, r.message.len)
 }
 
-// Does all but the parameters fit into `left` bytes?
+// Whether all but the parameters fits into `left` bytes.
 fn others_fit(left: usize, line: &[u8], r: Record, ids: &[[usize; 2]]) -> bool
     requires { ⌜ length (now line) ≤ lineLimit ⌝ }
     requires { ⌜ recordSuits (now line) r ≡ true ⌝ }
@@ -97,7 +97,7 @@ fn others_fit(left: usize, line: &[u8], r: Record, ids: &[[usize; 2]]) -> bool
     true
 }
 
-// Into what the parameters leave?
+// Whether it fits into what the parameters leave.
 fn rest_fits(room: Room, line: &[u8], r: Record, count: usize, elements: &[[usize; 2]]) -> bool
     requires { ⌜ length (now line) ≤ lineLimit ⌝ }
     requires { ⌜ recordSuits (now line) r ≡ true ⌝ }
@@ -117,7 +117,7 @@ fn room_of(n: usize) -> Room
     Room::Left(n)
 }
 
-// Does the record fit into `room` bytes?
+// Whether the record fits into `room` bytes.
 fn fits(
     line: &[u8],
     r: Record,

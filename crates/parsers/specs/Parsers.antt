@@ -9,7 +9,7 @@ use Rattle.white.specs.Trim.{fieldLen}
 use Rattle.parsers.specs.declared.Text.{Text}
 use Rattle.parsers.specs.declared.Text.the-variants.{Fails, Absent, Given}
 
--- is the field of `n` bytes the one byte `b`?
+-- whether the field of `n` bytes is the one byte `b`
 abbrev pub alone : List ℕ → ℕ → ℕ → Bool
 alone s n b = eqb n 1 && isAt s 0 b
 

@@ -1,4 +1,4 @@
--- How many bytes an answer passes: what the functions that place it in the line require to fit.
+-- For private contracts alone: how many bytes an answer passes, which is what the functions that place it in the line require to fit.
 use Prim.Native.Nat.{ℕ}
 use Rattle.digits.specs.declared.Number.{Number}
 use Rattle.digits.specs.declared.Number.the-variants.{Nothing, Value}

@@ -1,4 +1,4 @@
--- Steps of a reader at a position of the line: what was read, and the position behind it. `onX x r k` goes on with k, or answers r where x failed.
+-- Steps of a reader at a position of the line: what was read, and the position after it. `onX x r k` goes on with k, or answers r where x failed.
 use Prim.Native.Nat.{ℕ, _+_}
 use mathlib.Core.List.{List}
 use mathlib.Core.Bool.{Bool, not, _||_}

@@ -16,13 +16,13 @@ pub enum Text {
     Given(usize, usize),
 }
 
-// A field of the line, and the position behind it.
+// A field of the line, and the position after it.
 pub enum Field {
     NoField,
     IsField(Place, usize),
 }
 
-// A number, and the position behind it.
+// A number, and the position after it.
 pub enum Num {
     NoNum,
     IsNum(u32, usize),
@@ -34,7 +34,7 @@ pub enum Pos {
     IsPos(usize),
 }
 
-// Is the field of `n` bytes the one byte `b`?
+// Whether the field of `n` bytes is the one byte `b`.
 fn is_alone(s: &[u8], n: usize, b: u8) -> bool
     requires { ⌜ 0 < b ⌝ }
     ensures { λ r. ⌜ r ≡ alone (now (s .entry)) n b ⌝ }
@@ -66,7 +66,7 @@ pub fn plain_at(s: &[u8]) -> Text
     or_absent(s, n)
 }
 
-// Of a host that ends in `:` the text before it, and the colon is left.
+// A host that ends in `:` gives the text before it; the colon is not consumed.
 pub fn host_at(s: &[u8]) -> Text
     ensures { λ r. ⌜ r ≡ hostAt (now (s .entry)) ⌝ }
 {
@@ -118,7 +118,7 @@ fn is_blank(b: u8) -> bool
     (b == b' ') | (b == b'\t')
 }
 
-// The position behind the blanks at `at`, of which there may be none.
+// The position after the blanks at `at`, of which there may be none.
 pub fn blanks_from(s: &[u8], at: usize) -> usize
     requires { ⌜ at ≤ length (now s) ⌝ }
     ensures { λ r. ⌜ r ≡ blanksFrom (now (s .entry)) at ⌝ }
@@ -145,7 +145,7 @@ pub fn some_blanks_from(s: &[u8], at: usize) -> Pos
     Pos::IsPos(next)
 }
 
-// The position behind the byte `b`.
+// The position after the byte `b`.
 pub fn byte_from(s: &[u8], at: usize, b: u8) -> Pos
     requires { ⌜ 0 < b ⌝ }
     ensures { λ r. ⌜ r ≡ byteFrom (now (s .entry)) at b ⌝ }
@@ -186,7 +186,7 @@ pub fn inside_run(s: &[u8]) -> usize
     i
 }
 
-// Digits that were read at `at`, as a number and the position behind it.
+// Digits that were read at `at`, as a number and the position after it.
 pub fn moved(at: usize, n: Number) -> Num
     requires { ⌜ at + digitsPassed n < 2 ^ 64 ⌝ }
     ensures { λ r. ⌜ r ≡ moved at n ⌝ }

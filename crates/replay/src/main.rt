@@ -38,7 +38,7 @@ fn one_more(n: u64) -> u64 {
     if n < u64::MAX { n + 1 } else { n }
 }
 
-// Is the case as it should be?
+// Whether the case is as it should be.
 fn is_met(text: &[u8], service: u8) -> bool {
     match service {
         b'E' => reads(text, false),

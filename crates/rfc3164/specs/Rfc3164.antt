@@ -30,7 +30,7 @@ spacedHost s at = onPos (byteFrom s at 32) NoField (λ a. hostFrom s a)
 unfoldable pub spacedTag : List ℕ → ℕ → Field
 spacedTag s at = onPos (byteFrom s at 32) NoField (λ a. tagFrom s a)
 
--- where reading goes on: behind the field, or where it was
+-- where reading goes on: after the field, or where it was
 abbrev pub behindField : ℕ → Field → ℕ
 behindField at NoField = at
 behindField at (IsField p n) = n

@@ -1,4 +1,4 @@
--- Steps of the reading, by positions of the line. (For private contracts alone.)
+-- For private contracts alone: steps of the reading, by positions of the line.
 use Prim.Native.Nat.{ℕ, _+_, _≤_}
 use mathlib.Core.List.{List}
 use mathlib.Core.Bool.{Bool, _&&_}
@@ -28,7 +28,7 @@ abbrev pub FieldWithin : List ℕ → Field → Type 0
 FieldWithin s NoField = Unit {0}
 FieldWithin s (IsField p n) = p .start + p .len ≤ length s
 
--- what is counted of the rows, and the message behind them
+-- what is counted of the rows, and the message after them
 abbrev pub restOf : List ℕ → Rows → Rest
 restOf s rows = record { elements = length (rows .elements); params = length (rows .params); message = blanksFrom s (rows .next) }
 

@@ -40,7 +40,7 @@ struct Header {
     next: usize,
 }
 
-// The counts of elements and parameters, and the position of the message behind them.
+// The counts of elements and parameters, and the position of the message after them.
 struct Rest {
     elements: usize,
     params: usize,
@@ -67,7 +67,7 @@ fn app_run(s: &[u8]) -> usize
     i
 }
 
-// Is the byte at `end` a `]`, and the last?
+// Whether the byte at `end` is a `]` and the last one.
 fn closes_at(s: &[u8], end: usize) -> bool
     ensures { λ r. ⌜ r ≡ closesAt (now (s .entry)) end ⌝ }
 {
@@ -77,7 +77,7 @@ fn closes_at(s: &[u8], end: usize) -> bool
     end + 1 == s.len()
 }
 
-// Is the field `s` wholly `app[pid]`?
+// Whether the whole field `s` is `app[pid]`.
 fn split_at(s: &[u8]) -> Split
     ensures { λ r. ⌜ r ≡ splitAt (now (s .entry)) ⌝ }
 {
@@ -289,7 +289,7 @@ fn record_of(pri: Pri, stamp: Stamp, names: Names, message: Span) -> Record
     }
 }
 
-// Behind the timestamp.
+// After the timestamp.
 fn body_from(pri: Pri, stamp: Stamp, s: &[u8], at: usize) -> Draft
     requires { ⌜ at ≤ length (now s) ⌝ }
     ensures { λ r. ⌜ r ≡ draftOf (bodyFrom pri stamp (now (s .entry)) at) ⌝ }

@@ -63,7 +63,7 @@ abbrev pub onData : {R : Type 0} → Data → R → (Rows → R) → R
 onData noData r k = r
 onData (isData rows) r k = k rows
 
--- behind the timestamp
+-- after the timestamp
 unfoldable pub bodyFrom : Pri → ℕ → Stamp → List ℕ → ℕ → Outcome
 bodyFrom pri version stamp s at =
     onFour (fourFrom s at) noReading λ host app procid msgid a.

@@ -18,13 +18,13 @@ ghost use lib.ListN.{length};
 ghost use Rattle.draft.specs.Drafts.{draftOf};
 ghost use Rattle.rfc5424.specs.Rfc5424.{blankHost, blankPlain, startFrom, fourFrom, bodyFrom, rfc5424};
 
-// The version, the timestamp, and the position behind them.
+// The version, the timestamp, and the position after them.
 pub enum Start {
     NoStart,
     IsStart(u32, Stamp, usize),
 }
 
-// Host, app, process id and message id, and the position behind them.
+// Host, app, process id and message id, and the position after them.
 pub enum Four {
     NoFour,
     IsFour(Place, Place, Place, Place, usize),
@@ -89,7 +89,7 @@ fn four_from(s: &[u8], at: usize) -> Four
     Four::IsFour(host, app, procid, msgid, d)
 }
 
-// Behind the timestamp.
+// After the timestamp.
 fn body_from(pri: Pri, version: u32, stamp: Stamp, s: &[u8], at: usize) -> Draft
     requires { ⌜ at ≤ length (now s) ⌝ }
     ensures { λ r. ⌜ r ≡ draftOf (bodyFrom pri version stamp (now (s .entry)) at) ⌝ }

@@ -119,6 +119,8 @@ fn judge(line: &[u8], e: usize, p: usize) -> Judged
     Judged::Fitting(r, at, len, n, k)
 }
 
+// ---- for the prover alone: `read` names the parameter table and so only calls. `is_fitting`, `data_of` and `reading_of` take apart for it what is judged.
+
 // Whether a line is read.
 fn is_fitting(judged: Judged) -> bool
     ensures { λ r. ⌜ r ≡ isFitting judged ⌝ }

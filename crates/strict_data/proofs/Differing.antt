@@ -5,20 +5,19 @@ use mathlib.Core.Bool.{Bool, true, false, not}
 use mathlib.Core.List.{List, [], _∷_, _++_}
 use native.Mathlib.Omega.{arith}
 use lib.Dec.{eqb}
-use lib.ListN.{length, getD, take, drop, replicate, length-append, length-take, length-map, length-replicate}
+use lib.ListN.{length, getD, take, replicate, length-append, length-map, length-replicate}
 use lib.Seq.{length-take-le, getD-take, take-all}
 use borrow.Author.Tests.{not-true}
-use Rattle.base.specs.Texts.{allDifferent, Distinct}
+use Rattle.base.specs.Texts.{allDifferent}
 use Rattle.base.proofs.Tests.{by-test, clash}
 use Rattle.base.proofs.Texts.{different-sound, different-complete}
 use Rattle.record.specs.Limits.{lineLimit}
 use Rattle.grammar.specs.Line.{Param, Element, idsOf, eachThen, paramThen, elementThen, Each, ElementOk}
-use Rattle.grammar.specs.Parse.{Parsed, many, element, idsDiffer}
-use Rattle.grammar.specs.Parse.Parsed.{failed, found}
+use Rattle.grammar.specs.Parse.{many, element, idsDiffer}
 use Rattle.grammar.proofs.Readers.{Front, text-length, found-within, many-reads}
 use Rattle.grammar.proofs.Data.{element-reads}
 use Rattle.distinct.specs.Distinct.{idOf, Rows, FirstRepeat}
-use Rattle.distinct.specs.Tree.{Room, Asked}
+use Rattle.distinct.specs.Tree.{Asked}
 use Rattle.distinct.proofs.Repeats.{first-tells}
 use Rattle.strict_data.specs.Counts.{countsOf}
 use Rattle.strict_data.specs.Filling.{elementsOf}

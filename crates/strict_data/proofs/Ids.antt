@@ -1,26 +1,24 @@
 -- The first pass notes the places of the ids.
-use Prim.Native.Nat.{ℕ, suc, _+_, _-_, _≤_, _<_}
+use Prim.Native.Nat.{ℕ, _+_, _-_, _≤_, _<_}
 use mathlib.Core.Path.{_≡_, refl, sym, ap, ap₂, _∙_, subst}
-use mathlib.Core.List.{List, [], _∷_, _++_, map}
+use mathlib.Core.List.{List, [], _∷_, _++_}
 use native.Mathlib.Decide.{ℕ-discrete}
 use native.Mathlib.Omega.{arith}
 use lib.ListN.{length, getD, set, take, drop, length-append, length-drop, length-set, length-map, List·getD-append}
 use lib.Seq.{take-append-seam, set-out, getD-set-same, getD-set-other, getD-append-seam}
 use Rattle.base.specs.Texts.{textAt}
 use Rattle.record.specs.Limits.{lineLimit}
-use Rattle.grammar.specs.Line.{Param, Element, idsOf, eachThen, paramThen}
-use Rattle.grammar.specs.Parse.{Parsed, many, element}
-use Rattle.grammar.specs.Parse.Parsed.{failed, found}
+use Rattle.grammar.specs.Line.{Element, idsOf, eachThen, paramThen}
+use Rattle.grammar.specs.Parse.{many, element}
+use Rattle.grammar.specs.Parse.Parsed.{found}
 use Rattle.grammar.proofs.Readers.{not-found}
 use Rattle.grammar.proofs.Data.{element-reads}
-use Rattle.distinct.specs.Distinct.{idOf}
-use Rattle.strict_data.specs.Counts.{countsOf}
 use Rattle.strict_data.specs.Sizes.{itemOf}
 use Rattle.strict_data.specs.Ids.{Noted, Noting, Rowed, Listed}
 use Rattle.strict_data.specs.declared.Item.{Item}
 use Rattle.strict_data.specs.declared.Item.the-variants.{NoItem, IsItem}
 use Rattle.strict_data.proofs.Answers.{FindsItem, finds-item, misses-item}
-use Rattle.strict_data.proofs.Counting.{Passed, passed-all, passed-other, passed-bad, Elements, elements-start, start-items, elements-next, next-items}
+use Rattle.strict_data.proofs.Counting.{passed-all, passed-other, passed-bad, Elements, elements-start, start-items, elements-next, next-items}
 
 -- ---- one id
 

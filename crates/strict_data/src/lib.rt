@@ -262,7 +262,7 @@ fn elements(s: &[u8], starts: &mut [u16], lens: &mut [u8]) -> Counts
     }
 }
 
-// Do the ids of the first `count` elements differ? Their places are noted in a second pass, and a tree of them is made, in tables that take all.
+// Whether the ids of the first `count` elements differ. Their places are noted in a second pass, and a tree of them is made, in tables that take all.
 fn noted_differ(
     s: &[u8],
     count: usize,
@@ -316,7 +316,7 @@ fn most_differ(s: &[u8], count: usize) -> bool
     noted_differ(s, count, &mut starts, &mut lens, &mut depths, &mut kids)
 }
 
-// Do the ids of the first `count` elements differ, of which some are noted? Those are asked first, and most texts have no more. (A function that calls itself is
+// Whether the ids of the first `count` elements differ, of which some are noted. Those are compared first, and most texts have no more. (A function that calls itself is
 // not drawn into its caller by the compiler, nor large tables into it: only texts with many elements pay for them.)
 fn ids_differ<'a>(s: &'a [u8], count: usize, starts: &'a [u16], lens: &'a [u8]) -> bool
     requires { ⌜ Among (now s) count ⌝ }
@@ -374,7 +374,7 @@ pub fn count_data(s: &[u8]) -> Counts
     }
 }
 
-// Is the message one of any bytes, or a byte order mark and then UTF-8?
+// Whether the message is one of any bytes, or a byte order mark and then UTF-8.
 fn is_message(m: &[u8]) -> bool
     ensures { λ r. ⌜ r ≡ parse.isMessage (now (m .entry)) ⌝ }
 {

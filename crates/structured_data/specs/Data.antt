@@ -12,7 +12,7 @@ use Rattle.structured_data.specs.Element.Element.{noElement, isElement}
 use Rattle.structured_data.specs.declared.Rules.{Rules}
 use Rattle.structured_data.specs.declared.Rules.the-variants.{Rfc3164Rules, Rfc5424Rules}
 
--- the rows of both tables, and the position behind what was taken
+-- the rows of both tables, and the position after what was taken
 pub record Rows : Type 0 where
   pub elements : List (List ℕ)
   pub params : List (List ℕ)
@@ -24,7 +24,7 @@ endAt at = record { elements = []; params = []; next = at }
 abbrev pub elementAnd : List ℕ → List (List ℕ) → Rows → Rows
 elementAnd row params more = record { elements = row ∷ more .elements; params = params ++ more .params; next = more .next }
 
--- what stands at an element's position: an element and the position behind it, something skipped up to a position, or the end of the list
+-- what stands at an element's position: an element and the position after it, something skipped up to a position, or the end of the list
 pub data Item : Type 0 where
   taken : (row : List ℕ) (params : List (List ℕ)) (next : ℕ) → Item
   skipped : (next : ℕ) → Item

@@ -17,7 +17,7 @@ unfoldable pub idLen : List ℕ → ℕ
 idLen [] = 0
 idLen (b ∷ t) = if eqb (whiteLen (b ∷ t)) 0 && not (eqb b 93 || eqb b 61) then suc (idLen t) else 0
 
--- the parameters' rows (element, name's place, value's place), and the position behind them
+-- the parameters' rows (element, name's place, value's place), and the position after them
 pub record Params : Type 0 where
   pub rows : List (List ℕ)
   pub next : ℕ
@@ -25,24 +25,24 @@ pub record Params : Type 0 where
 abbrev pub noneAt : ℕ → Params
 noneAt at = record { rows = []; next = at }
 
--- a parameter of element `e` at `at`, and those of `more` behind it; or none, at `before`
+-- a parameter of element `e` at `at`, and those of `more` after it; or none, at `before`
 abbrev pub paramAnd : ℕ → ℕ → ℕ → Param → (ℕ → Params) → Params
 paramAnd e at before NoParam more = noneAt before
 paramAnd e at before (IsParam n v m len) more =
     let ps = more len in
     record { rows = (e ∷ at ∷ n ∷ (at + v) ∷ m ∷ []) ∷ ps .rows; next = ps .next }
 
--- behind a parameter: one space and a parameter, again and again. `k` bytes of the text still belong to the parameter before.
+-- after a parameter: one space and a parameter, again and again. `k` bytes of the text still belong to the parameter before.
 unfoldable pub moreParams : ℕ → ℕ → ℕ → List ℕ → Params
 moreParams e k at [] = noneAt at
 moreParams e (suc k) at (b ∷ t) = moreParams e k (at + 1) t
 moreParams e zero at (b ∷ t) = if eqb b 32 then paramAnd e (at + 1) at (paramAt t) (λ len. moreParams e len (at + 1) t) else noneAt at
 
--- none, or one and those behind it
+-- none, or one and those after it
 unfoldable pub paramsFrom : ℕ → ℕ → List ℕ → Params
 paramsFrom e at t = paramAnd e at at (paramAt t) (λ len. moreParams e len at t)
 
--- an element's row (the id's place), its parameters' rows, and the position behind it
+-- an element's row (the id's place), its parameters' rows, and the position after it
 pub data Element : Type 0 where
   noElement : Element
   isElement : (row : List ℕ) (params : List (List ℕ)) (next : ℕ) → Element

@@ -1,4 +1,4 @@
--- Steps of the walk over structured data, by positions of the text `s`. (For private contracts alone.)
+-- For private contracts alone: steps of the walk over structured data, by positions of the text `s`.
 use Prim.Native.Nat.{ℕ, _+_, _-_, _≤_, _<_}
 use mathlib.Core.Path.{_≡_}
 use mathlib.Core.List.{List}
@@ -30,14 +30,14 @@ valueEnd s quote =
     let end = quote + 1 + quotedLen false (drop (quote + 1) s) in
     if isAt s quote 34 && isAt s end 34 then IsPos end else NoPos
 
--- how many parameters there are, and the position behind them
+-- how many parameters there are, and the position after them
 abbrev pub walkOf : Params → Walk
 walkOf ps = record { count = length (ps .rows); next = ps .next }
 
 abbrev pub walkFrom : List ℕ → ℕ → Walk
 walkFrom s at = walkOf (paramsFrom 0 at (drop at s))
 
--- the entry of a parameter of element `e` at `start`, and the position behind it
+-- the entry of a parameter of element `e` at `start`, and the position after it
 abbrev pub entryOf : ℕ → ℕ → Param → Entry
 entryOf e start NoParam = record { row = blank; next = start }
 entryOf e start (IsParam n v m len) = record { row = record { element = e; «name_start» = start; «name_len» = n; «value_start» = start + v; «value_len» = m }; next = start + len }
@@ -82,13 +82,13 @@ abbrev pub endsList : Rules → Bool
 endsList Rfc3164Rules = true
 endsList Rfc5424Rules = false
 
--- what an item adds to the counts, and the position behind it; the list ends where it is
+-- what an item adds to the counts, and the position after it; the end of the list adds nothing and stays where it is
 abbrev pub turnOf : ℕ → ℕ → Item → Turn
 turnOf at dead (taken row params next) = record { elements = 1; params = length params; next = next; dead = dead }
 turnOf at dead (skipped next) = record { elements = 0; params = 0; next = next; dead = dead }
 turnOf at dead ended = record { elements = 0; params = 0; next = at; dead = dead }
 
--- where a walk ends that passes the `]` at `r`, which is then in a value: it goes on behind the quote that ends the value
+-- where a walk ends that passes the `]` at `r`, which is then in a value: it goes on after the quote that ends the value
 abbrev pub fateOf : List ℕ → ℕ → ℕ
 fateOf s r =
     let sep = r + 2 + quotedLen false (drop (r + 1) s) in

@@ -1,4 +1,4 @@
--- The rows of structured data as the code keeps them: counted, and then stored into tables. (For private contracts alone.)
+-- For private contracts alone: the rows of structured data as the code keeps them: counted, and then stored into tables.
 use Prim.Native.Nat.{ℕ, _≤_}
 use mathlib.Core.Path.{_≡_}
 use mathlib.Core.List.{List}

@@ -34,13 +34,13 @@ pub enum Param {
     },
 }
 
-// The parameters of an element: their count, and the position behind them.
+// The parameters of an element: their count, and the position after them.
 struct Walk {
     count: usize,
     next: usize,
 }
 
-// A parameter's entry, and the position behind it: where it would have started, if there is none.
+// A parameter's entry, and the position after it: where it would have started, if there is none.
 struct Entry {
     row: record::Param,
     next: usize,
@@ -60,7 +60,7 @@ struct Turn {
     dead: usize,
 }
 
-// The counts of elements and parameters, and the position behind them.
+// The counts of elements and parameters, and the position after them.
 pub enum Counts {
     NoData,
     IsData {
@@ -206,7 +206,7 @@ fn walk_to(count: usize, next: usize) -> Walk
     Walk { count, next }
 }
 
-// The parameters at `at`: none, or one and those behind it, each after one space. Past `stop` the walk is given up, since it fails.
+// The parameters at `at`: none, or one and those after it, each after one space. Past `stop` the walk is given up, since it fails.
 fn walk_params(s: &[u8], at: usize, stop: usize) -> Walk
     requires { ⌜ Stops (now s) at stop ⌝ }
     ensures { λ r. ⌜ Ends (now (s .entry)) at r ⌝ }
@@ -396,7 +396,7 @@ fn counts_at(at: usize, elements: usize, params: usize, next: usize) -> Counts
     }
 }
 
-// The structured data at `at`: its counts, and the position behind it.
+// The structured data at `at`: its counts, and the position after it.
 pub fn count_data(rules: Rules, s: &[u8], at: usize) -> Counts
     ensures { λ r. ⌜ r ≡ countsOf (dataFrom rules (now (s .entry)) at) ⌝ }
 {

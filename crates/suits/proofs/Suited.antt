@@ -4,7 +4,6 @@ use mathlib.Core.Path.{_≡_, refl, sym}
 use mathlib.Core.List.{List, [], _∷_}
 use mathlib.Core.Bool.{true}
 use native.Mathlib.Omega.{arith}
-use native.Mathlib.Numerals.{add-one}
 use lib.Dec.{leb}
 use lib.IntN.{natAbs}
 use lib.ListN.{length, getD, take}
@@ -145,10 +144,6 @@ module _ (line : List ℕ) (e p : ℕ) (elements params : List (List ℕ)) (h : 
   param-suited i l =
       rw (← getD-take p params i [] l, ← least-take 0 params p i l)
       (params-in line e 0 (take p params) (parts .of-params) i (rw (length-take-le p params params-fit) l))
-
-  -- element numbers do not fall
-  pub param-rises : (i : ℕ) → i + 1 < p → getD (getD params i []) 0 0 ≤ getD (getD params (i + 1) []) 0 0
-  param-rises i l = rw add-one (param-suited (suc i) (omega arith) .from)
 
 -- the whole
 module _ (line : List ℕ) (r : Record) (e p : ℕ) (elements params : List (List ℕ)) (h : suits line r e p elements params ≡ true) where

@@ -17,7 +17,7 @@ ghost use Rattle.record.specs.declared.Written.the-variants.{Refused};
 ghost use Rattle.suits.specs.Suits.{levelSuits, stampSuits, recordSuits, elementsSuit, paramSuits, suits};
 ghost use Rattle.suits.specs.Checks.{headSuits, checkAt};
 
-// Does the place end within `n` bytes? (The sum may not fit.)
+// Whether the place ends within `n` bytes. (The sum may not fit.)
 fn place_suits(n: usize, start: usize, len: usize) -> bool
     ensures { λ b. ⌜ b ≡ leb (start + len) n ⌝ }
 {
@@ -139,6 +139,9 @@ struct Check {
     suits: bool,
 }
 
+// ---- for the prover alone: `is_suitable` names the parameter table and so only calls. `check_head` starts the check, `check_param` takes an entry, and `check_at`
+// makes the struct for both.
+
 fn check_at(suits: bool, next: usize, low: usize, count: usize) -> Check
     ensures { λ c. ⌜ c ≡ checkAt suits next low count ⌝ }
 {
@@ -199,7 +202,7 @@ pub fn is_suitable(
     c.suits
 }
 
-// The answer where they do not suit.
+// The answer where they do not suit, for callers that name the table and so only call.
 pub fn unsuitable() -> Written
     ensures { λ w. ⌜ w ≡ Refused Unsuitable ⌝ }
 {

@@ -13,6 +13,7 @@ use Rattle.base.specs.Texts.{textAt, sameText}
 use Rattle.base.proofs.Tests.{clash, by-if}
 use Rattle.utf8.specs.Rfc3629.{Utf8}
 use Rattle.utf8.proofs.Texts.{utf8-sound, utf8-complete}
+use Rattle.record.specs.Limits.{lineLimit}
 use Rattle.record.specs.declared.Record.{Record}
 use Rattle.record.specs.declared.Reading.the-variants.{Read}
 use Rattle.record.specs.declared.Refusal.{Refusal}
@@ -95,7 +96,7 @@ lookup-utf8 : {line : List ℕ} {r : Record} {e p : ℕ} {elements params : List
     → Texts line r e p elements params → Looks line r e p elements params id name kind before (Done n) after → Utf8 (take n after)
 lookup-utf8 {line} {r} {e} {p} {elements} {params} {id} {name} {kind} {n} {before} {after} t h =
     let f = found line elements id name (take p params) in
-    let short = past (ltb 8192 (length line)) _ _ (h .answer) in
+    let short = past (ltb lineLimit (length line)) _ _ (h .answer) in
     let known = past (ltb 1 kind) _ _ short in
     let suited = past (not (suits line r e p elements params)) _ _ known in
     front-utf8 (valueText (eqb kind 0) f) before after n (h .output) (value-length (eqb kind 0) f (length before) suited)
@@ -107,7 +108,7 @@ print-utf8 : {line : List ℕ} {r : Record} {e p : ℕ} {elements params : List 
     → Texts line r e p elements params → Prints line r e p elements params before (Done n) after → Utf8 (take n after)
 print-utf8 {line} {r} {e} {p} {elements} {params} {n} {before} {after} t h =
     let text = printed line r (take e elements) (take p params) in
-    let short = past (ltb 8192 (length line)) _ _ (h .answer) in
+    let short = past (ltb lineLimit (length line)) _ _ (h .answer) in
     let suited = past (not (suits line r e p elements params)) _ _ short in
     let fits = past (ltb (length before) (length text)) _ _ suited in
     let many : n ≡ length text = cc in

@@ -1,4 +1,4 @@
--- 01 describes these walks by characters, and the definitions go by bytes. On UTF-8 they are the same: of the characters `cs`, each walk over their
+-- The rules describe these walks by characters, and the definitions go by bytes. On UTF-8 they are the same: of the characters `cs`, each walk over their
 -- bytes is the walk over `cs` themselves. (charRun and its like count the bytes of characters.)
 use Prim.Native.Nat.{ℕ}
 use mathlib.Core.Path.{_≡_}

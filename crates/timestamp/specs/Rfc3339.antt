@@ -96,7 +96,7 @@ abbrev pub stampIf : DateTime → ℕ → ℤ → ℕ → Stamping
 stampIf t nanos offset next =
     if valid t then IsStamp (Stamped (record { seconds = secondsOf t offset; nanos = nanos; offset = offset })) next else NoStamp
 
--- behind the clock: fraction, zone, and the space, which is left
+-- after the clock: fraction, zone, and the space, which is not consumed
 unfoldable pub endFrom : List ℕ → DateTime → ℕ → Stamping
 endFrom s t at =
     onNum (nanosFrom s at) NoStamp λ nanos a.

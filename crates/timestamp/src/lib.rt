@@ -15,7 +15,7 @@ ghost use Rattle.timestamp.specs.Clock.{clockFrom};
 ghost use Rattle.timestamp.specs.Rfc3339.{fixedFrom, eitherFrom, dateFrom, timeFrom, nanosFrom, minutesFrom, eastOf, westOf, zoneFrom, stampIf, endFrom, fullFrom, rfc3339From};
 ghost use Rattle.timestamp.specs.Timestamp.{dayFrom, withoutYear, utcIf, withYear, rfc3164From};
 
-// hour, minute, second, and the position behind them.
+// Hour, minute and second, and the position after them.
 pub enum Clock {
     NoClock,
     IsClock {
@@ -26,7 +26,7 @@ pub enum Clock {
     },
 }
 
-// year, month, day, and the position behind them.
+// Year, month and day, and the position after them.
 pub enum Date {
     NoDate,
     IsDate {
@@ -37,19 +37,19 @@ pub enum Date {
     },
 }
 
-// month, day, and the position behind them and the blanks that follow.
+// Month and day, and the position after them and the blanks that follow.
 pub enum Day {
     NoDay,
     IsDay { month: u32, day: u32, next: usize },
 }
 
-// Minutes east of UTC, and the position behind them.
+// Minutes east of UTC, and the position after them.
 pub enum Zone {
     NoZone,
     IsZone(i32, usize),
 }
 
-// A timestamp, and the position behind it.
+// A timestamp, and the position after it.
 pub enum Stamping {
     NoStamp,
     IsStamp(Stamp, usize),
@@ -303,7 +303,7 @@ fn stamp_if(t: DateTime, nanos: u32, offset: i32, next: usize) -> Stamping
     )
 }
 
-// Behind the clock: fraction, zone, and a space, which is left.
+// After the clock: fraction, zone, and a space, which is not consumed.
 pub fn end_from(s: &[u8], t: DateTime, at: usize) -> Stamping
     requires { ⌜ at ≤ length (now s) ⌝ }
     ensures { λ r. ⌜ r ≡ endFrom (now (s .entry)) t at ⌝ }
@@ -445,7 +445,7 @@ fn utc_if(t: DateTime, offset: i32, next: usize) -> Stamping
     )
 }
 
-// Form (b): the year stands behind the day, and the clock is UTC's.
+// Form (b): the year stands after the day, and the clock is UTC's.
 pub fn with_year(s: &[u8], at: usize, offset: i32) -> Stamping
     requires { ⌜ at ≤ length (now s) ⌝ }
     ensures { λ r. ⌜ r ≡ withYear offset (now (s .entry)) at ⌝ }

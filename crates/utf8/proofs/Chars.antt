@@ -32,9 +32,6 @@ by-front P s f g =
 pub char-fits : (s : List ℕ) → charLen s ≤ length s
 char-fits s = by-front (λ n. n ≤ length s) s (λ p q. p) (omega arith)
 
-pub char-most : (s : List ℕ) → charLen s ≤ 4
-char-most s = by-front (λ n. n ≤ 4) s (λ p q. lead-bounds (getD s 0 0) .most) (omega arith)
-
 -- what stands at the front is a character
 
 -- at most three bytes that passed their tests

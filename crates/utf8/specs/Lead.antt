@@ -25,7 +25,7 @@ leadOf b =
     else if eqb b 0xF4 then asks 4 0x80 0x8F
     else asks 0 0 0
 
--- are the bytes after the lead byte as it asks for them?
+-- whether the bytes after the lead byte are as it asks
 unfoldable pub wellFormed : Lead → List ℕ → Bool
 wellFormed l s =
     leb 1 (l .len)
@@ -45,6 +45,6 @@ utf8From more lo hi [] = eqb more 0
 utf8From zero lo hi (b ∷ s) = leb 1 (leadOf b .len) && utf8From (leadOf b .len - 1) (leadOf b .low) (leadOf b .high) s
 utf8From (suc k) lo hi (b ∷ s) = within lo hi b && utf8From k 0x80 0xBF s
 
--- is the text UTF-8?
+-- whether the text is UTF-8
 abbrev pub isUtf8 : List ℕ → Bool
 isUtf8 s = utf8From 0 0x80 0xBF s

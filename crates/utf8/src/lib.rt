@@ -73,7 +73,7 @@ pub fn char_len(s: &[u8]) -> usize
     n
 }
 
-// Are the eight bytes from `i` on ASCII? All are asked, so that the compiler makes one test of them.
+// Whether the eight bytes from `i` on are ASCII. All eight are looked at, so that the compiler makes one test of them.
 fn eight_ascii(s: &[u8], i: usize) -> bool
     requires { ⌜ i + 8 ≤ length (now s) ⌝ }
     ensures { λ r. ⌜ r ≡ (ltb (getD (now (s .entry)) i 0) 128 && ltb (getD (now (s .entry)) (i + 1) 0) 128 && ltb (getD (now (s .entry)) (i + 2) 0) 128 && ltb (getD (now (s .entry)) (i + 3) 0) 128 && ltb (getD (now (s .entry)) (i + 4) 0) 128 && ltb (getD (now (s .entry)) (i + 5) 0) 128 && ltb (getD (now (s .entry)) (i + 6) 0) 128 && ltb (getD (now (s .entry)) (i + 7) 0) 128) ⌝ }
@@ -104,7 +104,7 @@ fn ascii_front(s: &[u8]) -> usize
     i
 }
 
-// Is the text UTF-8? The front of ASCII, then a byte at a time; a byte of ASCII between characters asks for nothing more.
+// Whether the text is UTF-8: the ASCII at its front by eights, then a byte at a time. An ASCII byte between characters needs no further test.
 pub fn is_utf8(s: &[u8]) -> bool
     ensures { λ r. ⌜ r ≡ isUtf8 (now (s .entry)) ⌝ }
 {

@@ -7,7 +7,7 @@ use lib.ListN.{take, drop}
 use Rattle.base.specs.Choose.{if_then_else_}
 use Rattle.white.specs.White.{whiteLen}
 
--- are the `n` bytes before place `e` a white character?
+-- whether the `n` bytes before place `e` are a white character
 unfoldable pub endsWhite : List ℕ → ℕ → ℕ → Bool
 endsWhite s e n = leb n e && eqb (whiteLen (take n (drop (e - n) s))) n
 

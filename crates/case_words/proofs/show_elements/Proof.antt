@@ -4,10 +4,10 @@ use Rattle.case_words.proofs.show_elements.Statement.{statement}
 use Rattle.case_words.proofs.show_elements.Tie as tie
 
 abbrev Inv-loop : tie.InvT-loop
-Inv-loop line numbers first count next₀ i₀ t7 next i = (i ≤ count) × (count ≤ 64) × (next ≤ 100 + i * 2)
+Inv-loop line words first count next₀ i₀ t7 next i = (i ≤ count) × (count ≤ 64) × (next ≤ 100 + i * 2)
 
 abbrev μ-loop : tie.MeasureT-loop
-μ-loop line numbers first count next₀ i₀ t7 next i = count - i
+μ-loop line words first count next₀ i₀ t7 next i = count - i
 
 at-requires : tie.Need-at-requires Inv-loop μ-loop
 at-requires c κs = search needs

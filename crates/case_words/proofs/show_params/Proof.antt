@@ -4,10 +4,10 @@ use Rattle.case_words.proofs.show_params.Statement.{statement}
 use Rattle.case_words.proofs.show_params.Tie as tie
 
 abbrev Inv-loop : tie.InvT-loop
-Inv-loop line numbers first count next₀ i₀ t7 t8 t9 t10 next i = (i ≤ count) × (count ≤ 256) × (next ≤ 1000 + i * 5)
+Inv-loop line words first count next₀ i₀ t7 t8 t9 t10 next i = (i ≤ count) × (count ≤ 256) × (next ≤ 1000 + i * 5)
 
 abbrev μ-loop : tie.MeasureT-loop
-μ-loop line numbers first count next₀ i₀ t7 t8 t9 t10 next i = count - i
+μ-loop line words first count next₀ i₀ t7 t8 t9 t10 next i = count - i
 
 at-requires : tie.Need-at-requires Inv-loop μ-loop
 at-requires c κs = search needs

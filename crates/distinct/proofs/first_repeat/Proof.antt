@@ -1,7 +1,7 @@
 use borrow.Author.Needs.{needs}
 use Prim.Native.Nat.{_-_}
 use mathlib.Core.Path.{_≡_}
-use lib.ListN.{length, length-set}
+use lib.ListN.{length}
 use Rattle.distinct.proofs.Trees.{Placed, tree-laws}
 use Rattle.distinct.proofs.first_repeat.Statement.{statement}
 use Rattle.distinct.proofs.first_repeat.Tie as tie

@@ -88,7 +88,90 @@ module _ (w : World) where
 
   laid : Laid C.run w code.env Key.name 3 code.function derived
   laid κs qs a good pre bs =
-      ((λ ls. tt), λ gb. ((λ ls. tt), λ gs. (((a .0 .now, (a .1 .0 .now, (a .1 .1 .0 .now, (replicate 256 (gb .1), gs .1)))), refl, (refl, (refl, (refl, (length-replicate 256 (gb .1), (omega (arith, gs .5 .0), omega (arith, gs .5 .1))))))), λ vs inv. (tt, ((λ t. let l : 0 < vs .1 .1 .1 .1 .left = ltb-true 0 (vs .1 .1 .1 .1 .left) t in λ γ. (refl, λ γ′. (refl, ((λ ls. (inv .1 .1 .1 .1 .0, (inv .1 .1 .1 .1 .1, l))), λ g. (refl, λ k. (refl, λ k′. let u : g .1 .used ≤ length (g .2 .0) = omega (arith, g .5 .0, k′) in let c : g .1 .got ≤ length (g .2 .1 .0) = omega (arith, g .5 .1 .0, k) in ((λ h. (tt, (omega arith, λ γ″. ((refl, refl, omega arith, u), λ part. (ap (vint w64) (part .1), λ γ₂. (refl, λ γ₃. (ap (vint w64) (sym (inv .1 .1 .1 .0)), ((λ ls. tt), λ r. (refl, λ k₃. (refl, λ k₂. ((λ ls. tt), λ n. (n .1 .left, omega (arith, n .5 .1 .1, g .5 .1 .1), ((g .2 .0, (r .2 .1 .0, (g .2 .1 .0, (r .2 .1 .1 .0, n .1)))), refl, (k′ ∙ inv .0, (k₂ ∙ inv .1 .0, (k ∙ inv .1 .1 .0, (k₃, (omega (arith, n .5 .0), omega (arith, n .5 .1 .0, c)))))), refl))))))))))))), (λ h. (g .1 .left, g .5 .1 .1, ((g .2 .0, (vs .1 .0, (g .2 .1 .0, (vs .1 .1 .1 .0, g .1)))), refl, (k′ ∙ inv .0, (inv .1 .0, (k ∙ inv .1 .1 .0, (inv .1 .1 .1 .0, (u, c))))), refl)))))))))), (λ f. ((fix-len (a .0 .ptr) (a .0 .name) (vs .0) (a .0 .now) (inv .0), (fix-len (a .1 .0 .ptr) (a .1 .0 .name) (vs .1 .0) (a .1 .0 .now) (inv .1 .0), (fix-len (a .1 .1 .0 .ptr) (a .1 .1 .0 .name) (vs .1 .1 .0) (a .1 .1 .0 .now) (inv .1 .1 .0), tt))), tt)))))))
+      let line = a .0 in
+      let elements = a .1 .0 in
+      let chunk = a .1 .1 .0 in (
+        (λ ls. tt),
+        λ gb. (
+          (λ ls. tt),
+          λ gs. (
+            ((line .now, (elements .now, (chunk .now, (replicate 256 (gb .1), gs .1)))), refl, (refl, (refl, (refl, (length-replicate 256 (gb .1), (omega (arith, gs .5 .0), omega (arith, gs .5 .1))))))),
+            λ vs inv.
+                let s = vs .1 .1 .1 .1 in
+                let line-same = inv .0 in
+                let elements-same = inv .1 .0 in
+                let chunk-same = inv .1 .1 .0 in
+                let params-same = inv .1 .1 .1 .0 in (
+                  tt,
+                  (
+                    (λ t.
+                        let l : 0 < s .left = ltb-true 0 (s .left) t in
+                        λ γ. (
+                          refl,
+                          λ γ′. (
+                            refl,
+                            (
+                              (λ ls. (inv .1 .1 .1 .1 .0, (inv .1 .1 .1 .1 .1, l))),
+                              λ g. (
+                                refl,
+                                λ k. (
+                                  refl,
+                                  λ k′.
+                                      let line₁ = g .2 .0 in
+                                      let chunk₁ = g .2 .1 .0 in
+                                      let u : g .1 .used ≤ length line₁ = omega (arith, g .5 .0, k′) in
+                                      let c : g .1 .got ≤ length chunk₁ = omega (arith, g .5 .1 .0, k) in (
+                                        (λ h. (
+                                          tt,
+                                          (
+                                            omega arith,
+                                            λ γ″. (
+                                              (refl, refl, omega arith, u),
+                                              λ part. (
+                                                ap (vint w64) (part .1),
+                                                λ γ₂. (
+                                                  refl,
+                                                  λ γ₃. (
+                                                    ap (vint w64) (sym params-same),
+                                                    (
+                                                      (λ ls. tt),
+                                                      λ r. (
+                                                        refl,
+                                                        λ k₃. (
+                                                          refl,
+                                                          λ k₂. (
+                                                            (λ ls. tt),
+                                                            λ n.
+                                                                let used : n .1 .used ≤ length line₁ = omega (arith, n .5 .0) in
+                                                                let got : n .1 .got ≤ length chunk₁ = omega (arith, n .5 .1 .0, c) in
+                                                                (n .1 .left, omega (arith, n .5 .1 .1, g .5 .1 .1), ((line₁, (r .2 .1 .0, (chunk₁, (r .2 .1 .1 .0, n .1)))), refl, (k′ ∙ line-same, (k₂ ∙ elements-same, (k ∙ chunk-same, (k₃, (used, got))))), refl)),
+                                                          ),
+                                                        ),
+                                                      ),
+                                                    ),
+                                                  ),
+                                                ),
+                                              ),
+                                            ),
+                                          ),
+                                        )),
+                                        (λ h. (g .1 .left, g .5 .1 .1, ((line₁, (vs .1 .0, (chunk₁, (vs .1 .1 .1 .0, g .1)))), refl, (k′ ∙ line-same, (elements-same, (k ∙ chunk-same, (params-same, (u, c))))), refl))),
+                                      ),
+                                ),
+                              ),
+                            ),
+                          ),
+                        )),
+                    (λ f.
+                        let line-ends = fix-len (line .ptr) (line .name) (vs .0) (line .now) line-same in
+                        let elements-ends = fix-len (elements .ptr) (elements .name) (vs .1 .0) (elements .now) elements-same in
+                        let chunk-ends = fix-len (chunk .ptr) (chunk .name) (vs .1 .1 .0) (chunk .now) chunk-same in
+                        ((line-ends, (elements-ends, (chunk-ends, tt))), tt)),
+                  ),
+                ),
+          ),
+        ),
+      )
 
 pub run-spec : {M : Type 1} → stated.statement M
 unfolding code.routine tablesOf

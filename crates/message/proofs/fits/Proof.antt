@@ -53,8 +53,40 @@ module _ (w : World) where
       let elements = a .1 .1 .1 .1 .0 .now in
       let params = a .1 .1 .1 .1 .1 .0 .now in
       let n = a .1 .1 .1 .1 .1 .1 .0 in
-      let most : p ≤ length (rows params) = params-counted line r e p elements (rows params) (pre .1) in
-      ((λ ls. tt), λ g. (((g .1, 0), refl, measured-none n p (rows params) (g .1) (g .5)), λ vs inv. (tt, ((λ t. let l : vs .1 < p = ltb-true (vs .1) p t in let b : vs .1 < length params = omega (arith, rows-length params, most) in ((λ ls. b), λ x. let ex = ap rowOf (x .5) ∙ rows-get params (vs .1) b in ((λ ls. param-short line r e p elements (rows params) (pre .1) (pre .0) (vs .1) l (x .1) ex), λ d. (record { fits = omega (arith, good .1 .1 .1 .0) }, (p - (vs .1 + 1), omega arith, ((d .1, vs .1 + 1), refl, measured-on n p (rows params) (vs .0) most (vs .1) inv l (rowOf (x .1)) ex (d .1) (d .5), refl)))))), (λ f. let l : p ≤ vs .1 = ltb-false (vs .1) p f in ((λ ls. (pre .0, (record-suits line r e p elements (rows params) (pre .1), elements-counted line r e p elements (rows params) (pre .1)))), λ v. ((refl, (tt, (tt, (tt, (refl, (refl, (tt, tt))))))), fits-is line r e p elements (rows params) (pre .1) n (vs .0) (measured-all n p (rows params) (vs .0) most (vs .1) inv l) (v .1) (v .5))))))))
+      let table = rows params in
+      let ok = pre .1 in
+      let most : p ≤ length table = params-counted line r e p elements table ok in (
+        (λ ls. tt),
+        λ g. (
+          ((g .1, 0), refl, measured-none n p table (g .1) (g .5)),
+          λ vs inv.
+              let m = vs .0 in
+              let i = vs .1 in (
+                tt,
+                (
+                  (λ t.
+                      let l : i < p = ltb-true i p t in
+                      let b : i < length params = omega (arith, rows-length params, most) in (
+                        (λ ls. b),
+                        λ x.
+                            let ex = ap rowOf (x .5) ∙ rows-get params i b in (
+                              (λ ls. param-short line r e p elements table ok (pre .0) i l (x .1) ex),
+                              λ d.
+                                  let on = measured-on n p table m most i inv l (rowOf (x .1)) ex (d .1) (d .5) in
+                                  (record { fits = omega (arith, good .1 .1 .1 .0) }, (p - (i + 1), omega arith, ((d .1, i + 1), refl, on, refl))),
+                            ),
+                      )),
+                  (λ f.
+                      let l : p ≤ i = ltb-false i p f in (
+                        (λ ls. (pre .0, (record-suits line r e p elements table ok, elements-counted line r e p elements table ok))),
+                        λ v.
+                            let all = measured-all n p table m most i inv l in
+                            ((refl, (tt, (tt, (tt, (refl, (refl, (tt, tt))))))), fits-is line r e p elements table ok n m all (v .1) (v .5)),
+                      )),
+                ),
+              ),
+        ),
+      )
 
 pub fits-spec : {M : Type 1} → stated.statement M
 unfolding code.routine tablesOf

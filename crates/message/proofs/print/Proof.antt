@@ -73,8 +73,49 @@ module _ (w : World) where
       let p = a .1 .1 .1 .0 in
       let elements = a .1 .1 .1 .1 .0 .now in
       let params = rows (a .1 .1 .1 .1 .1 .0 .now) in
-      let o = a .1 .1 .1 .1 .1 .1 .0 in
-      ((λ ls. tt), λ g. ((λ t. ((λ ls. tt), λ v. ((refl, (tt, (tt, (tt, (refl, (refl, (refl, tt))))))), rw (v .5) (print-long line r e p elements params (o .now) (ltb-true lineLimit (length line) (sym (g .5) ∙ t)))))), (λ f. let l : length line ≤ lineLimit = ltb-false lineLimit (length line) (sym (g .5) ∙ f) in ((λ ls. tt), λ s. ((λ t. let y = sym (s .5) ∙ t in ((λ ls. (l, y)), λ b. ((λ u. let h = sym (b .5) ∙ u in λ γ. (refl, ((λ ls. (print-fits line r e p elements params (o .now) l y h, y)), λ d. (refl, λ k. ((λ ls. tt), λ v. ((refl, (tt, (tt, (tt, (refl, (refl, (fix-len (o .ptr) (o .name) (d .2 .0) (o .now) k, tt))))))), rw (v .5) (print-done line r e p elements params (o .now) l y h (d .1) (d .2 .0) (d .5)))))))), (λ u. ((λ ls. tt), λ v. ((refl, (tt, (tt, (tt, (refl, (refl, (refl, tt))))))), rw (v .5) (print-short line r e p elements params (o .now) l y (sym (b .5) ∙ u))))))), (λ z. ((λ ls. tt), λ v. ((refl, (tt, (tt, (tt, (refl, (refl, (refl, tt))))))), rw (v .5) (print-unsuited line r e p elements params (o .now) l (sym (s .5) ∙ z)))))))))))
+      let o = a .1 .1 .1 .1 .1 .1 .0 in (
+        (λ ls. tt),
+        λ g. (
+          (λ t.
+              let l = ltb-true lineLimit (length line) (sym (g .5) ∙ t) in
+              ((λ ls. tt), λ v. ((refl, (tt, (tt, (tt, (refl, (refl, (refl, tt))))))), rw (v .5) (print-long line r e p elements params (o .now) l)))),
+          (λ f.
+              let l : length line ≤ lineLimit = ltb-false lineLimit (length line) (sym (g .5) ∙ f) in (
+                (λ ls. tt),
+                λ s. (
+                  (λ t.
+                      let y = sym (s .5) ∙ t in (
+                        (λ ls. (l, y)),
+                        λ b. (
+                          (λ u.
+                              let h = sym (b .5) ∙ u in
+                              λ γ. (
+                                refl,
+                                (
+                                  (λ ls. (print-fits line r e p elements params (o .now) l y h, y)),
+                                  λ d. (
+                                    refl,
+                                    λ k. (
+                                      (λ ls. tt),
+                                      λ v.
+                                          let ends = fix-len (o .ptr) (o .name) (d .2 .0) (o .now) k in
+                                          ((refl, (tt, (tt, (tt, (refl, (refl, (ends, tt))))))), rw (v .5) (print-done line r e p elements params (o .now) l y h (d .1) (d .2 .0) (d .5))),
+                                    ),
+                                  ),
+                                ),
+                              )),
+                          (λ u.
+                              let h = sym (b .5) ∙ u in
+                              ((λ ls. tt), λ v. ((refl, (tt, (tt, (tt, (refl, (refl, (refl, tt))))))), rw (v .5) (print-short line r e p elements params (o .now) l y h)))),
+                        ),
+                      )),
+                  (λ z.
+                      let y = sym (s .5) ∙ z in
+                      ((λ ls. tt), λ v. ((refl, (tt, (tt, (tt, (refl, (refl, (refl, tt))))))), rw (v .5) (print-unsuited line r e p elements params (o .now) l y)))),
+                ),
+              )),
+        ),
+      )
 
 pub print-spec : {M : Type 1} → stated.statement M
 unfolding code.routine tablesOf

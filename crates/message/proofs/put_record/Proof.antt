@@ -63,11 +63,71 @@ module _ (w : World) where
       let p = a .1 .1 .1 .1 .0 in
       let elements = a .1 .1 .1 .1 .1 .0 .now in
       let params = a .1 .1 .1 .1 .1 .1 .0 .now in
-      let most : p ≤ length (rows params) = params-counted line r e p elements (rows params) (pre .1) in
-      let suited = record-suits line r e p elements (rows params) (pre .1) in
-      let fit = elements-counted line r e p elements (rows params) (pre .1) in
-      let ids = ids-suit line r e p elements (rows params) (pre .1) in
-      λ γ. (refl, ((λ ls. (before-fits line r e p elements (rows params) (pre .1) o (pre .0), (suited, (fit, ids)))), λ g. (refl, λ q. (((g .2 .0, (g .1, (0, 0))), refl, walk-start line r e p elements (rows params) (pre .1) o (pre .0) (g .1) (g .2 .0) (g .5)), λ vs inv. (tt, ((λ t. let l : vs .1 .1 .1 < p = ltb-true (vs .1 .1 .1) p t in let b : vs .1 .1 .1 < length params = omega (arith, rows-length params, most) in ((λ ls. b), λ x. λ β. let ex = ap rowOf (x .5) ∙ rows-get params (vs .1 .1 .1) b in (refl, ((λ ls. (turn-fits line r e p elements (rows params) (pre .1) (g .2 .0) (g .1) (vs .0) (vs .1 .0) (vs .1 .1 .0) (vs .1 .1 .1) inv l (x .1) ex, (fit, (ids, turn-suits line r e p elements (rows params) (pre .1) (g .2 .0) (g .1) (vs .0) (vs .1 .0) (vs .1 .1 .0) (vs .1 .1 .1) inv l (x .1) ex)))), λ d. (refl, λ k. (record { fits = omega (arith, good .1 .1 .1 .1 .0) }, (p - (vs .1 .1 .1 + 1), omega arith, ((d .2 .0, (d .1, (x .1 .element, vs .1 .1 .1 + 1))), refl, walk-on line r e p elements (rows params) (pre .1) (g .2 .0) (g .1) (vs .0) (vs .1 .0) (vs .1 .1 .0) (vs .1 .1 .1) inv l (x .1) ex (d .1) (d .2 .0) (d .5), refl)))))))), (λ f. let l : p ≤ vs .1 .1 .1 = ltb-false (vs .1 .1 .1) p f in λ β. (refl, ((λ ls. (behind-fits line r e p elements (rows params) (pre .1) (g .2 .0) (g .1) (vs .0) (vs .1 .0) (vs .1 .1 .0) (vs .1 .1 .1) inv l, (suited, (fit, (ids, inv .opened))))), λ v. (refl, λ k. ((fix-len (a .0 .ptr) (a .0 .name) (v .2 .0) o (k ∙ inv .midway .same ∙ q), (refl, (tt, (tt, (tt, (refl, (refl, tt))))))), walk-whole line r e p elements (rows params) (pre .1) o (pre .0) (g .1) (g .2 .0) (g .5) (v .1) (v .2 .0) (walk-end line r e p elements (rows params) (pre .1) (g .2 .0) (g .1) (vs .0) (vs .1 .0) (vs .1 .1 .0) (vs .1 .1 .1) inv l (v .1) (v .2 .0) (v .5)))))))))))))
+      let table = rows params in
+      let ok = pre .1 in
+      let most : p ≤ length table = params-counted line r e p elements table ok in
+      let suited = record-suits line r e p elements table ok in
+      let fit = elements-counted line r e p elements table ok in
+      let ids = ids-suit line r e p elements table ok in
+      λ γ. (
+        refl,
+        (
+          (λ ls. (before-fits line r e p elements table ok o (pre .0), (suited, (fit, ids)))),
+          λ g.
+              let from = g .1 in
+              let o₁ = g .2 .0 in (
+                refl,
+                λ q. (
+                  ((o₁, (from, (0, 0))), refl, walk-start line r e p elements table ok o (pre .0) from o₁ (g .5)),
+                  λ vs inv.
+                      let out = vs .0 in
+                      let n = vs .1 .0 in
+                      let k = vs .1 .1 .0 in
+                      let i = vs .1 .1 .1 in (
+                        tt,
+                        (
+                          (λ t.
+                              let l : i < p = ltb-true i p t in
+                              let b : i < length params = omega (arith, rows-length params, most) in (
+                                (λ ls. b),
+                                λ x. λ β.
+                                    let ex = ap rowOf (x .5) ∙ rows-get params i b in
+                                    let fits = turn-fits line r e p elements table ok o₁ from out n k i inv l (x .1) ex in
+                                    let suits = turn-suits line r e p elements table ok o₁ from out n k i inv l (x .1) ex in (
+                                      refl,
+                                      (
+                                        (λ ls. (fits, (fit, (ids, suits)))),
+                                        λ d. (
+                                          refl,
+                                          λ h.
+                                              let on = walk-on line r e p elements table ok o₁ from out n k i inv l (x .1) ex (d .1) (d .2 .0) (d .5) in
+                                              (record { fits = omega (arith, good .1 .1 .1 .1 .0) }, (p - (i + 1), omega arith, ((d .2 .0, (d .1, (x .1 .element, i + 1))), refl, on, refl))),
+                                        ),
+                                      ),
+                                    ),
+                              )),
+                          (λ f.
+                              let l : p ≤ i = ltb-false i p f in
+                              let fits = behind-fits line r e p elements table ok o₁ from out n k i inv l in
+                              λ β. (
+                                refl,
+                                (
+                                  (λ ls. (fits, (suited, (fit, (ids, inv .opened))))),
+                                  λ v. (
+                                    refl,
+                                    λ h.
+                                        let ends = fix-len (a .0 .ptr) (a .0 .name) (v .2 .0) o (h ∙ inv .midway .same ∙ q) in
+                                        let end = walk-end line r e p elements table ok o₁ from out n k i inv l (v .1) (v .2 .0) (v .5) in
+                                        ((ends, (refl, (tt, (tt, (tt, (refl, (refl, tt))))))), walk-whole line r e p elements table ok o (pre .0) from o₁ (g .5) (v .1) (v .2 .0) end),
+                                  ),
+                                ),
+                              )),
+                        ),
+                      ),
+                ),
+              ),
+        ),
+      )
 
 pub put-record-spec : {M : Type 1} → stated.statement M
 unfolding code.routine tablesOf
