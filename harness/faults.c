@@ -33,6 +33,8 @@ uint32_t khamdoriem_read_exact(const uint8_t *line, size_t line_len, uint32_t va
     case 8: if (line_len == 8192) n = 1; break;                                                         /* the length limit off by one */
     case 9: if (line_len > 8192 && variant > 2) n = 2; break;                                           /* refusals in another order */
     case 10: if (n == 4 && line_len == 0) n = 0; break;                                                 /* the empty line read */
+    case 22: if (n == 0 && !WORD(record, 0) && WORD(record, 23) && line[WORD(record, 22)] == '-') { WORD(record, 22)++; WORD(record, 23)--; } break; /* a hyphen lost */
+    case 23: if (n == 0 && WORD(record, 0) && !WORD(record, 24) && WORD(record, 23) && line[WORD(record, 22) - 2] == '-') { WORD(record, 22) -= 2; WORD(record, 23) += 2; } break; /* one kept in RFC 5424 */
     }
     return n;
 }

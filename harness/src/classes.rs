@@ -1,5 +1,7 @@
-//! The classes of docs/DIFFERENCES.md, a predicate each. D1 to D5 are of lines that the Rust reads and the port does not; D6 is of printing.
+//! The classes of docs/DIFFERENCES.md, a predicate each. D1 to D5 are of lines that the Rust reads and the port does not; D6 is of
+//! printing; D7 is of lines that both read, with another message.
 
+use crate::oracle::Answer;
 use syslog_loose::{Message, ProcId, Protocol};
 
 #[derive(Clone, Copy, Debug, PartialEq)]
@@ -16,9 +18,11 @@ pub enum Class {
     D5,
     /// A process id that parses as an i32 and is not written as that number is.
     D6,
+    /// RFC 3164: a hyphen where the structured data would stand, which the Rust takes and the port leaves to the message.
+    D7,
 }
 
-pub const CLASSES: usize = 6;
+pub const CLASSES: usize = 7;
 
 /// Seconds of 0000-01-01T00:00:00 and of 9999-12-31T23:59:59.
 pub const FIRST_SECOND: i64 = -62_167_219_200;
@@ -95,6 +99,21 @@ pub fn of_reading(text: &str, message: &Message<&str>) -> Option<Class> {
     } else {
         None
     }
+}
+
+/// D7, of a line and the Rust's reading of it: where the hyphen stands. `read` is the Rust's reading of another line by RFC 3164.
+///
+/// Such a hyphen stands before the blanks before the message. It may be a field's all the same: it is not exactly if with a second one put
+/// before it the Rust reads every field as it did, and the message from the second on.
+pub fn hyphen(text: &str, answer: &Answer, read: impl Fn(&str) -> Option<Answer>) -> Option<usize> {
+    if answer.words[0] != 0 || !answer.elements.is_empty() {
+        return None;
+    }
+    let at = text[..answer.words[22] as usize].trim_end_matches([' ', '\t']).strip_suffix('-')?.len();
+    let doubled = [&text[..at], "-", &text[at..]].concat();
+    let other = read(&doubled)?;
+    let from_second = other.words[22] == at as u64 + 1 && other.words[23] == text[at..].trim_end().len() as u64;
+    (from_second && other.elements.is_empty() && other.words[..22] == answer.words[..22]).then_some(at)
 }
 
 /// D6, of the process id's text and what the Rust made of it.

@@ -2,7 +2,7 @@
 //! several calls: with memory that fits, that is too short by one, of length 0, and longer; they are not counted as cases.
 
 use crate::abi::{self, Element, Given, Param, Reader, Settings, Written, RECORD, STRICT_RECORD, STRICT_WORDS, WORDS};
-use crate::classes::{self, CLASSES};
+use crate::classes::{self, Class, CLASSES};
 use crate::forge::Forged;
 use crate::lent::Lent;
 use crate::oracle::{self, Answer};
@@ -206,18 +206,21 @@ impl Desk {
         match message.filter(|_| class.is_none()) {
             Some(message) => {
                 self.counts.read += 1;
-                oracle::put_message(answer, text, &message);
+                oracle::put_message(answer, text, &oracle::with_hyphen(text, s, message).0);
             }
             None => answer.clear(4),
         }
         self.reading(Reader::Exact, line, s, answer)?;
         let message = if class.is_some() { oracle::whole(text) } else { oracle::fallback(text, s) };
+        let (message, hyphen) = oracle::with_hyphen(text, s, message);
         oracle::put_message(answer, text, &message);
         self.reading(Reader::Fallback, line, s, answer)?;
-        if let Some(class) = class {
+        if let Some(class) = class.or(hyphen) {
             self.counts.classes[class as usize] += 2;
         }
-        self.of_message(text, message, answer)
+        self.of_message(text, message, answer)?;
+        self.counts.classes[Class::D7 as usize] += hyphen.is_some() as u64;
+        Ok(())
     }
 
     /// Printing and lookup of what was read, against the Rust's message.

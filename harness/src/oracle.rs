@@ -78,6 +78,19 @@ pub fn class_of(text: &str, message: Option<&Message<&str>>) -> Option<Class> {
     message.and_then(|m| classes::of_reading(text, m))
 }
 
+/// The message that the port must read in the place of the Rust's, where both read the line: in class D7 it keeps its hyphen.
+pub fn with_hyphen<'a>(text: &'a str, s: Settings, mut message: Message<&'a str>) -> (Message<&'a str>, Option<Class>) {
+    let answer_of = |text: &str, message: &Message<&str>| {
+        let mut answer = Answer::default();
+        put_message(&mut answer, text, message);
+        answer
+    };
+    let read = |other: &str| exact(other, Settings { variant: 1, ..s }).map(|message| answer_of(other, &message));
+    let Some(at) = classes::hyphen(text, &answer_of(text, &message), read) else { return (message, None) };
+    message.msg = text[at..].trim_end();
+    (message, Some(Class::D7))
+}
+
 fn start(text: &str, part: &str) -> usize {
     let at = (part.as_ptr() as usize).wrapping_sub(text.as_ptr() as usize);
     assert!(at <= text.len() && part.len() <= text.len() - at, "the Rust gave a text outside the line");

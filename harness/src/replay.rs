@@ -1,5 +1,5 @@
 //! A list of cases with their answers, for a program that has no Rust beside it. Every answer is the Rust's or follows from docs/RULES.md; none
-//! is the archive's. Lines of the classes D1 to D6 are left out.
+//! is the archive's. Lines of the classes D1 to D6 are left out; a line of D7 has the message with its hyphen.
 //!
 //! One case a line, fields separated by one space, numbers decimal (signed ones as two's complement in 64 bits), bytes as hex, `-` for none:
 //!
@@ -272,6 +272,7 @@ impl List {
             oracle::put_message(answer, text, &whole);
             return self.reading(b'F', line, s, answer, None);
         };
+        let message = oracle::with_hyphen(text, s, message).0;
         oracle::put_message(answer, text, &message);
         self.reading(b'E', line, s, answer, Some((text, &message)));
         self.reading(b'F', line, s, answer, Some((text, &message)));

@@ -1,4 +1,5 @@
-//! The stored output of the program `cases` against the Rust: each exact or fallback case in the same words, from the Rust's message.
+//! The stored output of the program `cases` against the Rust: each exact or fallback case in the same words, from the Rust's message
+//! (in class D7 of docs/DIFFERENCES.md with its hyphen).
 //!
 //! A case is a line of the program's input: `E` or `F`, variant, year, offset, and the line that is read. A strict case (`S`) and a line that is refused
 //! before it is read have no answer of the Rust.
@@ -80,11 +81,11 @@ fn told(line: &str, message: &Message<&str>, printed: bool) -> Vec<u8> {
 fn answer(case: &Case<'_>) -> Option<Vec<u8>> {
     let text = oracle::admit(case.line, case.settings).ok()?;
     if case.fallback {
-        return Some(told(text, &oracle::fallback(text, case.settings), false));
+        return Some(told(text, &oracle::with_hyphen(text, case.settings, oracle::fallback(text, case.settings)).0, false));
     }
     Some(match oracle::exact(text, case.settings) {
         None => b"  refused 4\n".to_vec(),
-        Some(message) => told(text, &message, true),
+        Some(message) => told(text, &oracle::with_hyphen(text, case.settings, message).0, true),
     })
 }
 

@@ -61,8 +61,13 @@ fn rfc3164_elements_without_parameters_stay_in_the_message() {
 }
 
 #[test]
-fn rfc3164_dash_before_the_message_is_no_structured_data() {
-    assert_eq!(message("<13>Feb 5 10:01:02 h t: -5 ms"), Ok("5 ms".to_string()));
+fn rfc3164_hyphen_before_the_message_belongs_to_it() {
+    for text in ["-5 ms", "- ok", "-", "---", "-[a b=\"c\"] x"] {
+        assert_eq!(message(&format!("<13>Feb 5 10:01:02 h t: {text}")), Ok(text.to_string()));
+        assert_eq!(message(&format!("<13>Feb 5 10:01:02 h t:{text}")), Ok(text.to_string()));
+    }
+    assert_eq!(message("<13>1 - h a p m - -5 ms"), Ok("-5 ms".to_string()));
+    assert_eq!(message("<13>1 - h a p m -5 ms"), Ok("5 ms".to_string()));
 }
 
 #[test]

@@ -13,7 +13,7 @@ use Rattle.parsers.specs.Steps.{isBlank, isInside}
 use Rattle.structured_data.specs.Param.{paramAt}
 use Rattle.structured_data.specs.Element.{Params, Element, idLen, paramAnd, moreParams, paramsFrom, elementFrom}
 use Rattle.structured_data.specs.Element.Element.{noElement, isElement}
-use Rattle.structured_data.specs.Data.{Rows, endAt, Item, itemOf, itemAnd, itemFrom, elementsFrom, Data, dataFrom, rowsOr}
+use Rattle.structured_data.specs.Data.{Rows, endAt, Item, itemOf, itemAnd, itemFrom, elementsFrom, Data, hyphenAt, dataFrom, rowsOr}
 use Rattle.structured_data.specs.Data.Item.{taken, skipped, ended}
 use Rattle.structured_data.specs.declared.Param.{Param}
 use Rattle.structured_data.specs.declared.Param.the-variants.{NoParam, IsParam}
@@ -100,7 +100,7 @@ pub data-few : (rules : Rules) (s : List ℕ) (at : ℕ) → length s ≤ lineLi
 unfolding dataFrom
 data-few rules s at l =
     let m = elements-few rules 0 0 at (drop at s) (omega (arith, length-drop at s)) in
-    by-if (λ (d : Data). Few lineLimit (rowsOr at d)) (isAt s at 45) _ _ (λ q. none-few (at + 1)) (λ q.
+    by-if (λ (d : Data). Few lineLimit (rowsOr at d)) (hyphenAt rules s at) _ _ (λ q. none-few (at + 1)) (λ q.
     by-if (λ (d : Data). Few lineLimit (rowsOr at d)) (eqb (elementsFrom rules 0 0 at (drop at s) .next) at) _ _ (λ q. none-few at)
     (λ q. record { elements-to = omega (arith, m .elements-to, length-drop at s); params-to = omega (arith, m .params-to, length-drop at s) }))
 

@@ -72,7 +72,7 @@ p-cases =
     (refl and refl and refl and refl and refl and refl and tt)
     and (refl and refl and tt)
     and (refl and tt)
-    and (refl and tt)
+    and (refl and refl and tt)
     and (refl and tt)
     and (refl and tt)
     and (none-derived _ refl and refl and tt)

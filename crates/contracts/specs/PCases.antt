@@ -129,8 +129,10 @@ table =
     ∷ [])
     -- RFC 3164 `[x]` stays in the message
     ∷ (loose 1 (bytes "<13>Feb 5 10:01:02 h t: [x]") (reads (Set 1) (Set 5) (some "h") (some "t") "" "[x]") ∷ [])
-    -- RFC 3164 message text `-5 ms` reads as `5 ms`
-    ∷ (loose 1 (bytes "<13>Feb 5 10:01:02 h t: -5 ms") (reads (Set 1) (Set 5) (some "h") (some "t") "" "5 ms") ∷ [])
+    -- RFC 3164 message texts `-5 ms` and `- ok` keep the hyphen
+    ∷ (loose 1 (bytes "<13>Feb 5 10:01:02 h t: -5 ms") (reads (Set 1) (Set 5) (some "h") (some "t") "" "-5 ms")
+    ∷ loose 1 (bytes "<13>Feb 5 10:01:02 h t: - ok") (reads (Set 1) (Set 5) (some "h") (some "t") "" "- ok")
+    ∷ [])
     -- host `gate7`, tag `-`: both absent
     ∷ (loose 1 (bytes "<13>Feb 5 10:01:02 gate7 - m") (reads (Set 1) (Set 5) none none "" "m") ∷ [])
     -- at +60, `Feb 5 2023 10:01:02` prints 11:01:02+01:00

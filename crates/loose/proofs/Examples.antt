@@ -98,7 +98,7 @@ cases : (map read
     ≡ reading Rfc3164 (Set 1) (Set 5) (stamped 1675587662) (place 20 5) (place 26 6) (place 33 2) absent 38 6 38 [] [] 38
     ∷ reading Rfc3164 (Set 1) (Set 5) (stamped 1675587662) (place 22 5) (place 28 6) (place 35 2) absent 40 6 40 [] [] 40
     ∷ reading Rfc3164 (Set 23) (Set 7) (stamped 1675587662) (place 20 1) (place 22 1) absent absent 25 3 25 [] [] 25
-    ∷ reading Rfc3164 Unset (Set 0) (stamped 1675587662) (place 20 1) (place 22 1) absent absent 26 4 25 [] [] 26
+    ∷ reading Rfc3164 Unset (Set 0) (stamped 1675587662) (place 20 1) (place 22 1) absent absent 25 5 25 [] [] 25
     ∷ noReading
     ∷ reading Rfc3164 Unset Unset (stamped 1675587662) absent absent absent absent 23 1 23 [] [] 23
     ∷ reading Rfc3164 Unset Unset (stamped 1675591262) (place 20 1) (place 22 1) absent absent 25 1 25 [] [] 25

@@ -3,6 +3,7 @@ pub mod Hosts
 pub mod Spaced
 pub mod Lines
 pub mod TagAlone
+pub mod Hyphen
 pub mod ByCharacters
 pub mod Within
 pub mod Examples

@@ -9,9 +9,9 @@ use lib.ListN.{length, length-append}
 use mir.Syntax.{w64}
 use mir.Val.{Fits}
 use borrow.Author.Tests.{eq-eqb, ne-eqb}
-use Rattle.base.specs.Choose.{if_then_else_, isAt}
+use Rattle.base.specs.Choose.{if_then_else_}
 use Rattle.base.proofs.Parts.{at-below}
-use Rattle.structured_data.specs.Data.{Rows, endAt, dataFrom}
+use Rattle.structured_data.specs.Data.{Rows, endAt, hyphenAt, dataFrom}
 use Rattle.structured_data.specs.Data.Data.{noData, isData}
 use Rattle.structured_data.specs.Tables.{countsOf}
 use Rattle.structured_data.specs.Steps.{openFrom, Ends, Dead, Closes, Turns}
@@ -21,6 +21,7 @@ use Rattle.structured_data.specs.declared.Walk.{Walk}
 use Rattle.structured_data.specs.declared.Turn.{Turn}
 use Rattle.structured_data.specs.declared.Counts.{Counts}
 use Rattle.structured_data.specs.declared.Counts.the-variants.{NoData, IsData}
+use Rattle.structured_data.proofs.Hyphen.{hyphen-there}
 use Rattle.structured_data.proofs.Lists.{left, paramRows, Follows, follows}
 use Rattle.structured_data.proofs.Turning.{dead-none, stops-there}
 
@@ -34,14 +35,14 @@ module _ (at e p next : ℕ) where
 
 pub ruleset counts-laws = (counts-none, counts-some)
 
--- The line has `-` there
-module _ (rules : Rules) (s : List ℕ) (at : ℕ) (d : Bool) (ed : d ≡ isAt s at 45) (hd : d ≡ true) where
+-- There is a hyphen that says so
+module _ (rules : Rules) (s : List ℕ) (at : ℕ) (d : Bool) (ed : d ≡ hyphenAt rules s at) (hd : d ≡ true) where
   pub data-dash : IsData 0 0 (at + 1) ≡ countsOf (dataFrom rules s at)
   unfolding dataFrom
   data-dash = rw (← ed, hd)
 
   pub dash-fits : length s < 2 ^ 64 → Fits w64 (at + 1)
-  dash-fits l = record { fits = omega (arith, at-below s at 44 (sym ed ∙ hd)) }
+  dash-fits l = record { fits = omega (arith, at-below s at 44 (hyphen-there rules s at (sym ed ∙ hd))) }
 
 -- What `turn_from` requires
 pub closes : (s : List ℕ) (i dead : ℕ) (o : Open) → o ≡ openFrom s i → (w : Walk) → Ends s (o .start) w → Dead s i dead → Closes s i (o .id) w dead
@@ -132,7 +133,7 @@ module _ (rules : Rules) (s : List ℕ) (at e p i : ℕ) (c : Counted rules s at
     ended r z (Follows.skips next q h l f) = absurd (omega (arith, z, ap (λ (r : Turn). r .next) q))
     ended r z (Follows.takes next q h l f) = absurd (omega (arith, z, ap (λ (r : Turn). r .next) q))
 
-    pub counted-all : (d : Bool) → d ≡ isAt s at 45 → d ≡ false → r .next ≡ i
+    pub counted-all : (d : Bool) → d ≡ hyphenAt rules s at → d ≡ false → r .next ≡ i
         → (x : Counts) → x ≡ (if eqb i at then NoData else IsData e p i)
         → x ≡ countsOf (dataFrom rules s at)
     unfolding dataFrom

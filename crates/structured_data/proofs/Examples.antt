@@ -36,7 +36,8 @@ none : map by5424 (bytes "-" ∷ bytes "--" ∷ bytes "" ∷ bytes "x" ∷ bytes
 unfolding dataFrom elementsFrom itemFrom elementFrom paramsFrom moreParams paramAt quotedLen idLen run whiteLen isWhite codePoint charLen wellFormed leadOf
 none = refl
 
-none-3164 : map by3164 (bytes "-5 ms" ∷ bytes "" ∷ bytes "x" ∷ []) ≡ found [] [] 1 ∷ noData ∷ noData ∷ []
+-- but a hyphen of an RFC 3164 line is the message's, also before an element
+none-3164 : map by3164 (bytes "-5 ms" ∷ bytes "- ok" ∷ bytes "-" ∷ bytes "-[a b=\"c\"]" ∷ bytes "" ∷ bytes "x" ∷ []) ≡ noData ∷ noData ∷ noData ∷ noData ∷ noData ∷ noData ∷ []
 unfolding dataFrom elementsFrom itemFrom elementFrom paramsFrom moreParams paramAt quotedLen idLen run whiteLen isWhite codePoint charLen wellFormed leadOf
 none-3164 = refl
 

@@ -15,7 +15,7 @@ use borrow.Author.Tests.{eqb-true, ne-eqb}
 use Rattle.base.specs.Choose.{if_then_else_, isAt}
 use Rattle.base.proofs.Tests.{by-test}
 use Rattle.structured_data.specs.Element.{paramsFrom}
-use Rattle.structured_data.specs.Data.{Rows, endAt, dataFrom, rowsOr}
+use Rattle.structured_data.specs.Data.{Rows, endAt, hyphenAt, dataFrom, rowsOr}
 use Rattle.structured_data.specs.Data.Data.{noData, isData}
 use Rattle.structured_data.specs.Tables.{Room, Fills}
 use Rattle.structured_data.specs.Steps.{walkFrom, openFrom, endsList, Ends, Dead, Stop, Turns, Holds, Stores}
@@ -27,6 +27,7 @@ use Rattle.structured_data.proofs.Tables.{sets-append, sets-over, sets-
 use Rattle.structured_data.proofs.Elements.{opens}
 use Rattle.structured_data.proofs.Walks.{params-reach}
 use Rattle.structured_data.proofs.Items.{and-false}
+use Rattle.structured_data.proofs.Hyphen.{hyphen-there}
 use Rattle.structured_data.proofs.Lists.{left, paramRows, over, Follows, follows, ordered, unopened}
 use Rattle.structured_data.proofs.Turning.{dead-none, stops-there, turn-taken, taken-closes}
 use Rattle.structured_data.proofs.Counting.{closes}
@@ -43,9 +44,9 @@ pub record Listed (rules : Rules) (s : List ℕ) (at : ℕ) (rows : Rows) : Type
 pub listed : (rules : Rules) (s : List ℕ) (at : ℕ) → Listed rules s at (rowsOr at (dataFrom rules s at))
 unfolding dataFrom
 listed rules s at =
-    by-test (λ b. Listed rules s at (rowsOr at (if b then isData (endAt (at + 1)) else if eqb (all .next) at then noData else isData all))) (isAt s at 45)
+    by-test (λ b. Listed rules s at (rowsOr at (if b then isData (endAt (at + 1)) else if eqb (all .next) at then noData else isData all))) (hyphenAt rules s at)
     (λ h.
-    let u = unopened rules s 0 at (rw (eqb-true (getD s at 0) 45 h)) in
+    let u = unopened rules s 0 at (rw (eqb-true (getD s at 0) 45 (hyphen-there rules s at h))) in
     record { elements = sym (ap (λ (x : Rows). x .elements) u); params = sym (ap (λ (x : Rows). x .params) u) })
     (λ h. by-test (λ b. Listed rules s at (rowsOr at (if b then noData else isData all))) (eqb (all .next) at)
     (λ q.

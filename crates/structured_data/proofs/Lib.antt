@@ -7,6 +7,7 @@ pub mod Entries
 pub mod Elements
 pub mod Items
 pub mod Lists
+pub mod Hyphen
 pub mod Turning
 pub mod Counting
 pub mod Filling

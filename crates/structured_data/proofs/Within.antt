@@ -5,16 +5,16 @@ use mathlib.Core.List.{List, [], _∷_}
 use native.Mathlib.Omega.{arith}
 use lib.Dec.{eqb}
 use lib.ListN.{length, drop, length-drop}
-use Rattle.base.specs.Choose.{isAt}
 use Rattle.base.proofs.Parts.{at-below}
 use Rattle.base.proofs.Tests.{by-if}
-use Rattle.structured_data.specs.Data.{Rows, Item, itemAnd, itemFrom, elementsFrom, Data, dataFrom}
+use Rattle.structured_data.specs.Data.{Rows, Item, itemAnd, itemFrom, elementsFrom, Data, hyphenAt, dataFrom}
 use Rattle.structured_data.specs.Data.Item.{taken, skipped, ended}
 use Rattle.structured_data.specs.Data.Data.{noData, isData}
 use Rattle.structured_data.specs.Tables.{countsOf}
 use Rattle.structured_data.specs.declared.Rules.{Rules}
 use Rattle.structured_data.specs.declared.Counts.{Counts}
 use Rattle.structured_data.specs.declared.Counts.the-variants.{IsData}
+use Rattle.structured_data.proofs.Hyphen.{hyphen-there}
 
 item-within : (e at n : ℕ) (i : Item) (more : ℕ → ℕ → Rows) → at ≤ n → ((f next : ℕ) → more f next .next ≤ n) → itemAnd e at i more .next ≤ n
 item-within e at n (taken row params next) more h m = m (e + 1) next
@@ -36,7 +36,7 @@ DataIn n (isData rows) = rows .next ≤ n
 pub data-in : (rules : Rules) (s : List ℕ) (at : ℕ) → at ≤ length s → DataIn (length s) (dataFrom rules s at)
 unfolding dataFrom
 data-in rules s at h =
-    by-if (DataIn (length s)) (isAt s at 45) _ _ (λ d. omega (arith, at-below s at 44 d))
+    by-if (DataIn (length s)) (hyphenAt rules s at) _ _ (λ d. omega (arith, at-below s at 44 (hyphen-there rules s at d)))
     (λ d. by-if (DataIn (length s)) (eqb (elementsFrom rules 0 0 at (drop at s) .next) at) _ _ (λ q. tt)
     (λ q. omega (arith, elements-within rules 0 0 at (drop at s), length-drop at s)))
 

@@ -1,7 +1,7 @@
--- structured_data.rs: `-`, or one or more elements; by the rules of RFC 5424 lines, or of RFC 3164 lines.
+-- structured_data.rs: one or more elements, or in RFC 5424 `-`; by the rules of RFC 5424 lines, or of RFC 3164 lines.
 use Prim.Native.Nat.{ℕ, zero, suc, _+_, _-_}
 use mathlib.Core.List.{List, [], _∷_, _++_}
-use mathlib.Core.Bool.{_&&_}
+use mathlib.Core.Bool.{Bool, false, _&&_}
 use lib.Dec.{leb, eqb}
 use lib.ListN.{length, drop}
 use Rattle.base.specs.Choose.{if_then_else_, isAt}
@@ -64,10 +64,15 @@ pub data Data : Type 0 where
   noData : Data
   isData : Rows → Data
 
+-- RFC 5424: `-` says that there are no elements. RFC 3164: a hyphen there belongs to the message.
+abbrev pub hyphenAt : Rules → List ℕ → ℕ → Bool
+hyphenAt Rfc5424Rules s at = isAt s at 45
+hyphenAt Rfc3164Rules s at = false
+
 unfoldable pub dataFrom : Rules → List ℕ → ℕ → Data
 dataFrom rules s at =
     let rows = elementsFrom rules 0 0 at (drop at s) in
-    if isAt s at 45 then isData (endAt (at + 1))
+    if hyphenAt rules s at then isData (endAt (at + 1))
     else if eqb (rows .next) at then noData
     else isData rows
 

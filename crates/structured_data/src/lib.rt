@@ -12,12 +12,12 @@ ghost use Rattle.record.specs.Params.{rows};
 ghost use Rattle.structured_data.specs.Param.{isNamed, quotedLen, paramAt};
 ghost use Rattle.structured_data.specs.Element.{idLen};
 ghost use Rattle.structured_data.specs.Element.Element.{noElement};
-ghost use Rattle.structured_data.specs.Data.{itemOf, dataFrom};
+ghost use Rattle.structured_data.specs.Data.{itemOf, hyphenAt, dataFrom};
 ghost use Rattle.structured_data.specs.Tables.{countsOf, Room, Fills};
 ghost use Rattle.structured_data.specs.declared.Counts.the-variants.{NoData, IsData};
 ghost use Rattle.structured_data.specs.Steps.{valueEnd, entryOf, Stops, Ends, Holds, Stores, openFrom, endsList, turnOf, Stop, Closes, Turns};
 
-// Which lines the rules are of: they differ in what follows an element that fails or has no parameters.
+// Which lines the rules are of: they differ in a hyphen, and in what follows an element that fails or has no parameters.
 pub enum Rules {
     Rfc3164Rules,
     Rfc5424Rules,
@@ -396,11 +396,21 @@ fn counts_at(at: usize, elements: usize, params: usize, next: usize) -> Counts
     }
 }
 
+// RFC 5424: `-` says that there are no elements. RFC 3164: a hyphen there belongs to the message.
+fn hyphen_at(rules: Rules, s: &[u8], at: usize) -> bool
+    ensures { λ r. ⌜ r ≡ hyphenAt rules (now (s .entry)) at ⌝ }
+{
+    match rules {
+        Rules::Rfc3164Rules => false,
+        Rules::Rfc5424Rules => base::is_at(s, at, b'-'),
+    }
+}
+
 // The structured data at `at`: its counts, and the position after it.
 pub fn count_data(rules: Rules, s: &[u8], at: usize) -> Counts
     ensures { λ r. ⌜ r ≡ countsOf (dataFrom rules (now (s .entry)) at) ⌝ }
 {
-    if base::is_at(s, at, b'-') {
+    if hyphen_at(rules, s, at) {
         return Counts::IsData {
             elements: 0,
             params: 0,

@@ -15,7 +15,7 @@ use Rattle.parsers.specs.Steps.{isBlank, isInside}
 use Rattle.structured_data.specs.Param.{paramAt}
 use Rattle.structured_data.specs.Element.{Params, Element, idLen, paramAnd, moreParams, paramsFrom, elementFrom}
 use Rattle.structured_data.specs.Element.Element.{noElement, isElement}
-use Rattle.structured_data.specs.Data.{Rows, Item, itemOf, itemFrom, itemAnd, elementsFrom, Data, dataFrom, rowsOr}
+use Rattle.structured_data.specs.Data.{Rows, Item, itemOf, itemFrom, itemAnd, elementsFrom, Data, hyphenAt, dataFrom, rowsOr}
 use Rattle.structured_data.specs.Data.Item.{taken, skipped, ended}
 use Rattle.structured_data.specs.declared.Param.{Param}
 use Rattle.structured_data.specs.declared.Param.the-variants.{NoParam, IsParam}
@@ -103,6 +103,6 @@ module _ (line : List ℕ) where
   pub data-in : (rules : Rules) (s : List ℕ) (at : ℕ) → at ≤ length s → length s ≤ length line → Suit 0 (rowsOr at (dataFrom rules s at))
   unfolding dataFrom
   data-in rules s at h l =
-      by-if (λ (d : Data). Suit 0 (rowsOr at d)) (isAt s at 45) _ _ (λ q. rows-none) (λ q.
+      by-if (λ (d : Data). Suit 0 (rowsOr at d)) (hyphenAt rules s at) _ _ (λ q. rows-none) (λ q.
       by-if (λ (d : Data). Suit 0 (rowsOr at d)) (eqb (elementsFrom rules 0 0 at (drop at s) .next) at) _ _ (λ q. rows-none)
       (λ q. elements-in rules 0 0 at (drop at s) (omega (arith, length-drop at s))))

@@ -16,7 +16,7 @@ use Rattle.parsers.specs.Steps.{isBlank, blanksFrom}
 use Rattle.structured_data.specs.Param.{isNamed, quotedLen, paramAt}
 use Rattle.structured_data.specs.Element.{Params, Element, idLen, paramAnd, moreParams, paramsFrom, elementFrom}
 use Rattle.structured_data.specs.Element.Element.{noElement, isElement}
-use Rattle.structured_data.specs.Data.{Rows, Item, itemOf, itemFrom, itemAnd, elementsFrom, Data, dataFrom, rowsOr}
+use Rattle.structured_data.specs.Data.{Rows, Item, itemOf, itemFrom, itemAnd, elementsFrom, Data, hyphenAt, dataFrom, rowsOr}
 use Rattle.structured_data.specs.Data.Item.{taken, skipped, ended}
 use Rattle.structured_data.specs.Data.Data.{noData, isData}
 use Rattle.parsers.specs.Steps.{isInside}
@@ -29,6 +29,7 @@ use Rattle.structured_data.proofs.Ids.{id-le}
 use Rattle.structured_data.proofs.Params.{at-part}
 use Rattle.structured_data.proofs.Walks.{params-reach}
 use Rattle.structured_data.proofs.Elements.{elementOf, element-is}
+use Rattle.structured_data.proofs.Hyphen.{hyphen-there}
 use Rattle.structured_data.proofs.ByCharacters.{id-cuts}
 use Rattle.texts.proofs.Cuts.{Cut, Between, walk-on, blanks-on, after}
 use Rattle.texts.proofs.Steps.{before-part, after-part}
@@ -192,7 +193,7 @@ module _ (s : List ℕ) (u : isUtf8 s ≡ true) where
   unfolding dataFrom
   data-cut rules at c =
       let z : at + 0 ≡ at = omega arith in
-      by-if DataCut (isAt s at 45) _ _ (λ h. record { ids = tt; params = tt; to = after s u at 45 refl h }) λ h.
+      by-if DataCut (hyphenAt rules s at) _ _ (λ h. record { ids = tt; params = tt; to = after s u at 45 refl (hyphen-there rules s at h) }) λ h.
       by-if DataCut (eqb (elementsFrom rules 0 0 at (drop at s) .next) at) _ _ (λ q. tt) λ q.
       elements-cut rules 0 0 at (drop at s) refl (rw z c)
 

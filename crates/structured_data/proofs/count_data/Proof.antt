@@ -12,8 +12,8 @@ Inv-loop rules s at elements₀ params₀ i₀ dead₀ elements params i dead = 
 abbrev μ-loop : tie.MeasureT-loop
 μ-loop rules s at elements₀ params₀ i₀ dead₀ elements params i dead = length s - i
 
-is-at-requires : tie.Need-is-at-requires Inv-loop μ-loop
-is-at-requires c κs = search (count-laws, needs)
+hyphen-at-requires : tie.Need-hyphen-at-requires Inv-loop μ-loop
+hyphen-at-requires c κs = search (count-laws, needs)
 
 add-t14 : tie.Need-add-t14 Inv-loop μ-loop
 add-t14 c = search (count-laws, needs)
@@ -60,7 +60,7 @@ count-data-spec =
     (tie.spec
     Inv-loop
     μ-loop
-    is-at-requires
+    hyphen-at-requires
     add-t14
     returns
     loop-holds
