@@ -5,9 +5,9 @@
 
 #define WORD(record, at) (((uint64_t *)(record))[at])
 
-uint32_t right_read_exact(const uint8_t *, size_t, uint32_t, uint32_t, int32_t, khamdoriem_element *, size_t, khamdoriem_param *, size_t, uint8_t *, size_t);
-uint32_t right_read_fallback(const uint8_t *, size_t, uint32_t, uint32_t, int32_t, khamdoriem_element *, size_t, khamdoriem_param *, size_t, uint8_t *, size_t);
-uint32_t right_read_strict(const uint8_t *, size_t, khamdoriem_element *, size_t, khamdoriem_param *, size_t, uint8_t *, size_t);
+struct khamdoriem_read right_read_loose(const uint8_t *, size_t, uint32_t, uint32_t, int32_t, khamdoriem_element *, size_t, khamdoriem_param *, size_t,
+                                        uint8_t *, size_t);
+struct khamdoriem_read right_read_strict(const uint8_t *, size_t, khamdoriem_element *, size_t, khamdoriem_param *, size_t, uint8_t *, size_t);
 struct khamdoriem_written right_print(const uint8_t *, size_t, const uint8_t *, size_t, const khamdoriem_element *, size_t, const khamdoriem_param *, size_t,
                                       uint8_t *, size_t);
 struct khamdoriem_written right_lookup(const uint8_t *, size_t, const uint8_t *, size_t, const khamdoriem_element *, size_t, const khamdoriem_param *, size_t,
@@ -19,44 +19,48 @@ static int fault(void) {
     return number;
 }
 
-uint32_t khamdoriem_read_exact(const uint8_t *line, size_t line_len, uint32_t variant, uint32_t year, int32_t offset, khamdoriem_element *elements,
-                               size_t elements_len, khamdoriem_param *params, size_t params_len, uint8_t *record, size_t record_len) {
-    uint32_t n = right_read_exact(line, line_len, variant, year, offset, elements, elements_len, params, params_len, record, record_len);
+/* Is nothing set in the record but the message, as where the whole line is the message? */
+static int message_alone(const uint8_t *record) {
+    return !(WORD(record, 0) | WORD(record, 2) | WORD(record, 4) | WORD(record, 6) | WORD(record, 10) | WORD(record, 13) | WORD(record, 24));
+}
+
+struct khamdoriem_read khamdoriem_read_loose(const uint8_t *line, size_t line_len, uint32_t variant, uint32_t year, int32_t offset,
+                                             khamdoriem_element *elements, size_t elements_len, khamdoriem_param *params, size_t params_len,
+                                             uint8_t *record, size_t record_len) {
+    struct khamdoriem_read a = right_read_loose(line, line_len, variant, year, offset, elements, elements_len, params, params_len, record, record_len);
+    uint32_t n = a.number;
     switch (fault()) {
     case 1: if (n == 5 && elements_len) elements[0][0] = 0; break;                                      /* a refused call fills a table */
     case 2: if (n == 0 && record_len > 208) record[208] = 0; break;                                     /* a byte past the record */
     case 3: if (n == 0 && WORD(record, 25) > 2 && params_len > WORD(record, 25)) params[WORD(record, 25)][4] = 0; break; /* an entry past the count */
     case 4: if (n == 0 && WORD(record, 8) == 123456789) WORD(record, 8)--; break;                       /* a nanosecond lost */
-    case 5: if (n == 6) n = 5; break;                                                                   /* the wrong table named */
+    case 5: if (n == 6) a.number = 5; break;                                                            /* the wrong table named */
     case 6: if (n == 0 && WORD(record, 23) == 0) WORD(record, 22) = 0; break;                           /* an empty message at the line's start */
     case 7: if (n == 0 && WORD(record, 25) == 2 && params[1][4] == 0) params[1][3] = 0; break;          /* an empty value at the line's start */
-    case 8: if (line_len == 8192) n = 1; break;                                                         /* the length limit off by one */
-    case 9: if (line_len > 8192 && variant > 2) n = 2; break;                                           /* refusals in another order */
-    case 10: if (n == 4 && line_len == 0) n = 0; break;                                                 /* the empty line read */
+    case 8: if (line_len == 8192) a.number = 1; break;                                                  /* the length limit off by one */
+    case 9: if (line_len > 8192 && variant > 2) a.number = 2; break;                                    /* refusals in another order */
+    case 10: if (line_len == 0) a.whole = 0; break;                                                     /* the empty line has a reading */
+    case 11: if (n == 3) a.number = 4; break;                                                           /* another number */
+    case 12: if (n == 8 && record_len) record[0] = 0; break;                                            /* a refused call writes the record */
     case 22: if (n == 0 && !WORD(record, 0) && WORD(record, 23) && line[WORD(record, 22)] == '-') { WORD(record, 22)++; WORD(record, 23)--; } break; /* a hyphen lost */
     case 23: if (n == 0 && WORD(record, 0) && !WORD(record, 24) && WORD(record, 23) && line[WORD(record, 22) - 2] == '-') { WORD(record, 22) -= 2; WORD(record, 23) += 2; } break; /* one kept in RFC 5424 */
+    case 24: if (line_len && variant == 2) a.whole = 0; break;                                          /* a whole line answered as a reading */
+    case 25: if (n == 0 && message_alone(record)) a.whole = 1; break;                                   /* a reading answered as a whole line */
+    case 26: if (n == 0 && a.whole && line_len == 1) a.number = 4; break;                               /* a whole line refused */
+    case 27: if (n == 0 && a.whole && line_len && line[line_len - 1] == ' ') WORD(record, 23)--; break; /* a whole line trimmed */
+    case 28: if (n == 3) a.reach = line_len; break;                                                     /* a length beside a refusal */
     }
-    return n;
+    return a;
 }
 
-uint32_t khamdoriem_read_fallback(const uint8_t *line, size_t line_len, uint32_t variant, uint32_t year, int32_t offset, khamdoriem_element *elements,
-                                  size_t elements_len, khamdoriem_param *params, size_t params_len, uint8_t *record, size_t record_len) {
-    uint32_t n = right_read_fallback(line, line_len, variant, year, offset, elements, elements_len, params, params_len, record, record_len);
+struct khamdoriem_read khamdoriem_read_strict(const uint8_t *line, size_t line_len, khamdoriem_element *elements, size_t elements_len,
+                                              khamdoriem_param *params, size_t params_len, uint8_t *record, size_t record_len) {
+    struct khamdoriem_read a = right_read_strict(line, line_len, elements, elements_len, params, params_len, record, record_len);
     switch (fault()) {
-    case 11: if (n == 3) n = 4; break;                              /* another number */
-    case 12: if (n == 8 && record_len) record[0] = 0; break;        /* a refused call writes the record */
+    case 13: if (a.number == 0 && WORD(record, 12) == 255) a.number = 4; break;             /* the host's limit off by one */
+    case 14: if (a.number == 0 && WORD(record, 29) && WORD(record, 23) == 0) WORD(record, 29) = 0; break; /* an empty message taken for none */
     }
-    return n;
-}
-
-uint32_t khamdoriem_read_strict(const uint8_t *line, size_t line_len, khamdoriem_element *elements, size_t elements_len, khamdoriem_param *params,
-                                size_t params_len, uint8_t *record, size_t record_len) {
-    uint32_t n = right_read_strict(line, line_len, elements, elements_len, params, params_len, record, record_len);
-    switch (fault()) {
-    case 13: if (n == 0 && WORD(record, 12) == 255) n = 4; break;                           /* the host's limit off by one */
-    case 14: if (n == 0 && WORD(record, 29) && WORD(record, 23) == 0) WORD(record, 29) = 0; break; /* an empty message taken for none */
-    }
-    return n;
+    return a;
 }
 
 struct khamdoriem_written khamdoriem_print(const uint8_t *line, size_t line_len, const uint8_t *record, size_t record_len, const khamdoriem_element *elements,

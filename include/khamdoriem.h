@@ -11,7 +11,7 @@
 extern "C" {
 #endif
 
-/* Bytes of a record's layout: from the loose readers, and from the strict one. */
+/* Bytes of a record's layout: from the loose reader, and from the strict one. */
 #define KHAMDORIEM_RECORD 208
 #define KHAMDORIEM_STRICT_RECORD 240
 
@@ -21,22 +21,26 @@ typedef size_t khamdoriem_element[2];
 /* The number of a parameter's element, the place of its name and the place of its value. */
 typedef size_t khamdoriem_param[5];
 
+/* What a reader answers. number is 0 where the record is laid out, else that of the refusal. whole is 1 where a loose line has no reading, so that
+   the record is the message alone, which is the whole line; else it is 0. reach is 0. */
+struct khamdoriem_read {
+    uint32_t number;
+    uint32_t whole;
+    size_t reach;
+};
+
 /* What printing and lookup answer: 0 and the length of the result, or the number of a refusal and 0. */
 struct khamdoriem_written {
     uint32_t number;
     size_t len;
 };
 
-uint32_t khamdoriem_read_exact(const uint8_t *line, size_t line_len, uint32_t variant, uint32_t year, int32_t offset,
-                               khamdoriem_element *elements, size_t elements_len, khamdoriem_param *params, size_t params_len,
-                               uint8_t *record, size_t record_len);
+struct khamdoriem_read khamdoriem_read_loose(const uint8_t *line, size_t line_len, uint32_t variant, uint32_t year, int32_t offset,
+                                             khamdoriem_element *elements, size_t elements_len, khamdoriem_param *params, size_t params_len,
+                                             uint8_t *record, size_t record_len);
 
-uint32_t khamdoriem_read_fallback(const uint8_t *line, size_t line_len, uint32_t variant, uint32_t year, int32_t offset,
-                                  khamdoriem_element *elements, size_t elements_len, khamdoriem_param *params, size_t params_len,
-                                  uint8_t *record, size_t record_len);
-
-uint32_t khamdoriem_read_strict(const uint8_t *line, size_t line_len, khamdoriem_element *elements, size_t elements_len,
-                                khamdoriem_param *params, size_t params_len, uint8_t *record, size_t record_len);
+struct khamdoriem_read khamdoriem_read_strict(const uint8_t *line, size_t line_len, khamdoriem_element *elements, size_t elements_len,
+                                              khamdoriem_param *params, size_t params_len, uint8_t *record, size_t record_len);
 
 struct khamdoriem_written khamdoriem_print(const uint8_t *line, size_t line_len, const uint8_t *record, size_t record_len,
                                            const khamdoriem_element *elements, size_t elements_len,

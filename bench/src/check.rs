@@ -12,14 +12,16 @@ const PARAMS: usize = 25;
 
 /// Whether the line has a reading, if the Rust and ours agree on it.
 fn agreed(line: &str, variant: u32, lent: &mut Lent) -> Result<bool, String> {
-    let number = lent.loose(line.as_bytes(), variant);
+    let answer = lent.loose(line.as_bytes(), variant);
+    let number = answer.number();
     let Ok(theirs) = rust(line, variant) else {
-        return if number == 4 { Ok(false) } else { Err(format!("the Rust has no reading, ours answers {number}: {line}")) };
+        return if answer.is_whole() { Ok(false) } else { Err(format!("the Rust has no reading, ours has one or answers {number}: {line}")) };
     };
     let params = theirs.structured_data.iter().map(|e| e.params.len()).sum();
     let start = theirs.msg.as_ptr() as usize - line.as_ptr() as usize;
     let seconds = theirs.timestamp.map_or(0, |t| t.timestamp()) as usize;
     let same = number == 0
+        && !answer.is_whole()
         && lent.word(ELEMENTS) == theirs.structured_data.len()
         && lent.word(PARAMS) == params
         && lent.word(MESSAGE_LEN) == theirs.msg.len()
@@ -34,7 +36,7 @@ fn kind(name: &str, variant: u32, lines: &[&str], lent: &mut Lent) -> Result<(),
         if !agreed(line, variant, lent)? {
             return Err(format!("no reading: {line}"));
         }
-        if variant == 2 && lent.strict(line.as_bytes()) != 0 {
+        if variant == 2 && lent.strict(line.as_bytes()).number() != 0 {
             return Err(format!("refused strictly: {line}"));
         }
     }
@@ -46,15 +48,15 @@ fn shape(shape: &Shape, lengths: &[usize], strict: bool, lent: &mut Lent) -> Res
     for &bytes in lengths {
         let line = shape.line(bytes).ok_or(format!("{bytes} bytes have no room for '{}'", shape.name))?;
         let read = agreed(&line, 0, lent)?;
-        if strict && lent.strict(line.as_bytes()) != 0 {
+        if strict && lent.strict(line.as_bytes()).number() != 0 {
             return Err(format!("refused strictly: {line}"));
         }
-        println!("answer {} {bytes} {}", shape.name, if read { "read" } else { "refused" });
+        println!("answer {} {bytes} {}", shape.name, if read { "read" } else { "whole" });
     }
     Ok(())
 }
 
-/// A line of ids: both loose readers read it, as many elements as are told. So must the strict one where the ids differ; where they repeat, its answer is told.
+/// A line of ids: the Rust and our loose reader read it, as many elements as are told. So must the strict one where the ids differ; where they repeat, its answer is told.
 fn ids(shape: &Shape, lent: &mut Lent) -> Result<(), String> {
     for &bytes in &LENGTHS[1..] {
         let line = shape.line(bytes).ok_or(format!("{bytes} bytes have no room for '{}'", shape.name))?;
@@ -62,7 +64,7 @@ fn ids(shape: &Shape, lent: &mut Lent) -> Result<(), String> {
             return Err(format!("no reading: {line}"));
         }
         let elements = lent.word(ELEMENTS);
-        let answer = match lent.strict(line.as_bytes()) {
+        let answer = match lent.strict(line.as_bytes()).number() {
             0 => "read",
             4 if !shape.is_varied() => "refused",
             number => return Err(format!("the strict reader answers {number}: {line}")),

@@ -69,7 +69,7 @@ fn slow_ids(results: &Results, compared: bool) -> Result<String, String> {
 
 pub fn price(results: &Results) -> Result<String, String> {
     let compared = results.a_line("5424", BEFORE).is_ok();
-    let mut page = String::from("## What it costs that ids differ\n\nRFC 5424 allows an id once in a line, and the strict reader asks for it; the loose ones do not.");
+    let mut page = String::from("## What it costs that ids differ\n\nRFC 5424 allows an id once in a line, and the strict reader asks for it; the loose one does not.");
     if compared {
         page += " \"Before\" is an archive of the reader before it asked.";
     }

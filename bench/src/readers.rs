@@ -1,4 +1,4 @@
-//! The readers that are measured: the Rust, and the archive's loose exact and strict ones.
+//! The readers that are measured: the Rust, and the archive's loose and strict ones.
 use chrono::FixedOffset;
 use std::hint::black_box;
 use syslog_loose::{parse_message_with_year_exact_tz, Message, Variant};
@@ -6,10 +6,48 @@ use syslog_loose::{parse_message_with_year_exact_tz, Message, Variant};
 const YEAR: i32 = 2023;
 const OFFSET: i32 = 60;
 
+/// What a reader answers (include/khamdoriem.h).
+#[cfg(not(number_alone))]
+#[repr(C)]
+pub struct Answer {
+    number: u32,
+    whole: u32,
+    reach: usize,
+}
+
+#[cfg(not(number_alone))]
+impl Answer {
+    pub fn number(&self) -> u32 {
+        self.number
+    }
+
+    /// Was there no reading, by the loose reader?
+    pub fn is_whole(&self) -> bool {
+        self.whole == 1
+    }
+}
+
+/// An archive of before there was one loose reader (bench/run, --before) answers the number alone, and 4 where there is no reading.
+#[cfg(number_alone)]
+#[repr(transparent)]
+pub struct Answer(u32);
+
+#[cfg(number_alone)]
+impl Answer {
+    pub fn number(&self) -> u32 {
+        self.0
+    }
+
+    pub fn is_whole(&self) -> bool {
+        self.0 == 4
+    }
+}
+
 // A slice crosses as a pointer and a count (include/khamdoriem.h).
 #[link(name = "exports", kind = "static")]
 extern "C" {
-    fn khamdoriem_read_exact(
+    #[cfg_attr(number_alone, link_name = "khamdoriem_read_exact")]
+    fn khamdoriem_read_loose(
         line: *const u8,
         line_len: usize,
         variant: u32,
@@ -21,7 +59,7 @@ extern "C" {
         params_len: usize,
         record: *mut u8,
         record_len: usize,
-    ) -> u32;
+    ) -> Answer;
     fn khamdoriem_read_strict(
         line: *const u8,
         line_len: usize,
@@ -31,7 +69,7 @@ extern "C" {
         params_len: usize,
         record: *mut u8,
         record_len: usize,
-    ) -> u32;
+    ) -> Answer;
 }
 
 #[derive(Clone, Copy, PartialEq)]
@@ -61,11 +99,11 @@ impl Lent {
     }
 
     #[inline]
-    pub fn loose(&mut self, line: &[u8], variant: u32) -> u32 {
+    pub fn loose(&mut self, line: &[u8], variant: u32) -> Answer {
         let (e, p, r) = (&mut self.elements, &mut self.params, &mut self.record);
         // SAFETY: each pointer comes with its own slice's length, and the slices do not overlap.
         unsafe {
-            khamdoriem_read_exact(
+            khamdoriem_read_loose(
                 line.as_ptr(),
                 line.len(),
                 variant,
@@ -82,7 +120,7 @@ impl Lent {
     }
 
     #[inline]
-    pub fn strict(&mut self, line: &[u8]) -> u32 {
+    pub fn strict(&mut self, line: &[u8]) -> Answer {
         let (e, p, r) = (&mut self.elements, &mut self.params, &mut self.record);
         // SAFETY: as above.
         unsafe { khamdoriem_read_strict(line.as_ptr(), line.len(), e.as_mut_ptr(), e.len(), p.as_mut_ptr(), p.len(), r.as_mut_ptr(), r.len()) }

@@ -98,7 +98,7 @@ fn growing(results: &Results) -> Result<String, String> {
 fn slow(results: &Results) -> Result<String, String> {
     let mut page = String::from(
         "## Lines made to be slow\n\n\
-         Instructions a byte at 1,024 and at 8,192 bytes, variant 0. A cost that is linear in the line stays as it is or falls; one that is quadratic grows eightfold.\n\n",
+         Instructions a byte at 1,024 and at 8,192 bytes, variant 0. A cost that is linear in the line stays as it is or falls; one that is quadratic grows eightfold. A line that is answered whole has no reading.\n\n",
     );
     add(&mut page, "| line | answer | the Rust, 1,024 | 8,192 | ours, loose, 1,024 | 8,192 | ours grows by |");
     add(&mut page, "|---|---|---|---|---|---|---|");

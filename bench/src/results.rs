@@ -1,7 +1,8 @@
 //! What bench/run measured: rows of words, the last of which is a number.
 //!
 //!     kind KIND LINES BYTES            what the file has
-//!     answer SHAPE BYTES read|refused  whether a shaped line has a reading; a strict one where its ids are asked for
+//!     answer SHAPE BYTES read|whole    whether a shaped line has a reading, or is the message whole
+//!     answer SHAPE BYTES read|refused  the strict reader's answer, of a line of ids
 //!     before SHAPE BYTES read|refused  the same, by the archive of --before
 //!     elements SHAPE BYTES COUNT       how many elements a line of ids has
 //!     insns KIND READER COUNT          instructions of a pass over the lines of a kind

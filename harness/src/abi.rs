@@ -1,9 +1,9 @@
-//! The archive's five functions, as include/khamdoriem.h declares them.
+//! The archive's four functions, as include/khamdoriem.h declares them.
 
 pub type Element = [usize; 2];
 pub type Param = [usize; 5];
 
-/// Bytes and words of a record from the loose readers, and from the strict one.
+/// Bytes and words of a record from the loose reader, and from the strict one.
 pub const RECORD: usize = 208;
 pub const STRICT_RECORD: usize = 240;
 pub const WORDS: usize = 26;
@@ -19,6 +19,14 @@ pub struct Settings {
 
 #[repr(C)]
 #[derive(Clone, Copy, Debug, PartialEq)]
+pub struct Read {
+    pub number: u32,
+    pub whole: u32,
+    pub reach: usize,
+}
+
+#[repr(C)]
+#[derive(Clone, Copy, Debug, PartialEq)]
 pub struct Written {
     pub number: u32,
     pub len: usize,
@@ -26,8 +34,7 @@ pub struct Written {
 
 #[derive(Clone, Copy, Debug, PartialEq)]
 pub enum Reader {
-    Exact,
-    Fallback,
+    Loose,
     Strict,
 }
 
@@ -42,18 +49,14 @@ pub struct Given<'a> {
 
 #[link(name = "exports", kind = "static")]
 extern "C" {
-    fn khamdoriem_read_exact(
+    fn khamdoriem_read_loose(
         line: *const u8, line_len: usize, variant: u32, year: u32, offset: i32, elements: *mut Element, elements_len: usize,
         params: *mut Param, params_len: usize, record: *mut u8, record_len: usize,
-    ) -> u32;
-    fn khamdoriem_read_fallback(
-        line: *const u8, line_len: usize, variant: u32, year: u32, offset: i32, elements: *mut Element, elements_len: usize,
-        params: *mut Param, params_len: usize, record: *mut u8, record_len: usize,
-    ) -> u32;
+    ) -> Read;
     fn khamdoriem_read_strict(
         line: *const u8, line_len: usize, elements: *mut Element, elements_len: usize, params: *mut Param, params_len: usize,
         record: *mut u8, record_len: usize,
-    ) -> u32;
+    ) -> Read;
     fn khamdoriem_print(
         line: *const u8, line_len: usize, record: *const u8, record_len: usize, elements: *const Element, elements_len: usize,
         params: *const Param, params_len: usize, output: *mut u8, output_len: usize,
@@ -65,13 +68,12 @@ extern "C" {
     ) -> Written;
 }
 
-pub fn read(reader: Reader, line: &[u8], s: Settings, elements: &mut [Element], params: &mut [Param], record: &mut [u8]) -> u32 {
+pub fn read(reader: Reader, line: &[u8], s: Settings, elements: &mut [Element], params: &mut [Param], record: &mut [u8]) -> Read {
     let (e, el, p, pl, r, rl) =
         (elements.as_mut_ptr(), elements.len(), params.as_mut_ptr(), params.len(), record.as_mut_ptr(), record.len());
     unsafe {
         match reader {
-            Reader::Exact => khamdoriem_read_exact(line.as_ptr(), line.len(), s.variant, s.year, s.offset, e, el, p, pl, r, rl),
-            Reader::Fallback => khamdoriem_read_fallback(line.as_ptr(), line.len(), s.variant, s.year, s.offset, e, el, p, pl, r, rl),
+            Reader::Loose => khamdoriem_read_loose(line.as_ptr(), line.len(), s.variant, s.year, s.offset, e, el, p, pl, r, rl),
             Reader::Strict => khamdoriem_read_strict(line.as_ptr(), line.len(), e, el, p, pl, r, rl),
         }
     }

@@ -1,7 +1,7 @@
 //! The comparison. A case is one service on one line with one set of settings, and what lookup is asked is part of its settings. A case makes
 //! several calls: with memory that fits, that is too short by one, of length 0, and longer; they are not counted as cases.
 
-use crate::abi::{self, Element, Given, Param, Reader, Settings, Written, RECORD, STRICT_RECORD, STRICT_WORDS, WORDS};
+use crate::abi::{self, Element, Given, Param, Read, Reader, Settings, Written, RECORD, STRICT_RECORD, STRICT_WORDS, WORDS};
 use crate::classes::{self, Class, CLASSES};
 use crate::forge::Forged;
 use crate::lent::Lent;
@@ -55,8 +55,7 @@ fn canary<const N: usize>(at: usize) -> [usize; N] {
 
 fn name_of(reader: Reader) -> &'static str {
     match reader {
-        Reader::Exact => "exact",
-        Reader::Fallback => "fallback",
+        Reader::Loose => "loose",
         Reader::Strict => "strict",
     }
 }
@@ -66,7 +65,7 @@ fn fault(service: &'static str, what: &'static str, ours: impl std::fmt::Debug, 
 }
 
 impl Tables {
-    /// One call with memory of these lengths: number, record, tables, and that nothing else has changed.
+    /// One call with memory of these lengths: answer, record, tables, and that nothing else has changed.
     fn call(&mut self, reader: Reader, line: &[u8], s: Settings, wanted: &Answer, room: [usize; 3]) -> Check {
         let [elements, params, record] = room;
         let (layout, words) = if reader == Reader::Strict { (STRICT_RECORD, STRICT_WORDS) } else { (RECORD, WORDS) };
@@ -81,11 +80,12 @@ impl Tables {
         seen
     }
 
-    fn compare(&self, service: &'static str, got: u32, number: u32, wanted: &Answer, words: usize) -> Check {
-        if got != number {
-            return fault(service, "number", got, number);
+    fn compare(&self, service: &'static str, got: Read, number: u32, wanted: &Answer, words: usize) -> Check {
+        let answer = Read { number, whole: (number == 0 && wanted.whole) as u32, reach: 0 };
+        if got != answer {
+            return fault(service, if got.number == number { "kind of answer" } else { "number" }, got, answer);
         }
-        if got != 0 {
+        if number != 0 {
             return Ok(());
         }
         let bytes = self.record.first(8 * words).chunks_exact(8);
@@ -197,26 +197,24 @@ impl Desk {
             Ok(text) => text,
             Err(number) => {
                 answer.clear(number);
-                self.reading(Reader::Exact, line, s, answer)?;
-                return self.reading(Reader::Fallback, line, s, answer);
+                return self.reading(Reader::Loose, line, s, answer);
             }
         };
         let message = oracle::exact(text, s);
+        other_agrees(text, s, message.as_ref())?;
         let class = oracle::class_of(text, message.as_ref());
-        match message.filter(|_| class.is_none()) {
-            Some(message) => {
-                self.counts.read += 1;
-                oracle::put_message(answer, text, &oracle::with_hyphen(text, s, message).0);
-            }
-            None => answer.clear(4),
-        }
-        self.reading(Reader::Exact, line, s, answer)?;
-        let message = if class.is_some() { oracle::whole(text) } else { oracle::fallback(text, s) };
-        let (message, hyphen) = oracle::with_hyphen(text, s, message);
+        let reading = message.filter(|_| class.is_none());
+        let whole = reading.is_none();
+        self.counts.read += !whole as u64;
+        let (message, hyphen) = match reading {
+            Some(message) => oracle::with_hyphen(text, s, message),
+            None => (oracle::whole(text), None),
+        };
         oracle::put_message(answer, text, &message);
-        self.reading(Reader::Fallback, line, s, answer)?;
+        answer.whole = whole;
+        self.reading(Reader::Loose, line, s, answer)?;
         if let Some(class) = class.or(hyphen) {
-            self.counts.classes[class as usize] += 2;
+            self.counts.classes[class as usize] += 1;
         }
         self.of_message(text, message, answer)?;
         self.counts.classes[Class::D7 as usize] += hyphen.is_some() as u64;
@@ -330,6 +328,17 @@ impl Desk {
         self.forged.from_answer(answer, words, &mut self.random);
         self.lending(line, Self::print_and_look)
     }
+}
+
+/// The Rust has a second function, which answers every line: with the reading of the first, or with the whole line where that has none.
+fn other_agrees(text: &str, s: Settings, message: Option<&Message<&str>>) -> Check {
+    let (mut first, mut second) = (Answer::default(), Answer::default());
+    oracle::put_message(&mut first, text, message.unwrap_or(&oracle::whole(text)));
+    oracle::put_message(&mut second, text, &oracle::fallback(text, s));
+    if first != second {
+        return fault("loose", "the Rust's two functions", first, second);
+    }
+    Ok(())
 }
 
 /// A line that is taken strictly has the same fields in the Rust's RFC 5424 reading, but that the message is trimmed. There is none where the line

@@ -8,10 +8,12 @@ use crate::classes::{self, Class};
 use chrono::FixedOffset;
 use syslog_loose::{parse_message_with_year_exact_tz, parse_message_with_year_tz, Message, ProcId, Protocol, Variant};
 
-#[derive(Clone, Debug, Default)]
+#[derive(Clone, Debug, Default, PartialEq)]
 pub struct Answer {
     /// 0, or the refusal that does not depend on tables and outputs (1 to 4).
     pub number: u32,
+    /// The whole line is the message, because there is no reading.
+    pub whole: bool,
     pub words: [u64; STRICT_WORDS],
     pub elements: Vec<Element>,
     pub params: Vec<Param>,
@@ -20,6 +22,7 @@ pub struct Answer {
 impl Answer {
     pub fn clear(&mut self, number: u32) {
         self.number = number;
+        self.whole = false;
         self.words = [0; STRICT_WORDS];
         self.elements.clear();
         self.params.clear();
@@ -63,12 +66,12 @@ fn zone(s: Settings) -> Option<FixedOffset> {
     FixedOffset::east_opt(s.offset * 60)
 }
 
-/// The Rust's exact reading.
+/// The Rust's reading, by the function that has none of some lines.
 pub fn exact(text: &str, s: Settings) -> Option<Message<&str>> {
     parse_message_with_year_exact_tz(text, |_| s.year as i32, zone(s), variant(s)).ok()
 }
 
-/// The Rust's fallback reading.
+/// The Rust's reading, by the function that makes the message of a line with none.
 pub fn fallback(text: &str, s: Settings) -> Message<&str> {
     parse_message_with_year_tz(text, |_| s.year as i32, zone(s), variant(s))
 }
@@ -166,7 +169,7 @@ pub fn put_message(answer: &mut Answer, text: &str, message: &Message<&str>) {
     answer.words[25] = answer.params.len() as u64;
 }
 
-/// The message whole, as the fallback reader gives a line with no reading.
+/// The whole line as the message.
 pub fn whole(text: &str) -> Message<&str> {
     Message {
         facility: None,

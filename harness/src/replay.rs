@@ -3,10 +3,11 @@
 //!
 //! One case a line, fields separated by one space, numbers decimal (signed ones as two's complement in 64 bits), bytes as hex, `-` for none:
 //!
-//!     E variant year offset elements_len params_len LINE number [26 words, 2 numbers an element, 5 numbers a parameter]
-//!     F the same, for the fallback reader
-//!     P LINE variant year offset left room number OUT          exact reading, then printing over the line's first `left` bytes into `room` bytes
-//!     L LINE variant year offset ID NAME kind room number OUT  exact reading, then lookup
+//!     R variant year offset elements_len params_len LINE number [whole, 26 words, 2 numbers an element, 5 numbers a parameter]
+//!     P LINE variant year offset left room number OUT          loose reading, then printing over the line's first `left` bytes into `room` bytes
+//!     L LINE variant year offset ID NAME kind room number OUT  loose reading, then lookup
+//!
+//! `whole` is 1 where the whole line is the message, and 0 where there is a reading.
 
 use crate::abi::{Settings, RECORD, WORDS};
 use crate::classes;
@@ -175,9 +176,13 @@ impl List {
         let mut key = [0; FEATURES];
         key[..3].copy_from_slice(&[service, number as u8, (line.len() > USUAL) as u8]);
         let Some((text, message, answer)) = reached else {
-            key[4] = skeleton(line) % if number == 4 { 255 } else { 16 };
+            key[4] = skeleton(line) % 16;
             return key;
         };
+        if answer.whole {
+            key[3..5].copy_from_slice(&[3, skeleton(line) % if service == b'R' { 255 } else { 16 }]);
+            return key;
+        }
         let w = &answer.words;
         let present = [2, 4, 6, 10, 13, 16, 19].iter().fold(0, |mask, &at| mask << 1 | w[at] as u8);
         let [form, zone] = form(text, message);
@@ -187,17 +192,17 @@ impl List {
     }
 
     /// A reading with tables that fit, and with tables too short by one.
-    fn reading(&mut self, service: u8, line: &[u8], s: Settings, answer: &Answer, reached: Option<(&str, &Message<&str>)>) {
+    fn reading(&mut self, line: &[u8], s: Settings, answer: &Answer, reached: Option<(&str, &Message<&str>)>) {
         let (e, p) = (answer.elements.len(), answer.params.len());
         let more = self.random.below(2);
         for (elements, params) in [(e + more, p + more), (e.saturating_sub(1), p), (e, p.saturating_sub(1)), (0, 0)] {
             let (elements, params) = (elements.min(ELEMENTS), params.min(PARAMS));
             let number = answer.number_for(elements, params, RECORD, RECORD);
-            let key = self.key(service, number, line, reached.map(|(text, message)| (text, message, answer)));
+            let key = self.key(b'R', number, line, reached.map(|(text, message)| (text, message, answer)));
             self.offer(key, line, || {
-                let mut text = format!("{} {} {elements} {params} {} {number}", service as char, shown(s), hex(line));
+                let mut text = format!("R {} {elements} {params} {} {number}", shown(s), hex(line));
                 if number == 0 {
-                    let numbers = answer.words[..WORDS].iter().copied();
+                    let numbers = [answer.whole as u64].into_iter().chain(answer.words[..WORDS].iter().copied());
                     let tables = answer.elements.iter().flatten().chain(answer.params.iter().flatten()).map(|&n| n as u64);
                     numbers.chain(tables).for_each(|n| text += &format!(" {n}"));
                 }
@@ -256,8 +261,7 @@ impl List {
             Ok(text) => text,
             Err(number) => {
                 answer.clear(number);
-                self.reading(b'E', line, s, answer, None);
-                return self.reading(b'F', line, s, answer, None);
+                return self.reading(line, s, answer, None);
             }
         };
         let message = oracle::exact(text, s);
@@ -265,17 +269,11 @@ impl List {
         if oracle::class_of(text, message.as_ref()).or(by_pid).is_some() {
             return;
         }
-        let Some(message) = message else {
-            answer.clear(4);
-            self.reading(b'E', line, s, answer, None);
-            let whole = oracle::fallback(text, s);
-            oracle::put_message(answer, text, &whole);
-            return self.reading(b'F', line, s, answer, None);
-        };
-        let message = oracle::with_hyphen(text, s, message).0;
+        let whole = message.is_none();
+        let message = message.map_or_else(|| oracle::fallback(text, s), |message| oracle::with_hyphen(text, s, message).0);
         oracle::put_message(answer, text, &message);
-        self.reading(b'E', line, s, answer, Some((text, &message)));
-        self.reading(b'F', line, s, answer, Some((text, &message)));
+        answer.whole = whole;
+        self.reading(line, s, answer, Some((text, &message)));
         if answer.elements.len() <= ELEMENTS && answer.params.len() <= PARAMS {
             self.written(text, s, &message, answer);
         }

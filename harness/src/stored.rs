@@ -1,7 +1,7 @@
-//! The stored output of the program `cases` against the Rust: each exact or fallback case in the same words, from the Rust's message
+//! The stored output of the program `cases` against the Rust: each loose case in the same words, from the Rust's message
 //! (in class D7 of docs/DIFFERENCES.md with its hyphen).
 //!
-//! A case is a line of the program's input: `E` or `F`, variant, year, offset, and the line that is read. A strict case (`S`) and a line that is refused
+//! A case is a line of the program's input: `R`, variant, year, offset, and the line that is read. A strict case (`S`) and a line that is refused
 //! before it is read have no answer of the Rust.
 
 use crate::abi::Settings;
@@ -11,17 +11,18 @@ use std::process::ExitCode;
 use syslog_loose::Message;
 
 struct Case<'a> {
-    fallback: bool,
     settings: Settings,
     line: &'a [u8],
 }
 
 fn case(text: &[u8]) -> Option<Case<'_>> {
     let mut parts = text.splitn(5, |&b| b == b' ');
-    let service = parts.next()?;
+    if parts.next()? != b"R" {
+        return None;
+    }
     let mut number = || std::str::from_utf8(parts.next()?).ok()?.parse::<u64>().ok();
     let settings = Settings { variant: number()? as u32, year: number()? as u32, offset: number()? as i32 };
-    Some(Case { fallback: service == b"F", settings, line: parts.next()? })
+    Some(Case { settings, line: parts.next()? })
 }
 
 fn tell(out: &mut Vec<u8>, label: &str, value: &[u8]) {
@@ -50,7 +51,7 @@ fn tell_texts(out: &mut Vec<u8>, line: &[u8], answer: &Answer) {
 }
 
 /// A message in the program's words.
-fn told(line: &str, message: &Message<&str>, printed: bool) -> Vec<u8> {
+fn told(line: &str, message: &Message<&str>) -> Vec<u8> {
     let mut answer = Answer::default();
     oracle::put_message(&mut answer, line, message);
     let w = &answer.words;
@@ -71,21 +72,16 @@ fn told(line: &str, message: &Message<&str>, printed: bool) -> Vec<u8> {
         tell(&mut out, "  offset ", (w[9] as i64).to_string().as_bytes());
     }
     tell_texts(&mut out, line.as_bytes(), &answer);
-    if printed {
-        tell(&mut out, "  prints ", message.to_string().as_bytes());
-    }
+    tell(&mut out, "  prints ", message.to_string().as_bytes());
     out
 }
 
 /// What the Rust says to a case, where it has an answer.
 fn answer(case: &Case<'_>) -> Option<Vec<u8>> {
     let text = oracle::admit(case.line, case.settings).ok()?;
-    if case.fallback {
-        return Some(told(text, &oracle::with_hyphen(text, case.settings, oracle::fallback(text, case.settings)).0, false));
-    }
     Some(match oracle::exact(text, case.settings) {
-        None => b"  refused 4\n".to_vec(),
-        Some(message) => told(text, &oracle::with_hyphen(text, case.settings, message).0, true),
+        Some(message) => told(text, &oracle::with_hyphen(text, case.settings, message).0),
+        None => [b"  whole\n".to_vec(), told(text, &oracle::fallback(text, case.settings))].concat(),
     })
 }
 

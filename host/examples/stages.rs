@@ -16,7 +16,7 @@ use std::fs::File;
 use std::io::{self, BufRead, BufReader, BufWriter, Write};
 use std::process::ExitCode;
 
-use khamdoriem::{Element, Offset, Settings, Tables, Unescape, Variant, Year, MAX_LINE};
+use khamdoriem::{Element, LooseAnswer, Offset, Settings, Tables, Unescape, Variant, Year, MAX_LINE};
 
 /// The id of the element that tells of a stage. 32473 is the enterprise number for examples.
 const STAGE: &[u8] = b"stage@32473";
@@ -94,7 +94,7 @@ fn list(mut lines: impl BufRead, output: &mut impl Write) -> io::Result<Counts> 
 }
 
 fn list_line(line: &[u8], tables: &mut Tables, counts: &mut Counts, output: &mut impl Write) -> io::Result<()> {
-    let reading = match tables.read_exact(line, SETTINGS) {
+    let reading = match tables.read_loose(line, SETTINGS).and_then(LooseAnswer::exact) {
         Ok(reading) => reading,
         Err(refusal) => {
             counts.refused += 1;

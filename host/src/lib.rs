@@ -1,9 +1,10 @@
 //! Safe functions over the archive of Khamdoriem, a proved reader of syslog lines.
 //!
-//! Whatever bytes come in, a call ends with its answer or with a [`Refusal`], and a refused call has changed nothing. There are three
-//! readers: [`Tables::read_exact`] and [`Tables::read_fallback`] take RFC 3164 and RFC 5424 by the loose rules of the Rust crate
-//! syslog_loose, and [`Tables::read_strict`] takes what the grammar of RFC 5424 derives and nothing else. All three give a
-//! [`Reading`]: fields are parts of the line, and elements and parameters are gone through in the order of the line.
+//! Whatever bytes come in, a call ends with its answer or with a [`Refusal`], and a refused call has changed nothing. There are two
+//! readers: [`Tables::read_loose`] takes RFC 3164 and RFC 5424 by the loose rules of the Rust crate syslog_loose, and says where a
+//! line has no reading and is the message whole ([`LooseAnswer`]); [`Tables::read_strict`] takes what the grammar of RFC 5424
+//! derives and nothing else. Both give a [`Reading`]: fields are parts of the line, and elements and parameters are gone through in
+//! the order of the line.
 //!
 //! ```
 //! use khamdoriem::{Offset, Settings, Tables, Unescape, Variant, Year};
@@ -12,7 +13,7 @@
 //! let mut tables = Tables::new(64, 256); // once, for all lines
 //! let line = br#"<13>1 2026-01-05T10:01:02.003Z gate7 reader 42 TAP [stage@32473 name="denylist" ms="212"] ok"#;
 //!
-//! let reading = tables.read_exact(line, settings)?;
+//! let reading = tables.read_loose(line, settings)?.exact()?; // refusal 4 where the line has no reading
 //! assert_eq!(reading.host(), Some(&b"gate7"[..]));
 //! let mut value = [0; 64];
 //! assert_eq!(reading.lookup(b"stage@32473", b"ms", Unescape::Loose, &mut value)?, b"212");
@@ -39,6 +40,7 @@ compile_error!(
     "khamdoriem links an archive for x86-64. Run host/test: on other machines it builds for x86_64-unknown-linux-gnu and runs under an emulator."
 );
 
+mod answer;
 mod elements;
 mod reading;
 mod record;
@@ -48,6 +50,7 @@ mod settings;
 mod sys;
 mod tables;
 
+pub use answer::{LooseAnswer, WholeLine};
 pub use elements::{Element, Elements, Param, Params, Unescape};
 pub use reading::{Loose, Reading, Strict};
 pub use record::{Protocol, Timestamp};

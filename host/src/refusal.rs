@@ -13,9 +13,9 @@ use std::fmt;
 pub enum Refusal {
     /// Number 1: the line has over [`MAX_LINE`](crate::MAX_LINE) bytes.
     LineTooLong,
-    /// Number 3: the line is not UTF-8. The loose readers alone ask for that.
+    /// Number 3: the line is not UTF-8. The loose reader alone asks for that.
     NotUtf8,
-    /// Number 4: there is no reading.
+    /// Number 4: there is no reading. The strict reader gives it, and [`LooseAnswer::exact`](crate::LooseAnswer::exact).
     NoReading,
     /// Number 5: the reading has more elements than the table.
     TooManyElements,

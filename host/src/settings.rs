@@ -1,8 +1,8 @@
-//! What a loose reader is told beside the line, in types that hold no value out of range.
+//! What the loose reader is told beside the line, in types that hold no value out of range.
 
 use crate::sys::Numbers;
 
-/// Which protocols a loose reader tries.
+/// Which protocols the loose reader tries.
 #[derive(Clone, Copy, Debug, PartialEq, Eq, Hash)]
 pub enum Variant {
     /// RFC 5424, and then RFC 3164. No line has a reading in both.
@@ -89,7 +89,7 @@ impl Offset {
     }
 }
 
-/// The settings of a loose reader. Its fields are public: each holds only values that the reader takes.
+/// The settings of the loose reader. Its fields are public: each holds only values that the reader takes.
 ///
 /// Settings that never change are best a constant, whose ranges the compiler checks:
 ///

@@ -1,4 +1,4 @@
-//! The five functions of the archive, each behind a safe function over slices and numbers.
+//! The four functions of the archive, each behind a safe function over slices and numbers.
 //!
 //! This is the only module with `unsafe`. What makes each call safe is the same: the archive's functions are total, whatever
 //! the bytes, numbers and lengths. They read and write within the counts that they are given and keep nothing after the call.
@@ -12,6 +12,16 @@ pub(crate) type ElementEntry = [usize; 2];
 /// The number of a parameter's element, start and length of its name, start and length of its value.
 pub(crate) type ParamEntry = [usize; 5];
 
+/// What a reader answers. `number` is 0 where it left a record, else that of the refusal. `whole` is 1 where a loose line has no
+/// reading, so that the record is the whole line as the message; else it is 0. `reach` is 0.
+#[repr(C)]
+#[derive(Clone, Copy, Debug, PartialEq, Eq)]
+pub(crate) struct ReadAnswer {
+    pub(crate) number: u32,
+    pub(crate) whole: u32,
+    pub(crate) reach: usize,
+}
+
 /// What printing and lookup answer: 0 and the length of the result, or the number of a refusal and 0.
 #[repr(C)]
 #[derive(Clone, Copy, Debug, PartialEq, Eq)]
@@ -21,7 +31,7 @@ pub(crate) struct Written {
 }
 
 extern "C" {
-    fn khamdoriem_read_exact(
+    fn khamdoriem_read_loose(
         line: *const u8,
         line_len: usize,
         variant: u32,
@@ -33,21 +43,7 @@ extern "C" {
         params_len: usize,
         record: *mut u8,
         record_len: usize,
-    ) -> u32;
-
-    fn khamdoriem_read_fallback(
-        line: *const u8,
-        line_len: usize,
-        variant: u32,
-        year: u32,
-        offset: i32,
-        elements: *mut ElementEntry,
-        elements_len: usize,
-        params: *mut ParamEntry,
-        params_len: usize,
-        record: *mut u8,
-        record_len: usize,
-    ) -> u32;
+    ) -> ReadAnswer;
 
     fn khamdoriem_read_strict(
         line: *const u8,
@@ -58,7 +54,7 @@ extern "C" {
         params_len: usize,
         record: *mut u8,
         record_len: usize,
-    ) -> u32;
+    ) -> ReadAnswer;
 
     fn khamdoriem_print(
         line: *const u8,
@@ -92,7 +88,7 @@ extern "C" {
     ) -> Written;
 }
 
-/// The settings of the loose readers, as numbers.
+/// The settings of the loose reader, as numbers.
 #[derive(Clone, Copy)]
 pub(crate) struct Numbers {
     pub(crate) variant: u32,
@@ -109,43 +105,17 @@ pub(crate) struct Lent<'a> {
     pub(crate) params: &'a [ParamEntry],
 }
 
-/// Loose exact reading.
-pub(crate) fn read_exact(
+/// Loose reading.
+pub(crate) fn read_loose(
     line: &[u8],
     settings: Numbers,
     elements: &mut [ElementEntry],
     params: &mut [ParamEntry],
     record: &mut [u8],
-) -> u32 {
+) -> ReadAnswer {
     // SAFETY: the module's: each pointer and count are those of one slice, and the three that are written are borrowed mutably.
     unsafe {
-        khamdoriem_read_exact(
-            line.as_ptr(),
-            line.len(),
-            settings.variant,
-            settings.year,
-            settings.offset,
-            elements.as_mut_ptr(),
-            elements.len(),
-            params.as_mut_ptr(),
-            params.len(),
-            record.as_mut_ptr(),
-            record.len(),
-        )
-    }
-}
-
-/// Loose fallback reading.
-pub(crate) fn read_fallback(
-    line: &[u8],
-    settings: Numbers,
-    elements: &mut [ElementEntry],
-    params: &mut [ParamEntry],
-    record: &mut [u8],
-) -> u32 {
-    // SAFETY: the module's: each pointer and count are those of one slice, and the three that are written are borrowed mutably.
-    unsafe {
-        khamdoriem_read_fallback(
+        khamdoriem_read_loose(
             line.as_ptr(),
             line.len(),
             settings.variant,
@@ -167,7 +137,7 @@ pub(crate) fn read_strict(
     elements: &mut [ElementEntry],
     params: &mut [ParamEntry],
     record: &mut [u8],
-) -> u32 {
+) -> ReadAnswer {
     // SAFETY: the module's: each pointer and count are those of one slice, and the three that are written are borrowed mutably.
     unsafe {
         khamdoriem_read_strict(

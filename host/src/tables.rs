@@ -2,7 +2,8 @@
 
 use std::fmt;
 
-use crate::reading::{Loose, Reading, Strict};
+use crate::answer::{LooseAnswer, WholeLine};
+use crate::reading::{Reading, Strict};
 use crate::record::Record;
 use crate::refusal::Refusal;
 use crate::settings::Settings;
@@ -68,49 +69,38 @@ impl Tables {
         self.params.len()
     }
 
-    /// Reads a line by the loose rules.
+    /// Reads a line by the loose rules. A line that has no reading is answered whole: as the message, untrimmed, of protocol RFC
+    /// 3164, with nothing else set.
     ///
     /// # Errors
     ///
-    /// [`LineTooLong`](Refusal::LineTooLong), [`NotUtf8`](Refusal::NotUtf8), [`NoReading`](Refusal::NoReading),
-    /// [`TooManyElements`](Refusal::TooManyElements), [`TooManyParams`](Refusal::TooManyParams): the first that applies.
+    /// [`LineTooLong`](Refusal::LineTooLong), [`NotUtf8`](Refusal::NotUtf8), [`TooManyElements`](Refusal::TooManyElements),
+    /// [`TooManyParams`](Refusal::TooManyParams): the first that applies.
     ///
     /// ```
-    /// use khamdoriem::{Offset, Refusal, Settings, Tables, Variant, Year};
+    /// use khamdoriem::{LooseAnswer, Offset, Refusal, Settings, Tables, Variant, Year};
     ///
     /// let settings = Settings::new(Variant::Either, Year::new(2023).unwrap(), Offset::from_minutes(60).unwrap());
     /// let mut tables = Tables::new(4, 16);
-    /// let reading = tables.read_exact(b"<13>Feb  5 10:01:02 gate7 reader[42]: tap ok", settings)?;
+    /// let reading = tables.read_loose(b"<13>Feb  5 10:01:02 gate7 reader[42]: tap ok", settings)?.exact()?;
     /// assert_eq!(reading.process_id(), Some(&b"42"[..]));
     /// assert_eq!(reading.timestamp().unwrap().seconds, 1_675_587_662);
     ///
-    /// assert_eq!(tables.read_exact(b"tap ok", settings).unwrap_err(), Refusal::NoReading);
+    /// assert!(matches!(tables.read_loose(b"tap ok", settings)?, LooseAnswer::Whole(_)));
     /// # Ok::<(), Refusal>(())
     /// ```
-    pub fn read_exact<'line, 'tables>(
+    pub fn read_loose<'line, 'tables>(
         &'tables mut self,
         line: &'line [u8],
         settings: Settings,
-    ) -> Result<Reading<'line, 'tables, Loose>, Refusal> {
+    ) -> Result<LooseAnswer<'line, 'tables>, Refusal> {
         let record = self.record.memory();
-        let number = sys::read_exact(line, settings.numbers(), &mut self.elements, &mut self.params, record);
-        self.reading(line, number)
-    }
-
-    /// Reads a line by the loose rules; a line that has no reading becomes the message, whole and untrimmed, of protocol
-    /// RFC 3164, with nothing else set.
-    ///
-    /// # Errors
-    ///
-    /// As [`read_exact`](Tables::read_exact), but never [`NoReading`](Refusal::NoReading).
-    pub fn read_fallback<'line, 'tables>(
-        &'tables mut self,
-        line: &'line [u8],
-        settings: Settings,
-    ) -> Result<Reading<'line, 'tables, Loose>, Refusal> {
-        let record = self.record.memory();
-        let number = sys::read_fallback(line, settings.numbers(), &mut self.elements, &mut self.params, record);
-        self.reading(line, number)
+        let answer = sys::read_loose(line, settings.numbers(), &mut self.elements, &mut self.params, record);
+        let reading = self.reading(line, answer.number)?;
+        Ok(match answer.whole {
+            0 => LooseAnswer::Read(reading),
+            _ => LooseAnswer::Whole(WholeLine::new(reading)),
+        })
     }
 
     /// Reads a line by the grammar of RFC 5424, section 6: it is taken exactly when the grammar derives it.
@@ -123,8 +113,8 @@ impl Tables {
         &'tables mut self,
         line: &'line [u8],
     ) -> Result<Reading<'line, 'tables, Strict>, Refusal> {
-        let number = sys::read_strict(line, &mut self.elements, &mut self.params, self.record.memory());
-        self.reading(line, number)
+        let answer = sys::read_strict(line, &mut self.elements, &mut self.params, self.record.memory());
+        self.reading(line, answer.number)
     }
 
     /// The reading that a reader of this kind has left here, or its refusal.

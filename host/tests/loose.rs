@@ -1,15 +1,17 @@
-//! The loose readers: the rules line by line, the fields of both protocols, absent and empty.
+//! The loose reader: the rules line by line, the fields of both protocols, absent and empty.
 
-use khamdoriem::{Offset, Protocol, Reading, Refusal, Settings, Tables, Timestamp, Variant, Year};
+use khamdoriem::{
+    LooseAnswer, Offset, Protocol, Reading, Refusal, Settings, Tables, Timestamp, Variant, WholeLine, Year,
+};
 
 fn settings(variant: Variant, year: u32, minutes: i32) -> Settings {
     Settings::new(variant, Year::new(year).unwrap(), Offset::from_minutes(minutes).unwrap())
 }
 
-/// Reads with tables of 8 and 8 and shows the reading to `look`.
+/// Reads with tables of 8 and 8 and shows the reading, if there is one, to `look`.
 fn read<T>(line: &str, settings: Settings, look: impl FnOnce(Reading<'_, '_>) -> T) -> Result<T, Refusal> {
     let mut tables = Tables::new(8, 8);
-    tables.read_exact(line.as_bytes(), settings).map(look)
+    tables.read_loose(line.as_bytes(), settings)?.exact().map(look)
 }
 
 /// The same for either protocol at the year 2023 and offset +60.
@@ -207,26 +209,73 @@ fn variants_choose_the_protocol() {
 }
 
 #[test]
-fn the_line_is_trimmed_by_the_exact_reader() {
+fn a_line_with_a_reading_is_trimmed() {
     assert_eq!(message("\u{3000} <13>1 - h a p m - x\u{85}\r\n"), Ok("x".to_string()));
 }
 
+/// The line that is answered whole, if it is.
+fn whole<'line, 'tables>(
+    tables: &'tables mut Tables,
+    line: &'line str,
+    settings: Settings,
+) -> Option<WholeLine<'line, 'tables>> {
+    match tables.read_loose(line.as_bytes(), settings).unwrap() {
+        LooseAnswer::Read(_) => None,
+        LooseAnswer::Whole(whole) => Some(whole),
+    }
+}
+
 #[test]
-fn the_fallback_reader_makes_a_message_of_a_line_with_no_reading() {
+fn a_line_with_no_reading_is_answered_whole() {
+    let (at, old) = (settings(Variant::Either, 2023, 60), settings(Variant::Rfc3164, 2023, 60));
+    let mut tables = Tables::new(8, 8);
+    let mut whole = |line, settings| whole(&mut tables, line, settings).map(|whole| whole.message());
+    for line in ["  tap ok ", "", " ", "\u{3000}\r\n", "<13>1 - h: a p m - x", "<13>4294967296 - h a p m - x"] {
+        assert_eq!(whole(line, at), Some(line.as_bytes()));
+    }
+    for line in ["<13>Feb  5 10:01:02 gate7 reader[42]: tap ok", "<13>1 - h a p m - x", "-", "<13>-x"] {
+        assert_eq!(whole(line, at), None);
+    }
+    // By the variant.
+    let line = "<13>1 - h a p m - x";
+    assert_eq!(whole(line, old), Some(line.as_bytes()));
+}
+
+#[test]
+fn a_whole_line_is_the_message_alone() {
     let at = settings(Variant::Either, 2023, 60);
     let mut tables = Tables::new(0, 0);
-    let reading = tables.read_fallback(b"  tap ok ", at).unwrap();
+    let whole = whole(&mut tables, "  tap ok ", at).unwrap();
+    assert_eq!(format!("{whole:?}"), r#"WholeLine("  tap ok ")"#);
+    let reading = whole.into_reading();
     assert_eq!(reading.message(), b"  tap ok ");
     assert_eq!(reading.protocol(), Protocol::Rfc3164);
     assert_eq!((reading.facility(), reading.severity(), reading.timestamp()), (None, None, None));
     assert_eq!([reading.host(), reading.app_name(), reading.process_id(), reading.message_id()], [None; 4]);
-    let mut output = [0; 64];
-    assert_eq!(reading.print(&mut output), Ok(&b"<47> - - :   tap ok "[..]));
+    assert_eq!((reading.elements().len(), reading.params().len()), (0, 0));
+}
 
-    assert_eq!(tables.read_fallback(b"", at).unwrap().message(), b"");
-    assert_eq!(tables.read_exact(b"", at).unwrap_err(), Refusal::NoReading);
+#[test]
+fn whole_lines_print() {
+    let at = settings(Variant::Either, 2023, 60);
+    let mut tables = Tables::new(0, 0);
+    let line = whole(&mut tables, "  Tür ok ", at).unwrap();
+    let mut output = [b'.'; 22];
+    assert_eq!(line.print(&mut output[..20]), Err(Refusal::OutputTooShort));
+    assert_eq!(output, [b'.'; 22]);
+    assert_eq!(line.print(&mut output), Ok("<47> - - :   Tür ok ".as_bytes()));
+    assert_eq!(output[21], b'.');
+    assert_eq!(whole(&mut tables, "", at).unwrap().print(&mut output), Ok(&b"<47> - - : "[..]));
+}
 
-    // A line that has a reading is read as by the exact reader.
+#[test]
+fn either_is_taken_as_a_reading_by_who_wants_it() {
+    let at = settings(Variant::Either, 2023, 60);
+    let mut tables = Tables::new(0, 0);
     let line = b"<13>Feb  5 10:01:02 gate7 reader[42]: tap ok";
-    assert_eq!(tables.read_fallback(line, at).unwrap().host(), Some(&b"gate7"[..]));
+    assert_eq!(tables.read_loose(line, at).unwrap().or_whole().host(), Some(&b"gate7"[..]));
+    assert_eq!(tables.read_loose(line, at).unwrap().exact().unwrap().host(), Some(&b"gate7"[..]));
+    let reading = tables.read_loose(b"tap ok", at).unwrap().or_whole();
+    assert_eq!((reading.host(), reading.message()), (None, &b"tap ok"[..]));
+    assert_eq!(tables.read_loose(b"tap ok", at).unwrap().exact().unwrap_err(), Refusal::NoReading);
 }

@@ -2,7 +2,7 @@
 
 use std::thread;
 
-use khamdoriem::{Offset, Reading, Refusal, Settings, Tables, Unescape, Variant, Year, MAX_LINE};
+use khamdoriem::{LooseAnswer, Offset, Reading, Refusal, Settings, Tables, Unescape, Variant, Year, MAX_LINE};
 
 const SETTINGS: Settings = Settings::new(Variant::Either, Year::MIN, Offset::UTC);
 const TWO_BY_TWO: &[u8] = br#"<13>1 - gate7 reader 42 TAP [a@1 x="1"][b@1 y="2"] ok"#;
@@ -16,11 +16,9 @@ fn number_1() {
     let mut tables = Tables::new(0, 0);
     let mut line = b"<13>1 - h a p m - ".to_vec();
     line.resize(MAX_LINE, b'x');
-    assert_eq!(tables.read_exact(&line, SETTINGS).unwrap().message(), &line[18..]);
-    assert_eq!(tables.read_fallback(&line, SETTINGS).unwrap().message(), &line[18..]);
+    assert_eq!(tables.read_loose(&line, SETTINGS).unwrap().exact().unwrap().message(), &line[18..]);
     line.push(b'x');
-    assert_eq!(refused(tables.read_exact(&line, SETTINGS)), 1);
-    assert_eq!(refused(tables.read_fallback(&line, SETTINGS)), 1);
+    assert_eq!(refused(tables.read_loose(&line, SETTINGS)), 1);
     assert_eq!(refused(tables.read_strict(&line)), 1);
 }
 
@@ -28,30 +26,39 @@ fn number_1() {
 fn number_3() {
     let mut tables = Tables::new(0, 0);
     let line = b"<13>1 - h a p m - \xff";
-    assert_eq!(refused(tables.read_exact(line, SETTINGS)), 3);
-    assert_eq!(refused(tables.read_fallback(line, SETTINGS)), 3);
+    assert_eq!(refused(tables.read_loose(line, SETTINGS)), 3);
     assert!(tables.read_strict(line).is_ok());
 }
 
 #[test]
 fn number_4() {
     let mut tables = Tables::new(0, 0);
-    assert_eq!(refused(tables.read_exact(b"tap ok", SETTINGS)), 4);
     assert_eq!(refused(tables.read_strict(b"tap ok")), 4);
-    assert!(tables.read_fallback(b"tap ok", SETTINGS).is_ok());
+    assert_eq!(refused(tables.read_loose(b"tap ok", SETTINGS).and_then(LooseAnswer::exact)), 4);
+    assert!(matches!(tables.read_loose(b"tap ok", SETTINGS), Ok(LooseAnswer::Whole(_))));
+}
+
+#[test]
+fn a_line_with_no_reading_is_refused_all_the_same_with_1_and_3() {
+    let mut tables = Tables::new(0, 0);
+    let mut line = vec![b'x'; MAX_LINE];
+    assert!(matches!(tables.read_loose(&line, SETTINGS), Ok(LooseAnswer::Whole(_))));
+    line[0] = b'\xff';
+    assert_eq!(refused(tables.read_loose(&line, SETTINGS)), 3);
+    line.push(b'x');
+    assert_eq!(refused(tables.read_loose(&line, SETTINGS)), 1);
 }
 
 #[test]
 fn numbers_5_and_6() {
     for (elements, params, number) in [(0, 0, 5), (1, 2, 5), (2, 1, 6), (2, 0, 6)] {
         let mut tables = Tables::new(elements, params);
-        assert_eq!(refused(tables.read_exact(TWO_BY_TWO, SETTINGS)), number);
-        assert_eq!(refused(tables.read_fallback(TWO_BY_TWO, SETTINGS)), number);
+        assert_eq!(refused(tables.read_loose(TWO_BY_TWO, SETTINGS)), number);
         assert_eq!(refused(tables.read_strict(TWO_BY_TWO)), number);
     }
     let mut tables = Tables::new(2, 2);
     assert_eq!((tables.element_capacity(), tables.param_capacity()), (2, 2));
-    assert!(tables.read_exact(TWO_BY_TWO, SETTINGS).is_ok());
+    assert!(matches!(tables.read_loose(TWO_BY_TWO, SETTINGS), Ok(LooseAnswer::Read(_))));
     assert!(tables.read_strict(TWO_BY_TWO).is_ok());
 }
 
@@ -101,7 +108,7 @@ fn a_loose_reading_after_a_strict_one_and_back() {
     let mut tables = Tables::new(2, 2);
     let strict = tables.read_strict(b"<13>1 2026-01-05T10:01:02Z gate7 reader 42 TAP - ok").unwrap();
     assert_eq!(strict.timestamp_text(), Some(&b"2026-01-05T10:01:02Z"[..]));
-    let loose = tables.read_exact(TWO_BY_TWO, SETTINGS).unwrap();
+    let loose = tables.read_loose(TWO_BY_TWO, SETTINGS).unwrap().or_whole();
     assert_eq!((loose.timestamp(), loose.message()), (None, &b"ok"[..]));
     let strict = tables.read_strict(b"<13>1 - gate7 reader 42 TAP -").unwrap();
     assert_eq!((strict.timestamp_text(), strict.message()), (None, None));
@@ -144,14 +151,17 @@ fn number_2_does_not_arise_at_the_ends_of_the_ranges() {
     assert_eq!((Offset::from_minutes(1439), Offset::from_minutes(1440)), (Some(Offset::MAX), None));
     assert_eq!((Offset::from_minutes(i32::MIN), Offset::from_minutes(i32::MAX)), (None, None));
 
+    let first = b"<13>Jan 1 00:00:00 gate7 reader[42]: tap ok";
+    let last = b"<13>Dec 31 23:59:59 gate7 reader[42]: tap ok";
+    let lines = [TWO_BY_TWO, first, last, b"no line"];
     let mut tables = Tables::new(2, 2);
     for variant in [Variant::Either, Variant::Rfc3164, Variant::Rfc5424] {
         for year in [Year::MIN, Year::MAX] {
             for offset in [Offset::MIN, Offset::UTC, Offset::MAX] {
                 let settings = Settings::new(variant, year, offset);
-                use_all(tables.read_fallback(TWO_BY_TWO, settings).unwrap());
-                use_all(tables.read_fallback(b"<13>Jan 1 00:00:00 gate7 reader[42]: tap ok", settings).unwrap());
-                use_all(tables.read_fallback(b"<13>Dec 31 23:59:59 gate7 reader[42]: tap ok", settings).unwrap());
+                for line in lines {
+                    use_all(tables.read_loose(line, settings).unwrap().or_whole());
+                }
             }
         }
     }
@@ -184,10 +194,9 @@ fn number_7_does_not_arise_from_damaged_lines() {
 }
 
 fn strict_and_loose(tables: &mut Tables, line: &[u8]) -> usize {
-    let exact = tables.read_exact(line, SETTINGS).map(use_all).is_ok();
-    let fallback = tables.read_fallback(line, SETTINGS).map(use_all).is_ok();
+    let loose = tables.read_loose(line, SETTINGS).map(|answer| use_all(answer.or_whole())).is_ok();
     let strict = tables.read_strict(line).map(use_all).is_ok();
-    usize::from(exact) + usize::from(fallback) + usize::from(strict)
+    usize::from(loose) + usize::from(strict)
 }
 
 #[test]

@@ -1,6 +1,6 @@
 //! Elements and parameters, lookup and unescaping.
 
-use khamdoriem::{Offset, Refusal, Settings, Tables, Unescape, Variant, Year, MAX_LINE};
+use khamdoriem::{Loose, Offset, Reading, Refusal, Settings, Tables, Unescape, Variant, Year, MAX_LINE};
 
 const SETTINGS: Settings = Settings::new(Variant::Either, Year::MIN, Offset::UTC);
 
@@ -8,9 +8,13 @@ const SETTINGS: Settings = Settings::new(Variant::Either, Year::MIN, Offset::UTC
 const STAGES: &[u8] =
     br#"<13>1 - gate7 reader 42 TAP [stage@32473 name="radio" ms="31"][tap@32473][stage@32473 name="deny\"list\]" ms="212"] ok"#;
 
+fn read<'line, 'tables>(tables: &'tables mut Tables, line: &'line [u8]) -> Reading<'line, 'tables, Loose> {
+    tables.read_loose(line, SETTINGS).unwrap().exact().unwrap()
+}
+
 fn pairs(tables: &mut Tables, line: &[u8]) -> Vec<(String, Vec<(String, String)>)> {
     let text = |bytes: &[u8]| String::from_utf8(bytes.to_vec()).unwrap();
-    let reading = tables.read_exact(line, SETTINGS).unwrap();
+    let reading = read(tables, line);
     let params = |e: khamdoriem::Element<'_, '_>| e.params().map(|p| (text(p.name()), text(p.value()))).collect();
     reading.elements().map(|e| (text(e.id()), params(e))).collect()
 }
@@ -39,7 +43,7 @@ fn elements_of_rfc3164() {
 #[test]
 fn iterators_know_their_lengths() {
     let mut tables = Tables::new(3, 4);
-    let reading = tables.read_exact(STAGES, SETTINGS).unwrap();
+    let reading = read(&mut tables, STAGES);
     let mut elements = reading.elements();
     let mut lengths = Vec::new();
     while let Some(element) = elements.next() {
@@ -69,7 +73,7 @@ fn no_elements() {
 #[test]
 fn lookup_finds_the_first() {
     let mut tables = Tables::new(3, 4);
-    let reading = tables.read_exact(STAGES, SETTINGS).unwrap();
+    let reading = read(&mut tables, STAGES);
     let mut output = [0; 8];
     let mut look = |id: &[u8], name: &[u8]| reading.lookup(id, name, Unescape::Strict, &mut output).map(<[u8]>::to_vec);
     assert_eq!(look(b"stage@32473", b"ms"), Ok(b"31".to_vec()));
@@ -84,7 +88,7 @@ fn lookup_finds_the_first() {
 fn both_unescapings() {
     // In the loose reading backslash takes the next character with it, so a value cannot end in a lone one.
     let mut tables = Tables::new(1, 1);
-    let reading = tables.read_exact(br#"<13>1 - h a p m [id a="q\" b\\ c\] n\n z\z"] x"#, SETTINGS).unwrap();
+    let reading = read(&mut tables, br#"<13>1 - h a p m [id a="q\" b\\ c\] n\n z\z"] x"#);
     let mut output = [0; 64];
     let loose = reading.lookup(b"id", b"a", Unescape::Loose, &mut output).unwrap();
     assert_eq!(loose, b"q\" b\\ c] n\n z\\z");
@@ -95,7 +99,7 @@ fn both_unescapings() {
 #[test]
 fn a_parameter_of_a_later_element_is_unescaped() {
     let mut tables = Tables::new(3, 4);
-    let reading = tables.read_exact(STAGES, SETTINGS).unwrap();
+    let reading = read(&mut tables, STAGES);
     let second = reading.elements().filter(|e| e.id() == b"stage@32473").nth(1).unwrap();
     let name = second.params().next().unwrap();
     let mut output = [b'.'; 12];
@@ -121,7 +125,7 @@ fn unescaping_of_a_parameter_is_that_of_lookup() {
 #[test]
 fn an_output_one_short_is_left_alone() {
     let mut tables = Tables::new(3, 4);
-    let reading = tables.read_exact(STAGES, SETTINGS).unwrap();
+    let reading = read(&mut tables, STAGES);
     let mut output = [b'.'; 5];
     assert_eq!(
         reading.lookup(b"stage@32473", b"name", Unescape::Strict, &mut output[..4]),
@@ -150,10 +154,10 @@ fn tables_for_any_line_take_the_lines_with_most() {
         (times, format!("{head}{}{tail}", unit.repeat(times)))
     };
     let (elements, line) = fill("<1>1 - - - - - ", "[a]", "");
-    assert_eq!(tables.read_exact(line.as_bytes(), SETTINGS).unwrap().elements().len(), elements);
+    assert_eq!(read(&mut tables, line.as_bytes()).elements().len(), elements);
     let (params, line) = fill("<1>1 - - - - - [a", " b=\"\"", "]");
     assert_eq!(tables.read_strict(line.as_bytes()).unwrap().params().len(), params);
-    assert_eq!(tables.read_exact(line.as_bytes(), SETTINGS).unwrap().params().len(), params);
+    assert_eq!(read(&mut tables, line.as_bytes()).params().len(), params);
 }
 
 #[test]
@@ -165,7 +169,8 @@ fn ids_of_a_strict_line_differ() {
     };
     // As many as a line has room for, in each size of the reader's own tables: all different, and with the first again in place of the last.
     let letters: Vec<char> = ('!'..='~').filter(|letter| !"=\"]".contains(*letter)).collect();
-    let ids: Vec<String> = (0..2044).map(|k| [letters[k / letters.len()], letters[k % letters.len()]].iter().collect()).collect();
+    let ids: Vec<String> =
+        (0..2044).map(|k| [letters[k / letters.len()], letters[k % letters.len()]].iter().collect()).collect();
     for many in [1, 2, 8, 9, 64, 65, 512, 513, ids.len()] {
         let mut some = ids[..many].to_vec();
         assert_eq!(count(&some), Ok(many));

@@ -26,8 +26,8 @@ module _ {line memory : List ℕ} {elements params : List (List ℕ)} (called : 
   called-holds = go called
     where
       go : Called line memory elements params → Holds memory (λ r e p. Left line r e p elements params)
-      go (Called.by-exact h) = let k = memory-holds .exact h in record { holds = k .holds; reads = Left.by-exact (k .reads) }
-      go (Called.by-fallback h) = let k = memory-holds .fallback h in record { holds = k .holds; reads = Left.by-fallback (k .reads) }
+      go (Called.by-loose h) = let k = memory-holds .loose h in record { holds = k .holds; reads = Left.by-loose (k .reads) }
+      go (Called.by-whole h) = let k = memory-holds .whole-line h in record { holds = k .holds; reads = Left.by-whole (k .reads .reads) (k .reads .no-elements) (k .reads .no-params) }
       go (Called.by-strict h) = let k = memory-holds .strict h in record { holds = k .holds; reads = Left.by-strict (k .reads .reads) (k .reads .common) }
 
   record-served : suited.Served line (recordAt memory) (elementCountAt memory) (paramCountAt memory) elements params

@@ -26,7 +26,7 @@ use Rattle.grammar.proofs.Readers.{text-length}
 use Rattle.grammar.proofs.Data.{param-reads, element-reads}
 use Rattle.strict_data.proofs.Filling.{params-length, param-length}
 
--- ---- the loose readers
+-- ---- the loose reader
 
 -- the parameters of an element
 param-few : (e at before n : ℕ) (x : Param) (more : ℕ → Params) → ((len : ℕ) → length (more len .rows) ≤ n) → length (paramAnd e at before x more .rows) ≤ n + 1

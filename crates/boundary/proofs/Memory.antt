@@ -1,6 +1,6 @@
 -- The memory of the record after a call of a reader that answered 0 holds the reading's own record and counts (specs/Called.antt: MemoryHolds).
 use Prim.Native.Nat.{ℕ}
-use mathlib.Core.Path.{_≡_, refl, ap, _∙_}
+use mathlib.Core.Path.{_≡_, refl, sym, ap, _∙_}
 use mathlib.Core.Bool.{Bool, true, false}
 use mathlib.Core.List.{List, [], _∷_, _++_, append-assoc}
 use lib.Dec.{eqb, ltb}
@@ -10,6 +10,8 @@ use Rattle.base.specs.Choose.{if_then_else_}
 use Rattle.base.specs.Fills.{filled}
 use Rattle.base.proofs.Tests.{clash}
 use Rattle.record.specs.Refusals.{refusalNumber}
+use Rattle.record.specs.Answers.{readAnswerOf, strictReadAnswerOf}
+use Rattle.record.specs.declared.ReadAnswer.{ReadAnswer}
 use Rattle.record.specs.declared.Record.{Record}
 use Rattle.record.specs.declared.Reading.{Reading}
 use Rattle.record.specs.declared.Reading.the-variants as loose
@@ -21,11 +23,11 @@ use Rattle.record.specs.declared.Refusal.the-variants.{LineTooLong, BadSetting,
 use Rattle.layout.specs.Layout.{recordSize, strictSize, wordsBytes, mark, placeWords, recordWords, strictWords, recordBytes, strictBytes}
 use Rattle.layout.proofs.Words.{words-append}
 use Rattle.layout.proofs.Back.{laid-held, laid-counts, laid-back}
-use Rattle.loose.specs.Loose.{ReadsExact, ReadsFallback}
+use Rattle.loose.specs.Loose.{Reads}
 use Rattle.grammar.specs.Reading.{StrictReads}
-use Rattle.exports.specs.Exports.{leftNumber, numberOf, bytesOf, strictNumberOf, strictBytesOf, LeavesExact, LeavesFallback, LeavesStrict}
+use Rattle.exports.specs.Exports.{leftAnswer, bytesOf, strictBytesOf, LeavesLoose, LeavesStrict}
 use Rattle.suited.specs.Served.{Left}
-use Rattle.boundary.specs.Called.{Holds, StrictCommon, MemoryHolds}
+use Rattle.boundary.specs.Called.{read, whole, Holds, StrictCommon, WholeLine, MemoryHolds}
 use Rattle.boundary.proofs.Fitting.{left-in}
 
 refused : (f : Refusal) → eqb (refusalNumber f) 0 ≡ false
@@ -39,13 +41,28 @@ refused Unsuitable = refl
 refused NotFound = refl
 refused OutputShort = refl
 
+-- an answer of number 0, and a refusal's
+abbrev done : ℕ → ReadAnswer
+done mark = record { number = 0; whole = mark; reach = 0 }
+
+abbrev refusing : Refusal → ReadAnswer
+refusing f = record { number = refusalNumber f; whole = 0; reach = 0 }
+
 -- a refusal's number is never 0, with too little memory neither
-never : {A : Type 0} (f : Refusal) (size room : ℕ) → 0 ≡ leftNumber (refusalNumber f) size room → A
-never {A} f size room h = go (ltb room size) (rw (refused f) at h)
+never : {A : Type 0} (mark : ℕ) (f : Refusal) (size room : ℕ) → done mark ≡ leftAnswer (refusing f) size room → A
+never {A} mark f size room h = go (ltb room size) (rw (refused f) at h)
   where
-    go : (b : Bool) → 0 ≡ (if b then refusalNumber f else refusalNumber f) → A
-    go true h = clash (ap (λ (n : ℕ). eqb n 0) h ∙ refused f)
-    go false h = clash (ap (λ (n : ℕ). eqb n 0) h ∙ refused f)
+    go : (b : Bool) → done mark ≡ (if b then refusing f else refusing f) → A
+    go true h = clash (ap (λ (a : ReadAnswer). eqb (a .number) 0) h ∙ refused f)
+    go false h = clash (ap (λ (a : ReadAnswer). eqb (a .number) 0) h ∙ refused f)
+
+-- and a reading is told apart from a whole line
+apart : {A : Type 0} (m k size room : ℕ) → eqb k k ≡ true → eqb m k ≡ false → done m ≡ leftAnswer (done k) size room → A
+apart {A} m k size room t f h = go (ltb room size) h
+  where
+    go : (b : Bool) → done m ≡ (if b then record { number = 8; whole = 0; reach = 0 } else done k) → A
+    go true h = clash (ap (λ (a : ReadAnswer). eqb (a .number) 0) h)
+    go false h = clash (sym t ∙ sym (ap (λ (a : ReadAnswer). eqb (a .whole) k) h) ∙ f)
 
 -- the words that the strict reader adds
 abbrev added : StrictRecord → List ℕ
@@ -66,35 +83,39 @@ module _ {line memory : List ℕ} {elements params : List (List ℕ)} where
       let (n, m) = laid-counts r e p t rest in
       rw q (record { holds = laid-held r e p t rest; reads = rw (laid-back r e p t rest, n, m) h })
 
-  loose-holds : (Reads : Reading → Type 0) → ((r : Record) (e p : ℕ) → Reads (loose.Read r e p) → Left line r e p elements params)
-      → (out : List ℕ) (a : Reading) → Reads a → 0 ≡ leftNumber (numberOf a) recordSize (length out) → memory ≡ filled (bytesOf a) out
-      → Holds memory (λ r e p. Reads (loose.Read r e p))
-  loose-holds Reads left out (loose.Read r e p) h n q = laid-holds (λ r e p. Reads (loose.Read r e p)) left r e p _ q h
-  loose-holds Reads left out (loose.Refused f) h n q = never f recordSize (length out) n
-
   module _ {variant year : ℕ} {offset : ℤ} {e₀ p₀ : List (List ℕ)} {out : List ℕ} where
-    exact-holds : LeavesExact line variant year offset e₀ p₀ out 0 elements params memory
-        → Holds memory (λ r e p. ReadsExact line variant year offset e₀ p₀ (loose.Read r e p) elements params)
-    exact-holds h =
-        loose-holds (λ a. ReadsExact line variant year offset e₀ p₀ a elements params) (λ r e p k. Left.by-exact k)
-        out (h .answer) (rw (← h .elements-are, ← h .params-are) at (h .reads)) (h .number-is) (h .record-is)
+    loose-holds : LeavesLoose line variant year offset e₀ p₀ out read elements params memory
+        → Holds memory (λ r e p. Reads line variant year offset e₀ p₀ (loose.Read r e p) elements params)
+    loose-holds h = go (h .answer) (rw (← h .elements-are, ← h .params-are) at (h .reads)) (h .told-is) (h .record-is)
+      where
+        go : (a : Reading) → Reads line variant year offset e₀ p₀ a elements params → read ≡ leftAnswer (readAnswerOf a) recordSize (length out)
+            → memory ≡ filled (bytesOf a) out → Holds memory (λ r e p. Reads line variant year offset e₀ p₀ (loose.Read r e p) elements params)
+        go (loose.Read r e p) k t q =
+            laid-holds (λ r e p. Reads line variant year offset e₀ p₀ (loose.Read r e p) elements params) (λ r e p k. Left.by-loose k) r e p _ q k
+        go (loose.Whole r) k t q = apart 0 1 recordSize (length out) refl refl t
+        go (loose.Refused f) k t q = never 0 f recordSize (length out) t
 
-    fallback-holds : LeavesFallback line variant year offset e₀ p₀ out 0 elements params memory
-        → Holds memory (λ r e p. ReadsFallback line variant year offset e₀ p₀ (loose.Read r e p) elements params)
-    fallback-holds h =
-        loose-holds (λ a. ReadsFallback line variant year offset e₀ p₀ a elements params) (λ r e p k. Left.by-fallback k)
-        out (h .answer) (rw (← h .elements-are, ← h .params-are) at (h .reads)) (h .number-is) (h .record-is)
+    whole-holds : LeavesLoose line variant year offset e₀ p₀ out whole elements params memory → Holds memory (WholeLine line variant year offset e₀ p₀ elements params)
+    whole-holds h = go (h .answer) (rw (← h .elements-are, ← h .params-are) at (h .reads)) (h .told-is) (h .record-is)
+      where
+        go : (a : Reading) → Reads line variant year offset e₀ p₀ a elements params → whole ≡ leftAnswer (readAnswerOf a) recordSize (length out)
+            → memory ≡ filled (bytesOf a) out → Holds memory (WholeLine line variant year offset e₀ p₀ elements params)
+        go (loose.Read r e p) k t q = apart 1 0 recordSize (length out) refl refl t
+        go (loose.Whole r) k t q =
+            laid-holds (WholeLine line variant year offset e₀ p₀ elements params) (λ r e p k. Left.by-whole (k .reads) (k .no-elements) (k .no-params))
+            r 0 0 _ q (record { reads = k; no-elements = refl; no-params = refl })
+        go (loose.Refused f) k t q = never 1 f recordSize (length out) t
 
   module _ {e₀ p₀ : List (List ℕ)} {out : List ℕ} where
-    strict-holds : LeavesStrict line e₀ p₀ out 0 elements params memory → Holds memory (StrictCommon line e₀ p₀ elements params)
-    strict-holds h = go (h .answer) (rw (← h .elements-are, ← h .params-are) at (h .reads)) (h .number-is) (h .record-is)
+    strict-holds : LeavesStrict line e₀ p₀ out read elements params memory → Holds memory (StrictCommon line e₀ p₀ elements params)
+    strict-holds h = go (h .answer) (rw (← h .elements-are, ← h .params-are) at (h .reads)) (h .told-is) (h .record-is)
       where
-        go : (a : StrictReading) → StrictReads line e₀ p₀ a elements params → 0 ≡ leftNumber (strictNumberOf a) strictSize (length out)
+        go : (a : StrictReading) → StrictReads line e₀ p₀ a elements params → read ≡ leftAnswer (strictReadAnswerOf a) strictSize (length out)
             → memory ≡ filled (strictBytesOf a) out → Holds memory (StrictCommon line e₀ p₀ elements params)
         go (strict.Read s e p) h n q =
             laid-holds (StrictCommon line e₀ p₀ elements params) (λ r e p k. Left.by-strict (k .reads) (k .common))
-            (s .common) e p _ (q ∙ strict-front s e p _) (record { whole = s; common = refl; reads = h })
-        go (strict.Refused f) h n q = never f strictSize (length out) n
+            (s .common) e p _ (q ∙ strict-front s e p _) (record { full = s; common = refl; reads = h })
+        go (strict.Refused f) h n q = never 0 f strictSize (length out) n
 
 pub memory-holds : MemoryHolds
-memory-holds = record { exact = exact-holds; fallback = fallback-holds; strict = strict-holds }
+memory-holds = record { loose = loose-holds; whole-line = whole-holds; strict = strict-holds }

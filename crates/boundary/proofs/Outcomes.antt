@@ -32,17 +32,18 @@ use Rattle.rfc5424.specs.Rfc5424 as rfc5424
 use Rattle.rfc5424.specs.declared.Start.{Start}
 use Rattle.rfc5424.specs.declared.Start.the-variants.{NoStart, IsStart}
 use Rattle.rfc5424.proofs.Lines.{on-start, on-four, on-data}
-use Rattle.loose.specs.Loose.{outcomeOf, orWhole}
+use Rattle.loose.specs.Loose.{outcomeOf}
 use Rattle.loose.proofs.Variants.{of-variant}
+use Rattle.loose.proofs.Answers.{whole-is}
 use Rattle.grammar.specs.Line.{Division, Derives}
 use Rattle.grammar.specs.Reading.{recordOf}
 use Rattle.layout.proofs.Back.{ProtocolIn}
 use Rattle.suited.specs.Served.{Left}
 use Rattle.suited.proofs.Frame.{Judged, reading-judged}
 use Rattle.suited.proofs.Strict.{line-length, reading-divided}
-use Rattle.boundary.proofs.Counts.{Few, none-few, data-few, division-few}
+use Rattle.boundary.proofs.Counts.{Few, data-few, division-few}
 
--- ---- the loose readers: a version is what numberFrom reads
+-- ---- the loose reader: a version is what numberFrom reads
 
 abbrev NumIn : Num → Type 0
 NumIn NoNum = Unit {0}
@@ -101,10 +102,6 @@ outcome-in line short variant year offset =
     let l : length s ≤ lineLimit = omega (arith, length-take (ends .end) line) in
     of-variant OutcomeIn variant year offset s (ends .start) (rfc5424-in s l (ends .start)) (rfc3164-in s l (ends .start) year offset)
 
-whole-in : (line : List ℕ) (o : Outcome) → OutcomeIn o → OutcomeIn (orWhole line o)
-whole-in line noReading h = (tt, none-few 0)
-whole-in line (isReading r at rows) h = h
-
 -- ---- the strict reader: a version has at most three digits
 
 division-in : (line : List ℕ) (d : Division) → Derives line d → ProtocolIn (recordOf d .common .protocol)
@@ -127,10 +124,9 @@ judged-sized j h =
     record { version-in = v; elements-to = omega (arith, j .elements-many, f .elements-to); params-to = omega (arith, j .params-many, f .params-to) }
 
 pub left-sized : {line : List ℕ} {r : Record} {e p : ℕ} {elements params : List (List ℕ)} → length line ≤ lineLimit → Left line r e p elements params → Sized r e p
-left-sized {line} {elements} {params} short (Left.by-exact {variant} {year} {offset} {e₀} {p₀} h) =
-    judged-sized (reading-judged line e₀ p₀ elements params variant year offset _ h) (outcome-in line short variant year offset)
-left-sized {line} {elements} {params} short (Left.by-fallback {variant} {year} {offset} {e₀} {p₀} h) =
-    judged-sized (reading-judged line e₀ p₀ elements params variant year offset _ h) (whole-in line (outcomeOf line variant year offset) (outcome-in line short variant year offset))
+left-sized {line} {elements} {params} short (Left.by-loose {variant} {year} {offset} {e₀} {p₀} h) =
+    judged-sized (reading-judged line e₀ p₀ elements params variant year offset h) (outcome-in line short variant year offset)
+left-sized short (Left.by-whole h a b) = record { version-in = rw (whole-is h .is .alone) tt; elements-to = omega (arith, a); params-to = omega (arith, b) }
 left-sized {line} {e} {p} short (Left.by-strict h q) =
     let d = reading-divided h in
     let few = division-few (d .by .elements) (d .derives .elements-ok) in

@@ -13,13 +13,14 @@ use Rattle.record.specs.declared.StrictRecord.{StrictRecord}
 use Rattle.record.specs.declared.StrictReading.the-variants as strict
 use Rattle.record.specs.declared.Written.{Written}
 use Rattle.record.specs.declared.OutputAnswer.{OutputAnswer}
+use Rattle.record.specs.declared.ReadAnswer.{ReadAnswer}
 use Rattle.output.specs.Output.{outputAfter}
 use Rattle.layout.specs.Incoming.{holdsRecord, recordAt, elementCountAt, paramCountAt}
-use Rattle.loose.specs.Loose.{ReadsExact, ReadsFallback}
+use Rattle.loose.specs.Loose.{Reads}
 use Rattle.grammar.specs.Reading.{StrictReads}
 use Rattle.lookup.specs.Lookup.{Found, found, valueText}
 use Rattle.message.specs.Message.{printed}
-use Rattle.exports.specs.Exports.{LeavesExact, LeavesFallback, LeavesStrict, ServesPrint, ServesLookup}
+use Rattle.exports.specs.Exports.{LeavesLoose, LeavesStrict, ServesPrint, ServesLookup}
 use Rattle.suited.specs.Served.{printAnswer, lookupAnswer}
 
 -- ---- the record's memory
@@ -29,33 +30,46 @@ pub record Holds (memory : List ℕ) (Reads : Record → ℕ → ℕ → Type 0)
   pub holds : holdsRecord memory ≡ true
   pub reads : Reads (recordAt memory) (elementCountAt memory) (paramCountAt memory)
 
--- what the strict reader says of the fields that its record shares with the loose readers' (bytes 0 to 207)
+-- what a reader answers where it is done: the record and the counts, or the whole line as the message
+abbrev pub read : ReadAnswer
+read = record { number = 0; whole = 0; reach = 0 }
+
+abbrev pub whole : ReadAnswer
+whole = record { number = 0; whole = 1; reach = 0 }
+
+-- what the strict reader says of the fields that its record shares with the loose reader's (bytes 0 to 207)
 pub record StrictCommon (line : List ℕ) (e₀ p₀ elements params : List (List ℕ)) (r : Record) (e p : ℕ) : Type 0 where
-  pub whole : StrictRecord
-  pub common : r ≡ whole .common
-  pub reads : StrictReads line e₀ p₀ (strict.Read whole e p) elements params
+  pub full : StrictRecord
+  pub common : r ≡ full .common
+  pub reads : StrictReads line e₀ p₀ (strict.Read full e p) elements params
+
+-- what the loose reader says of a line that is the message
+pub record WholeLine (line : List ℕ) (variant year : ℕ) (offset : ℤ) (e₀ p₀ elements params : List (List ℕ)) (r : Record) (e p : ℕ) : Type 0 where
+  pub reads : Reads line variant year offset e₀ p₀ (loose.Whole r) elements params
+  pub no-elements : e ≡ 0
+  pub no-params : p ≡ 0
 
 -- After a call of a reader that answered 0 the memory holds the reading's own record and counts.
 pub record MemoryHolds : Type 0 where
-  pub exact : {line out memory : List ℕ} {variant year : ℕ} {offset : ℤ} {e₀ p₀ elements params : List (List ℕ)}
-      → LeavesExact line variant year offset e₀ p₀ out 0 elements params memory
-      → Holds memory (λ r e p. ReadsExact line variant year offset e₀ p₀ (loose.Read r e p) elements params)
-  pub fallback : {line out memory : List ℕ} {variant year : ℕ} {offset : ℤ} {e₀ p₀ elements params : List (List ℕ)}
-      → LeavesFallback line variant year offset e₀ p₀ out 0 elements params memory
-      → Holds memory (λ r e p. ReadsFallback line variant year offset e₀ p₀ (loose.Read r e p) elements params)
+  pub loose : {line out memory : List ℕ} {variant year : ℕ} {offset : ℤ} {e₀ p₀ elements params : List (List ℕ)}
+      → LeavesLoose line variant year offset e₀ p₀ out read elements params memory
+      → Holds memory (λ r e p. Reads line variant year offset e₀ p₀ (loose.Read r e p) elements params)
+  pub whole-line : {line out memory : List ℕ} {variant year : ℕ} {offset : ℤ} {e₀ p₀ elements params : List (List ℕ)}
+      → LeavesLoose line variant year offset e₀ p₀ out whole elements params memory
+      → Holds memory (WholeLine line variant year offset e₀ p₀ elements params)
   pub strict : {line out memory : List ℕ} {e₀ p₀ elements params : List (List ℕ)}
-      → LeavesStrict line e₀ p₀ out 0 elements params memory
+      → LeavesStrict line e₀ p₀ out read elements params memory
       → Holds memory (StrictCommon line e₀ p₀ elements params)
 
 -- ---- printing and lookup
 
 -- what a call of a reader left in the record's memory and in both tables, where it answered 0
 pub data Called (line memory : List ℕ) (elements params : List (List ℕ)) : Type 0 where
-  by-exact : {variant year : ℕ} {offset : ℤ} {e₀ p₀ : List (List ℕ)} {out : List ℕ} → LeavesExact line variant year offset e₀ p₀ out 0 elements params memory
+  by-loose : {variant year : ℕ} {offset : ℤ} {e₀ p₀ : List (List ℕ)} {out : List ℕ} → LeavesLoose line variant year offset e₀ p₀ out read elements params memory
       → Called line memory elements params
-  by-fallback : {variant year : ℕ} {offset : ℤ} {e₀ p₀ : List (List ℕ)} {out : List ℕ} → LeavesFallback line variant year offset e₀ p₀ out 0 elements params memory
+  by-whole : {variant year : ℕ} {offset : ℤ} {e₀ p₀ : List (List ℕ)} {out : List ℕ} → LeavesLoose line variant year offset e₀ p₀ out whole elements params memory
       → Called line memory elements params
-  by-strict : {e₀ p₀ : List (List ℕ)} {out : List ℕ} → LeavesStrict line e₀ p₀ out 0 elements params memory → Called line memory elements params
+  by-strict : {e₀ p₀ : List (List ℕ)} {out : List ℕ} → LeavesStrict line e₀ p₀ out read elements params memory → Called line memory elements params
 
 -- a call that answers `w` in its number and length, with `text` in the output where that is done
 pub record Answered (w : Written) (text old : List ℕ) (a : OutputAnswer) (new : List ℕ) : Type 0 where

@@ -1,17 +1,16 @@
 // The calls of a case, each over tables of its own, with the answer as plain numbers or bytes.
-use crate::exact;
-use crate::fallback;
 use crate::lookup;
+use crate::loose;
 use crate::print;
 use crate::strict;
+use record::ReadAnswer;
 ghost use mathlib.Core.Path.{_≡_};
 ghost use Prim.Native.Nat.{_≤_};
 ghost use lib.ListN.{length};
 ghost use Rattle.layout.specs.Layout.{recordSize};
 
-// Whether a line with no reading becomes the message; variant, year and offset.
+// Variant, year and offset.
 pub struct Settings {
-    pub fallback: bool,
     pub variant: u32,
     pub year: u32,
     pub offset: i32,
@@ -38,6 +37,17 @@ fn push(numbers: &mut [u64], at: usize, n: u64) -> usize
     }
     numbers[at] = n;
     at + 1
+}
+
+// The number of an answer and, where it is 0, whether the whole line is the message.
+fn push_answer(numbers: &mut [u64], told: ReadAnswer) -> usize
+    ensures { λ _. ⌜ length (now (numbers .exit)) ≡ length (now (numbers .entry)) ⌝ }
+{
+    let next = push(numbers, 0, told.number as u64);
+    if told.number != 0 {
+        return next;
+    }
+    push(numbers, next, told.whole as u64)
 }
 
 // The words of a record's bytes from word `from` on.
@@ -103,22 +113,10 @@ fn read(
     elements: &mut [[usize; 2]],
     rows: &mut [[usize; 5]],
     memory: &mut [u8],
-) -> u32
+) -> ReadAnswer
     requires { ⌜ (e ≤ length (now elements)) × (p ≤ 256) ⌝ }
 {
-    if s.fallback {
-        return fallback(
-            line,
-            s.variant,
-            s.year,
-            s.offset,
-            &mut elements[0..e],
-            p,
-            memory,
-            rows,
-        );
-    }
-    exact(
+    loose(
         line,
         s.variant,
         s.year,
@@ -130,12 +128,13 @@ fn read(
     )
 }
 
-// A reading into tables of `e` and `p` entries: its number and, where it is 0, the words of the record and the rows.
+// A reading into tables of `e` and `p` entries: its number and, where it is 0, whether the whole line is the message, the words of the record
+// and the rows.
 pub fn reading(line: &[u8], s: Settings, e: usize, p: usize, numbers: &mut [u64]) -> usize {
     let mut elements = [[0usize; 2]; 64];
     let mut params = [[0usize; 5]; 256];
     let mut memory = [0u8; layout::RECORD_SIZE];
-    let n = read(
+    let told = read(
         line,
         s,
         up_to(e as u64, 64),
@@ -144,7 +143,8 @@ pub fn reading(line: &[u8], s: Settings, e: usize, p: usize, numbers: &mut [u64]
         &mut params,
         &mut memory,
     );
-    let a = push(numbers, 0, n as u64);
+    let n = told.number;
+    let a = push_answer(numbers, told);
     if n != 0 {
         return a;
     }
@@ -168,8 +168,9 @@ pub fn strict_reading(line: &[u8], numbers: &mut [u64]) -> usize {
     let mut elements = [[0usize; 2]; 64];
     let mut params = [[0usize; 5]; 256];
     let mut memory = [0u8; layout::STRICT_SIZE];
-    let n = strict(line, &mut elements, &mut memory, &mut params);
-    let a = push(numbers, 0, n as u64);
+    let told = strict(line, &mut elements, &mut memory, &mut params);
+    let n = told.number;
+    let a = push_answer(numbers, told);
     if n != 0 {
         return a;
     }
@@ -194,12 +195,12 @@ pub fn strict_reading(line: &[u8], numbers: &mut [u64]) -> usize {
     )
 }
 
-// An exact reading, and its record printed over the line's first `left` bytes.
+// A reading, and its record printed over the line's first `left` bytes.
 pub fn printing(line: &[u8], s: Settings, left: usize, out: &mut [u8]) -> record::OutputAnswer {
     let mut elements = [[0usize; 2]; 64];
     let mut params = [[0usize; 5]; 256];
     let mut memory = [0u8; layout::RECORD_SIZE];
-    let n = exact(
+    let told = loose(
         line,
         s.variant,
         s.year,
@@ -209,14 +210,17 @@ pub fn printing(line: &[u8], s: Settings, left: usize, out: &mut [u8]) -> record
         &mut memory,
         &mut params,
     );
-    if n != 0 {
-        return record::OutputAnswer { number: n, len: 0 };
+    if told.number != 0 {
+        return record::OutputAnswer {
+            number: told.number,
+            len: 0,
+        };
     }
     let end = up_to(left as u64, line.len());
     print(&line[0..end], &memory, &elements, &params, out)
 }
 
-// An exact reading, and a value of it looked up.
+// A reading, and a value of it looked up.
 pub fn looking(
     line: &[u8],
     s: Settings,
@@ -228,7 +232,7 @@ pub fn looking(
     let mut elements = [[0usize; 2]; 64];
     let mut params = [[0usize; 5]; 256];
     let mut memory = [0u8; layout::RECORD_SIZE];
-    let n = exact(
+    let told = loose(
         line,
         s.variant,
         s.year,
@@ -238,8 +242,11 @@ pub fn looking(
         &mut memory,
         &mut params,
     );
-    if n != 0 {
-        return record::OutputAnswer { number: n, len: 0 };
+    if told.number != 0 {
+        return record::OutputAnswer {
+            number: told.number,
+            len: 0,
+        };
     }
     lookup(line, &memory, &elements, &params, id, name, kind, out)
 }

@@ -3,6 +3,7 @@ pub mod answers;
 
 use record::OutputAnswer;
 use record::Param;
+use record::ReadAnswer;
 ghost use Prim.Native.Nat.{_≤_};
 
 // An entry as a row, if there is room.
@@ -30,7 +31,7 @@ pub fn copy_rows(params: &[Param], rows: &mut [[usize; 5]]) {
 }
 
 // `p` is how many entries the table has.
-pub fn exact(
+pub fn loose(
     line: &[u8],
     variant: u32,
     year: u32,
@@ -39,12 +40,12 @@ pub fn exact(
     p: usize,
     memory: &mut [u8],
     rows: &mut [[usize; 5]],
-) -> u32
+) -> ReadAnswer
     requires { ⌜ p ≤ 256 ⌝ }
 {
     let blank = record::blank();
     let mut params = [blank; 256];
-    let n = exports::khamdoriem_read_exact(
+    let a = exports::khamdoriem_read_loose(
         line,
         variant,
         year,
@@ -54,35 +55,7 @@ pub fn exact(
         memory,
     );
     copy_rows(&params, rows);
-    n
-}
-
-// The same by fallback reading.
-pub fn fallback(
-    line: &[u8],
-    variant: u32,
-    year: u32,
-    offset: i32,
-    elements: &mut [[usize; 2]],
-    p: usize,
-    memory: &mut [u8],
-    rows: &mut [[usize; 5]],
-) -> u32
-    requires { ⌜ p ≤ 256 ⌝ }
-{
-    let blank = record::blank();
-    let mut params = [blank; 256];
-    let n = exports::khamdoriem_read_fallback(
-        line,
-        variant,
-        year,
-        offset,
-        elements,
-        &mut params[..p],
-        memory,
-    );
-    copy_rows(&params, rows);
-    n
+    a
 }
 
 // The same by strict reading.
@@ -91,12 +64,12 @@ pub fn strict(
     elements: &mut [[usize; 2]],
     memory: &mut [u8],
     rows: &mut [[usize; 5]],
-) -> u32 {
+) -> ReadAnswer {
     let blank = record::blank();
     let mut params = [blank; 256];
-    let n = exports::khamdoriem_read_strict(line, elements, &mut params, memory);
+    let a = exports::khamdoriem_read_strict(line, elements, &mut params, memory);
     copy_rows(&params, rows);
-    n
+    a
 }
 
 // A row as an entry; a blank one where there is no row.

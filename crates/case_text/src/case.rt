@@ -28,13 +28,12 @@ fn offset_of(n: u64) -> i32 {
 }
 
 // The settings of a loose reading: three fields from `at` on.
-pub fn settings(text: &[u8], at: usize, fallback: bool) -> Set {
+pub fn settings(text: &[u8], at: usize) -> Set {
     let variant = number(text, at);
     let year = number(text, variant.next);
     let offset = number(text, year.next);
     Set {
         settings: Settings {
-            fallback,
             variant: low_half(variant.value),
             year: low_half(year.value),
             offset: offset_of(offset.value),
@@ -58,9 +57,10 @@ fn is_numbers(text: &[u8], at: usize, numbers: &[u64]) -> bool {
     next == text.len()
 }
 
-// `E` or `F`: variant, year, offset, the tables' lengths, the line; then the number and, where it is 0, words and rows.
-pub fn reading_case(text: &[u8], fallback: bool, line: &mut [u8], numbers: &mut [u64]) -> bool {
-    let s = settings(text, 2, fallback);
+// `R`: variant, year, offset, the tables' lengths, the line; then the number and, where it is 0, whether the whole line is the message, words and
+// rows.
+pub fn reading_case(text: &[u8], line: &mut [u8], numbers: &mut [u64]) -> bool {
+    let s = settings(text, 2);
     let e = number(text, s.next);
     let p = number(text, e.next);
     let l = bytes(text, p.next, line);
@@ -112,7 +112,7 @@ fn is_output(
 // `P`: the line, variant, year, offset, how much of the line is left for printing, the output's length; then the number and the bytes.
 pub fn printing_case(text: &[u8], line: &mut [u8], out: &mut [u8], wanted: &mut [u8]) -> bool {
     let l = bytes(text, 2, line);
-    let s = settings(text, l.next, false);
+    let s = settings(text, l.next);
     let left = number(text, s.next);
     let room = number(text, left.next);
     let len = up_to(l.value, line.len());
@@ -161,7 +161,7 @@ fn look(text: &[u8], at: usize, line: &[u8], s: Settings, out: &mut [u8]) -> Giv
 // `L`: the line, variant, year, offset, id, name, kind, the output's length; then the number and the bytes.
 pub fn looking_case(text: &[u8], line: &mut [u8], out: &mut [u8], wanted: &mut [u8]) -> bool {
     let l = bytes(text, 2, line);
-    let s = settings(text, l.next, false);
+    let s = settings(text, l.next);
     let len = up_to(l.value, line.len());
     let k = look(text, s.next, &line[0..len], s.settings, out);
     l.ok & k.ok & is_output(text, k.next, k.answer, out, wanted)

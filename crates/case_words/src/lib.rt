@@ -137,22 +137,23 @@ fn show_refusal(numbers: &[u64]) -> bool {
     n != 0
 }
 
-// An exact or a fallback reading. Its numbers are the refusal's, the record's words and the rows.
+// A loose reading. Its numbers are the refusal's, the mark of a whole line, the record's words and the rows.
 pub fn show_reading(line: &[u8], s: Settings) {
     let mut numbers = [0u64; 2048];
     reading(line, s, 64, 256, &mut numbers);
     if show_refusal(&numbers) {
         return;
     }
-    let words = &numbers[1..2048];
+    if at(&numbers, 1) == 1 {
+        say(b"  whole\n");
+    }
+    let words = &numbers[2..2048];
     show_front(words);
     show_texts(line, words);
     show_message(line, words);
     let next = show_elements(line, words, layout::WORD_COUNT);
     show_params(line, words, next);
-    if !s.fallback {
-        show_printed(line, s);
-    }
+    show_printed(line, s);
 }
 
 // A strict reading.
@@ -162,7 +163,7 @@ pub fn show_strict(line: &[u8]) {
     if show_refusal(&numbers) {
         return;
     }
-    let words = &numbers[1..2048];
+    let words = &numbers[2..2048];
     show_front(words);
     say_place(b"  timestamp ", line, words, TEXT_WORD);
     show_texts(line, words);

@@ -1,10 +1,10 @@
-// Runs the cases of standard input and writes each answer in words. A case is a line: `E` or `F` for an exact or a fallback reading with
-// variant, year and offset, `S` for a strict one; then, after one space, the line that is read.
+// Runs the cases of standard input and writes each answer in words. A case is a line: `R` for a loose reading with variant, year and
+// offset, `S` for a strict one; then, after one space, the line that is read.
 use case_text::words::say;
 use libc::STDIN_FILENO;
 
-fn show(text: &[u8], fallback: bool) {
-    let s = case_text::case::settings(text, 2, fallback);
+fn show(text: &[u8]) {
+    let s = case_text::case::settings(text, 2);
     let start = s.next;
     if text.len() < start {
         return;
@@ -19,8 +19,7 @@ fn show_case(text: &[u8]) {
         return;
     }
     match text[0] {
-        b'E' => show(text, false),
-        b'F' => show(text, true),
+        b'R' => show(text),
         _ => case_words::show_strict(&text[2..]),
     }
 }

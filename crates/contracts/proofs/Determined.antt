@@ -16,18 +16,14 @@ output-same x y q = λ i. record { answer = q .0 i; output = q .1 i }
 
 -- the law for all services
 pub determined : (s : Service) → OneResult s
-determined Service.exact i x y h k = tables-same x y (one-reading _ _ _ _ _ _ _ _ _ _ _ _ _ h k)
-determined Service.fallback i x y h k = tables-same x y (one-reading _ _ _ _ _ _ _ _ _ _ _ _ _ h k)
+determined Service.loose i x y h k = tables-same x y (one-reading _ _ _ _ _ _ _ _ _ _ _ _ h k)
 determined Service.strict i x y h k = tables-same x y (strict-one h k)
 determined Service.print i x y h k = output-same x y (answers-agree _ _ _ _ _ _ _ _ _ _ _ h k, outputs-agree _ _ _ _ _ _ _ _ _ _ _ h k)
 determined Service.lookup i x y h k = output-same x y (looks-one h k)
 
 -- and for each of them
-pub exact-determined : OneResult Service.exact
-exact-determined = determined Service.exact
-
-pub fallback-determined : OneResult Service.fallback
-fallback-determined = determined Service.fallback
+pub loose-determined : OneResult Service.loose
+loose-determined = determined Service.loose
 
 pub strict-determined : OneResult Service.strict
 strict-determined = determined Service.strict

@@ -5,20 +5,16 @@ use mathlib.Core.Bool.{Bool, true, false, not}
 use mathlib.Core.List.{List}
 use lib.Dec.{eqb, ltb}
 use lib.ListN.{length, take}
-use lib.IntN.{ℤ}
 use Rattle.base.specs.Choose.{if_then_else_}
 use Rattle.utf8.specs.Lead.{isUtf8}
 use Rattle.record.specs.Limits.{lineLimit}
-use Rattle.record.specs.Records.{messageAlone}
 use Rattle.record.specs.Answers.{answerOf, strictAnswerOf, outputAnswerOf}
-use Rattle.record.specs.declared.Record.{Record}
 use Rattle.record.specs.declared.Reading.{Reading}
 use Rattle.record.specs.declared.StrictReading.{StrictReading}
 use Rattle.record.specs.declared.Written.{Written}
-use Rattle.structured_data.specs.Data.{Rows, endAt}
 use Rattle.draft.specs.Outcome.{Outcome}
 use Rattle.draft.specs.Outcome.Outcome.{noReading, isReading}
-use Rattle.loose.specs.Loose.{outcomeOf, orWhole, settingsOk, judged, Reads}
+use Rattle.loose.specs.Loose.{outcomeOf, settingsOk, judged}
 use Rattle.grammar.specs.Reading.{StrictReads}
 use Rattle.grammar.specs.Reading.StrictReads.{too-long, underivable, elements-over, params-over, accepted}
 use Rattle.suits.specs.Suits.{suits}
@@ -42,28 +38,11 @@ of r = answerOf r .number
 abbrev to : Written → ℕ
 to w = outputAnswerOf w .number
 
--- the loose readers, from the numbers that both give
-module _ (s : Service) (done : Gives s 0) (long : Gives s 1) (bad : Gives s 2) (text : Gives s 3) (elements : Gives s 5) (params : Gives s 6) where
-  -- refusals 5 and 6, after the others
-  judged-gives : (r : Record) (at : ℕ) (rows : Rows) (e p : ℕ) → Gives s (of (judged (isReading r at rows) e p))
-  judged-gives r at rows e p =
-      either s of (ltb e (length (rows .elements))) _ _ elements (either s of (ltb p (length (rows .params))) _ _ params done)
-
-  loose-gives : {line : List ℕ} {variant year : ℕ} {offset : ℤ} {o : Outcome} {e₀ e₁ : Elements} {p₀ p₁ : Params} {r : Reading}
-      → Reads line variant year offset o e₀ p₀ r e₁ p₁ → ((e p : ℕ) → Gives s (of (judged o e p))) → Gives s (of r)
-  loose-gives {line} {variant} {year} {offset} {o} {e₀} {e₁} {p₀} {p₁} h rest =
-      rw (h .answer)
-      (either s of (ltb lineLimit (length line)) _ _ long
-      (either s of (not (settingsOk variant year offset)) _ _ bad
-      (either s of (not (isUtf8 line)) _ _ text (rest (length e₀) (length p₀)))))
-
-exact-judged : (o : Outcome) (e p : ℕ) → Gives Service.exact (of (judged o e p))
-exact-judged noReading e p = refl
-exact-judged (isReading r at rows) e p = judged-gives Service.exact refl refl refl refl refl refl r at rows e p
-
-fallback-judged : (line : List ℕ) (o : Outcome) (e p : ℕ) → Gives Service.fallback (of (judged (orWhole line o) e p))
-fallback-judged line noReading e p = judged-gives Service.fallback refl refl refl refl refl refl (messageAlone (length line)) 0 (endAt 0) e p
-fallback-judged line (isReading r at rows) e p = judged-gives Service.fallback refl refl refl refl refl refl r at rows e p
+-- refusals 5 and 6, after the others
+judged-gives : (line : List ℕ) (o : Outcome) (e p : ℕ) → Gives Service.loose (of (judged line o e p))
+judged-gives line noReading e p = refl
+judged-gives line (isReading r at rows) e p =
+    either Service.loose of (ltb e (length (rows .elements))) _ _ refl (either Service.loose of (ltb p (length (rows .params))) _ _ refl refl)
 
 strict-gives : {line : List ℕ} {e₀ : Elements} {p₀ : Params} {r : StrictReading} {e₁ : Elements} {p₁ : Params}
     → StrictReads line e₀ p₀ r e₁ p₁ → Gives Service.strict (strictAnswerOf r .number)
@@ -78,10 +57,12 @@ value-gives loose Found.nothing out = refl
 value-gives loose (Found.value v) out = either Service.lookup to (ltb out (length (unescaped loose v))) _ _ refl refl
 
 pub no-other-number : NoOtherNumber
-no-other-number Service.exact i x h =
-    loose-gives Service.exact refl refl refl refl refl refl h (exact-judged (outcomeOf (i .line) (i .variant) (i .year) (i .offset)))
-no-other-number Service.fallback i x h =
-    loose-gives Service.fallback refl refl refl refl refl refl h (fallback-judged (i .line) (outcomeOf (i .line) (i .variant) (i .year) (i .offset)))
+no-other-number Service.loose i x h =
+    rw (h .answer)
+    (either Service.loose of (ltb lineLimit (length (i .line))) _ _ refl
+    (either Service.loose of (not (settingsOk (i .variant) (i .year) (i .offset))) _ _ refl
+    (either Service.loose of (not (isUtf8 (i .line))) _ _ refl
+    (judged-gives (i .line) (outcomeOf (i .line) (i .variant) (i .year) (i .offset)) (length (i .elements)) (length (i .params))))))
 no-other-number Service.strict i x h = strict-gives h
 no-other-number Service.print i x h =
     let text = printed (i .line) (i .reading) (take (i .element-count) (i .elements)) (take (i .param-count) (i .params)) in

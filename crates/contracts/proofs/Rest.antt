@@ -18,7 +18,7 @@ use Rattle.record.specs.declared.Written.{Written}
 use Rattle.output.specs.Output.{outputAfter}
 use Rattle.draft.specs.Outcome.{Outcome}
 use Rattle.draft.specs.Outcome.Outcome.{noReading, isReading}
-use Rattle.loose.specs.Loose.{settingsOk, judged, tableAfter, rowsOf, Reads}
+use Rattle.loose.specs.Loose.{outcomeOf, settingsOk, judged, tableAfter, rowsOf, Reads}
 use Rattle.grammar.specs.Reading.{dataAt, elementRows, paramRows, StrictReads}
 use Rattle.grammar.specs.Reading.StrictReads.{too-long, underivable, elements-over, params-over, accepted}
 use Rattle.strict_data.proofs.Filling.{elements-many, all-many}
@@ -32,7 +32,7 @@ use Rattle.contracts.specs.Demands.{RestIsKept}
 rest-filled : {A : Type 0} (front old : List A) → drop (length front) (filled front old) ≡ drop (length front) old
 rest-filled front old = drop-append-seam front (drop (length front) old)
 
--- ---- the loose readers
+-- ---- the loose reader
 
 module _ (o : Outcome) (e₀ : Elements) (p₀ : Params) where
   abbrev Kept : Reading → Type 0
@@ -40,23 +40,24 @@ module _ (o : Outcome) (e₀ : Elements) (p₀ : Params) where
       let rest = past (answerOf r .elements) (answerOf r .params) 0 in
       rest (Lent.tables (tableAfter r (rowsOf o .elements) e₀) (tableAfter r (rowsOf o .params) p₀)) ≡ rest (Lent.tables e₀ p₀)
 
-judged-kept : (o : Outcome) (e₀ : Elements) (p₀ : Params) → Kept o e₀ p₀ (judged o (length e₀) (length p₀))
-judged-kept noReading e₀ p₀ = refl
-judged-kept (isReading r at rows) e₀ p₀ =
+judged-kept : (line : List ℕ) (o : Outcome) (e₀ : Elements) (p₀ : Params) → Kept o e₀ p₀ (judged line o (length e₀) (length p₀))
+judged-kept line noReading e₀ p₀ = refl
+judged-kept line (isReading r at rows) e₀ p₀ =
     let K = Kept (isReading r at rows) e₀ p₀ in
     by-if K (ltb (length e₀) (length (rows .elements))) _ _ (λ q. refl) (λ q.
     by-if K (ltb (length p₀) (length (rows .params))) _ _ (λ q. refl)
     (λ q. ap₂ Lent.tables (rest-filled (rows .elements) e₀) (rest-filled (rows .params) p₀)))
 
-loose-kept : {line : List ℕ} {variant year : ℕ} {offset : ℤ} {o : Outcome} {e₀ e₁ : Elements} {p₀ p₁ : Params} {r : Reading}
-    → Reads line variant year offset o e₀ p₀ r e₁ p₁
+loose-kept : {line : List ℕ} {variant year : ℕ} {offset : ℤ} {e₀ e₁ : Elements} {p₀ p₁ : Params} {r : Reading}
+    → Reads line variant year offset e₀ p₀ r e₁ p₁
     → let rest = past (answerOf r .elements) (answerOf r .params) 0 in rest (Lent.tables e₁ p₁) ≡ rest (Lent.tables e₀ p₀)
-loose-kept {line} {variant} {year} {offset} {o} {e₀} {e₁} {p₀} {p₁} h =
+loose-kept {line} {variant} {year} {offset} {e₀} {e₁} {p₀} {p₁} h =
+    let o = outcomeOf line variant year offset in
     let K = Kept o e₀ p₀ in
     rw (h .elements, h .params, h .answer)
     (by-if K (ltb lineLimit (length line)) _ _ (λ q. refl) (λ q.
     by-if K (not (settingsOk variant year offset)) _ _ (λ q. refl) (λ q.
-    by-if K (not (isUtf8 line)) _ _ (λ q. refl) (λ q. judged-kept o e₀ p₀))))
+    by-if K (not (isUtf8 line)) _ _ (λ q. refl) (λ q. judged-kept line o e₀ p₀))))
 
 -- ---- the strict reader
 
@@ -85,8 +86,7 @@ value-kept loose (Found.value v) old =
     by-if (OutputKept text old) (ltb (length old) (length text)) _ _ (λ q. refl) (λ q. ap Lent.output (rest-filled text old))
 
 pub rest-is-kept : RestIsKept
-rest-is-kept Service.exact i x h = loose-kept h
-rest-is-kept Service.fallback i x h = loose-kept h
+rest-is-kept Service.loose i x h = loose-kept h
 rest-is-kept Service.strict i x h = strict-kept h
 rest-is-kept Service.print i x h =
     let text = printed (i .line) (i .reading) (take (i .element-count) (i .elements)) (take (i .param-count) (i .params)) in

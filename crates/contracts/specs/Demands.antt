@@ -5,13 +5,20 @@ use mathlib.Core.Bool.{Bool, true, false, _||_}
 use mathlib.Core.List.{List, [], _∷_}
 use lib.Dec.{eqb}
 use lib.ListN.{length}
+use lib.IntN.{ℤ}
 use Rattle.base.specs.Fills.{filled}
 use Rattle.record.specs.Limits.{lineLimit}
-use Rattle.record.specs.Records.{emptyRecord, emptyStrict}
+use Rattle.record.specs.Records.{messageAlone, emptyRecord, emptyStrict}
+use Rattle.record.specs.declared.Record.{Record}
+use Rattle.record.specs.declared.Reading.{Reading}
+use Rattle.record.specs.declared.Reading.the-variants.{Whole}
 use Rattle.record.specs.declared.StrictReading.{StrictReading}
 use Rattle.record.specs.declared.StrictReading.the-variants.{Read, Refused}
 use Rattle.record.specs.declared.StrictRecord.{StrictRecord}
 use Rattle.record.specs.declared.Refusal.the-variants.{LineTooLong, NoReading, TooManyElements, TooManyParams}
+use Rattle.utf8.specs.Lead.{isUtf8}
+use Rattle.draft.specs.Outcome.Outcome.{noReading}
+use Rattle.loose.specs.Loose.{outcomeOf, settingsOk, Reads}
 use Rattle.grammar.specs.Line.{Division, Derives}
 use Rattle.grammar.specs.Reading.{dataAt, recordOf, paramCount, elementRows, paramRows, StrictReads}
 use Rattle.contracts.specs.Services.{Service, Elements, Params, Given, Result, Values, values, number, Contract, before, after, rest}
@@ -26,8 +33,7 @@ RefusedChangesNothing = (s : Service) (i : Given s) (x : Result s) → Contract 
 
 -- the number, and the empty record and zero counts, or the length 0
 abbrev pub refusedWith : (s : Service) → ℕ → Values s
-refusedWith Service.exact n = record { number = n; reading = emptyRecord; elements = 0; params = 0 }
-refusedWith Service.fallback n = record { number = n; reading = emptyRecord; elements = 0; params = 0 }
+refusedWith Service.loose n = record { number = n; whole = false; reading = emptyRecord; elements = 0; params = 0 }
 refusedWith Service.strict n = record { number = n; reading = emptyStrict; elements = 0; params = 0 }
 refusedWith Service.print n = record { number = n; len = 0 }
 refusedWith Service.lookup n = record { number = n; len = 0 }
@@ -44,10 +50,9 @@ RestIsKept = (s : Service) (i : Given s) (x : Result s) → Contract s i x → r
 
 -- ---- RULES Numbers b
 
--- 0 where the call is done; loose readers give 1 to 6 (fallback never 4), strict 1, 4, 5, 6, printing 1, 7, 8, lookup 1, 2, 7, 9, 8
+-- 0 where the call is done; the loose reader gives 1, 2, 3, 5, 6, the strict one 1, 4, 5, 6, printing 1, 7, 8, lookup 1, 2, 7, 9, 8
 abbrev pub numbers : Service → List ℕ
-numbers Service.exact = 0 ∷ 1 ∷ 2 ∷ 3 ∷ 4 ∷ 5 ∷ 6 ∷ []
-numbers Service.fallback = 0 ∷ 1 ∷ 2 ∷ 3 ∷ 5 ∷ 6 ∷ []
+numbers Service.loose = 0 ∷ 1 ∷ 2 ∷ 3 ∷ 5 ∷ 6 ∷ []
 numbers Service.strict = 0 ∷ 1 ∷ 4 ∷ 5 ∷ 6 ∷ []
 numbers Service.print = 0 ∷ 1 ∷ 7 ∷ 8 ∷ []
 numbers Service.lookup = 0 ∷ 1 ∷ 2 ∷ 7 ∷ 9 ∷ 8 ∷ []
@@ -66,12 +71,41 @@ NoOtherNumber = (s : Service) (i : Given s) (x : Result s) → Contract s i x �
 abbrev pub OneResult : Service → Type 0
 OneResult s = (i : Given s) (x y : Result s) → Contract s i x → Contract s i y → x ≡ y
 
--- ---- the words of RULES Demands 3
+-- ---- the words of what follows
 
 -- the one where the other is, and there only
 pub record Exactly (P Q : Type 0) : Type 0 where
   pub only : P → Q
   pub whenever : Q → P
+
+-- ---- a line that the rules give no reading
+
+-- the answer is the whole line as the message
+pub record AnsweredWhole (r : Reading) : Type 0 where
+  pub reading : Record
+  pub is : r ≡ Whole reading
+
+-- none of the refusals 1, 2 and 3 applies, and the rules give no reading
+pub record Unread (line : List ℕ) (variant year : ℕ) (offset : ℤ) : Type 0 where
+  pub limit : length line ≤ lineLimit
+  pub settings : settingsOk variant year offset ≡ true
+  pub text : isUtf8 line ≡ true
+  pub none : outcomeOf line variant year offset ≡ noReading
+
+-- of a call of the loose reader on a line, with tables that held e₀ and p₀, which answers r and leaves e₁ and p₁ in them
+pub record LooseCall (line : List ℕ) (variant year : ℕ) (offset : ℤ) (e₀ : Elements) (p₀ : Params) (r : Reading) (e₁ : Elements) (p₁ : Params) : Type 0 where
+  -- It answers the whole line exactly where the rules give no reading,
+  pub whole-exactly : Exactly (AnsweredWhole r) (Unread line variant year offset)
+  -- and then with the message alone, and the tables as they were.
+  pub message-alone : AnsweredWhole r → r ≡ Whole (messageAlone (length line))
+  pub tables-kept : AnsweredWhole r → (e₁ ≡ e₀) × (p₁ ≡ p₀)
+
+pub record LooseCalls : Type 0 where
+  -- Each call is as said above.
+  pub each-call : {line : List ℕ} {variant year : ℕ} {offset : ℤ} {e₀ : Elements} {p₀ : Params} {r : Reading} {e₁ : Elements} {p₁ : Params}
+      → Reads line variant year offset e₀ p₀ r e₁ p₁ → LooseCall line variant year offset e₀ p₀ r e₁ p₁
+
+-- ---- the words of RULES Demands 3
 
 -- the answer is a record with its counts, and no refusal
 pub record Accepted (r : StrictReading) : Type 0 where

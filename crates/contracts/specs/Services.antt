@@ -1,4 +1,4 @@
--- The five services side by side: what a call is given, what it leaves, and the contract between the two. Each contract is the one that its function ensures.
+-- The four services side by side: what a call is given, what it leaves, and the contract between the two. Each contract is the one that its function ensures.
 use Prim.Native.Nat.{ℕ}
 use mathlib.Core.List.{List}
 use lib.ListN.{drop}
@@ -11,14 +11,13 @@ use Rattle.record.specs.declared.Written.{Written}
 use Rattle.record.specs.declared.Answer.{Answer}
 use Rattle.record.specs.declared.StrictAnswer.{StrictAnswer}
 use Rattle.record.specs.declared.OutputAnswer.{OutputAnswer}
-use Rattle.loose.specs.Loose.{ReadsExact, ReadsFallback}
+use Rattle.loose.specs.Loose.{Reads}
 use Rattle.grammar.specs.Reading.{StrictReads}
 use Rattle.message.specs.Prints.{Prints}
 use Rattle.lookup.specs.Lookup.{Looks}
 
 pub data Service : Type 0 where
-  exact : Service
-  fallback : Service
+  loose : Service
   strict : Service
   print : Service
   lookup : Service
@@ -62,8 +61,7 @@ pub record LookupGiven : Type 0 where
   pub kind : ℕ
 
 abbrev pub Given : Service → Type 0
-Given Service.exact = LooseGiven
-Given Service.fallback = LooseGiven
+Given Service.loose = LooseGiven
 Given Service.strict = StrictGiven
 Given Service.print = PrintGiven
 Given Service.lookup = LookupGiven
@@ -80,8 +78,7 @@ pub record Output : Type 0 where
   pub output : List ℕ
 
 abbrev pub Result : Service → Type 0
-Result Service.exact = Tables Reading
-Result Service.fallback = Tables Reading
+Result Service.loose = Tables Reading
 Result Service.strict = Tables StrictReading
 Result Service.print = Output
 Result Service.lookup = Output
@@ -89,22 +86,19 @@ Result Service.lookup = Output
 -- ---- the answer in numbers: the number of RULES Numbers, 0 where the call is done, and the values
 
 abbrev pub Values : Service → Type 0
-Values Service.exact = Answer
-Values Service.fallback = Answer
+Values Service.loose = Answer
 Values Service.strict = StrictAnswer
 Values Service.print = OutputAnswer
 Values Service.lookup = OutputAnswer
 
 abbrev pub values : (s : Service) → Result s → Values s
-values Service.exact x = answerOf (x .answer)
-values Service.fallback x = answerOf (x .answer)
+values Service.loose x = answerOf (x .answer)
 values Service.strict x = strictAnswerOf (x .answer)
 values Service.print x = outputAnswerOf (x .answer)
 values Service.lookup x = outputAnswerOf (x .answer)
 
 abbrev pub number : (s : Service) → Result s → ℕ
-number Service.exact x = values Service.exact x .number
-number Service.fallback x = values Service.fallback x .number
+number Service.loose x = values Service.loose x .number
 number Service.strict x = values Service.strict x .number
 number Service.print x = values Service.print x .number
 number Service.lookup x = values Service.lookup x .number
@@ -112,8 +106,7 @@ number Service.lookup x = values Service.lookup x .number
 -- ---- the contracts
 
 abbrev pub Contract : (s : Service) → Given s → Result s → Type 0
-Contract Service.exact i x = ReadsExact (i .line) (i .variant) (i .year) (i .offset) (i .elements) (i .params) (x .answer) (x .elements) (x .params)
-Contract Service.fallback i x = ReadsFallback (i .line) (i .variant) (i .year) (i .offset) (i .elements) (i .params) (x .answer) (x .elements) (x .params)
+Contract Service.loose i x = Reads (i .line) (i .variant) (i .year) (i .offset) (i .elements) (i .params) (x .answer) (x .elements) (x .params)
 Contract Service.strict i x = StrictReads (i .line) (i .elements) (i .params) (x .answer) (x .elements) (x .params)
 Contract Service.print i x =
     Prints (i .line) (i .reading) (i .element-count) (i .param-count) (i .elements) (i .params) (i .output) (x .answer) (x .output)
@@ -128,15 +121,13 @@ pub data Lent : Type 0 where
   output : List ℕ → Lent
 
 abbrev pub before : (s : Service) → Given s → Lent
-before Service.exact i = Lent.tables (i .elements) (i .params)
-before Service.fallback i = Lent.tables (i .elements) (i .params)
+before Service.loose i = Lent.tables (i .elements) (i .params)
 before Service.strict i = Lent.tables (i .elements) (i .params)
 before Service.print i = Lent.output (i .output)
 before Service.lookup i = Lent.output (i .printing .output)
 
 abbrev pub after : (s : Service) → Result s → Lent
-after Service.exact x = Lent.tables (x .elements) (x .params)
-after Service.fallback x = Lent.tables (x .elements) (x .params)
+after Service.loose x = Lent.tables (x .elements) (x .params)
 after Service.strict x = Lent.tables (x .elements) (x .params)
 after Service.print x = Lent.output (x .output)
 after Service.lookup x = Lent.output (x .output)
@@ -149,8 +140,7 @@ past e p n (Lent.tables elements params) = Lent.tables (drop e elements) (drop p
 past e p n (Lent.output out) = Lent.output (drop n out)
 
 abbrev pub rest : (s : Service) → Result s → Lent → Lent
-rest Service.exact x = past (values Service.exact x .elements) (values Service.exact x .params) 0
-rest Service.fallback x = past (values Service.fallback x .elements) (values Service.fallback x .params) 0
+rest Service.loose x = past (values Service.loose x .elements) (values Service.loose x .params) 0
 rest Service.strict x = past (values Service.strict x .elements) (values Service.strict x .params) 0
 rest Service.print x = past 0 0 (values Service.print x .len)
 rest Service.lookup x = past 0 0 (values Service.lookup x .len)

@@ -1,9 +1,9 @@
 -- The contracts of the functions over the parameter table, as the rules take them.
 use mathlib.Core.Path.{refl}
-use mathlib.Core.List.{List, [], _∷_}
+use mathlib.Core.List.{[], _∷_}
 use base.Logic.{id⊢}
 use mir.Syntax.{w32}
-use borrow.Fn.Kinds.{PK, pNum, pSNum, rNum}
+use borrow.Fn.Kinds.{pNum, pSNum}
 use borrow.Fn.Read.{all-models, reads}
 use borrow.Kind.MutSlice.{pMutS}
 use borrow.Kind.ShrSlice.{pShrS}
@@ -11,26 +11,22 @@ use Rattle.derivation.specs.Derive.{Struct, Contract, plainly, bytes, pair, rS}
 use Rattle.record.proofs.Param as P
 use Rattle.record.proofs.OutputAnswer as O
 use Rattle.record.proofs.OutputAnswer.Laws as O′
-use Rattle.exports.proofs.khamdoriem_read_exact as x
-use Rattle.exports.proofs.khamdoriem_read_fallback as f
+use Rattle.record.proofs.ReadAnswer as R
+use Rattle.record.proofs.ReadAnswer.Laws as R′
+use Rattle.exports.proofs.khamdoriem_read_loose as o
 use Rattle.exports.proofs.khamdoriem_read_strict as s
 use Rattle.exports.proofs.khamdoriem_print as p
 use Rattle.exports.proofs.khamdoriem_lookup as l
 
--- the parameters of both loose readers
-abbrev kinds : List (PK 4)
-kinds = pShrS bytes 0 tt ∷ pNum w32 ∷ pNum w32 ∷ pSNum w32 ∷ pMutS pair 1 tt ∷ pMutS P.the-row 2 tt ∷ pMutS bytes 3 tt ∷ []
+abbrev pub read-answer : Struct
+read-answer = record { type = R.the-type; laws = R′.the-laws; copy = R′.the-copy; plain = R′.the-plain }
 
-abbrev pub read-exact : Contract
-read-exact = plainly 4 kinds (rNum w32) (λ w. x.clauses (w .𝓤) (w .H) (w .𝓖 .A) (w .𝓜 .mem) (w .𝓡 .run)) (λ w κs a. tt)
-    (λ κs a. all-models _ (λ w. search reads) (λ w. refl) (λ w. refl) (λ w. refl)) (λ κs a z e. all-models _ (λ w. search reads) (λ w. refl) (λ w. refl) (λ w. refl)) (λ κs a. tt) (λ κs a z e. tt) (λ w κs a. id⊢ (w .𝓤) _) (λ w κs a z e. id⊢ (w .𝓤) _)
-
-abbrev pub read-fallback : Contract
-read-fallback = plainly 4 kinds (rNum w32) (λ w. f.clauses (w .𝓤) (w .H) (w .𝓖 .A) (w .𝓜 .mem) (w .𝓡 .run)) (λ w κs a. tt)
+abbrev pub read-loose : Contract
+read-loose = plainly 4 (pShrS bytes 0 tt ∷ pNum w32 ∷ pNum w32 ∷ pSNum w32 ∷ pMutS pair 1 tt ∷ pMutS P.the-row 2 tt ∷ pMutS bytes 3 tt ∷ []) (rS read-answer) (λ w. o.clauses (w .𝓤) (w .H) (w .𝓖 .A) (w .𝓜 .mem) (w .𝓡 .run)) (λ w κs a. tt)
     (λ κs a. all-models _ (λ w. search reads) (λ w. refl) (λ w. refl) (λ w. refl)) (λ κs a z e. all-models _ (λ w. search reads) (λ w. refl) (λ w. refl) (λ w. refl)) (λ κs a. tt) (λ κs a z e. tt) (λ w κs a. id⊢ (w .𝓤) _) (λ w κs a z e. id⊢ (w .𝓤) _)
 
 abbrev pub read-strict : Contract
-read-strict = plainly 4 (pShrS bytes 0 tt ∷ pMutS pair 1 tt ∷ pMutS P.the-row 2 tt ∷ pMutS bytes 3 tt ∷ []) (rNum w32) (λ w. s.clauses (w .𝓤) (w .H) (w .𝓖 .A) (w .𝓜 .mem) (w .𝓡 .run)) (λ w κs a. tt)
+read-strict = plainly 4 (pShrS bytes 0 tt ∷ pMutS pair 1 tt ∷ pMutS P.the-row 2 tt ∷ pMutS bytes 3 tt ∷ []) (rS read-answer) (λ w. s.clauses (w .𝓤) (w .H) (w .𝓖 .A) (w .𝓜 .mem) (w .𝓡 .run)) (λ w κs a. tt)
     (λ κs a. all-models _ (λ w. search reads) (λ w. refl) (λ w. refl) (λ w. refl)) (λ κs a z e. all-models _ (λ w. search reads) (λ w. refl) (λ w. refl) (λ w. refl)) (λ κs a. tt) (λ κs a z e. tt) (λ w κs a. id⊢ (w .𝓤) _) (λ w κs a z e. id⊢ (w .𝓤) _)
 
 abbrev pub output-answer : Struct

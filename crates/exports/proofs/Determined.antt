@@ -6,14 +6,15 @@ use lib.IntN.{ℤ}
 use lib.ListN.{length}
 use Rattle.base.specs.Fills.{filled}
 use Rattle.base.proofs.Tests.{clash}
-use Rattle.record.specs.Answers.{outputAnswerOf}
+use Rattle.record.specs.Answers.{readAnswerOf, strictReadAnswerOf, outputAnswerOf}
 use Rattle.record.specs.declared.Record.{Record}
 use Rattle.record.specs.declared.Written.{Written}
 use Rattle.record.specs.declared.Refusal.{Refusal}
 use Rattle.record.specs.declared.OutputAnswer.{OutputAnswer}
+use Rattle.record.specs.declared.ReadAnswer.{ReadAnswer}
 use Rattle.grammar.proofs.Readings.{strict-determined}
 use Rattle.grammar.specs.Reading.{StrictReads}
-use Rattle.loose.specs.Loose.{outcomeOf, orWhole, ReadsExact, ReadsFallback}
+use Rattle.loose.specs.Loose.{Reads}
 use Rattle.loose.proofs.Determined.{one-reading}
 use Rattle.message.specs.Prints.{Prints}
 use Rattle.message.proofs.Laws.{answers-agree, outputs-agree}
@@ -21,30 +22,30 @@ use Rattle.lookup.specs.Lookup.{Looks}
 use Rattle.lookup.proofs.Answers.{looks-one}
 use Rattle.layout.specs.Layout.{recordSize, strictSize}
 use Rattle.layout.specs.Incoming.{recordAt, elementCountAt, paramCountAt}
-use Rattle.exports.specs.Exports.{leftNumber, kept, Leaves, numberOf, bytesOf, strictNumberOf, strictBytesOf, LeavesExact, LeavesFallback, LeavesStrict, Serves, firstRefusal, ServesPrint, ServesLookup}
+use Rattle.exports.specs.Exports.{leftAnswer, kept, Leaves, bytesOf, strictBytesOf, LeavesLoose, LeavesStrict, Serves, firstRefusal, ServesPrint, ServesLookup}
 use Rattle.exports.specs.Exports.Serves.{held, unheld}
 
--- the number, the tables and the record's memory
-pub record Same (n m : ℕ) (e e′ p p′ : List (List ℕ)) (out out′ : List ℕ) : Type 0 where
-  pub number : n ≡ m
+-- the answer, the tables and the record's memory
+pub record Same (a b : ReadAnswer) (e e′ p p′ : List (List ℕ)) (out out′ : List ℕ) : Type 0 where
+  pub answer : a ≡ b
   pub elements : e ≡ e′
   pub params : p ≡ p′
   pub memory : out ≡ out′
 
 -- a reader, where its reading is determined
-module _ {A : Type 0} (number : A → ℕ) (bytes : A → List ℕ) (size : ℕ) (ReadsTo : A → List (List ℕ) → List (List ℕ) → Type 0)
+module _ {A : Type 0} (told : A → ReadAnswer) (bytes : A → List ℕ) (size : ℕ) (ReadsTo : A → List (List ℕ) → List (List ℕ) → Type 0)
     (one : (r s : A) (e₁ e₂ p₁ p₂ : List (List ℕ)) → ReadsTo r e₁ p₁ → ReadsTo s e₂ p₂ → (r ≡ s) × (e₁ ≡ e₂) × (p₁ ≡ p₂))
     (e₀ p₀ : List (List ℕ)) (out : List ℕ) where
-  pub leaves-one : (n m : ℕ) (e e′ p p′ : List (List ℕ)) (new new′ : List ℕ)
-      → Leaves number bytes size ReadsTo e₀ p₀ out n e p new → Leaves number bytes size ReadsTo e₀ p₀ out m e′ p′ new′ → Same n m e e′ p p′ new new′
-  leaves-one n m e e′ p p′ new new′ h k =
-      let (a, b, c) = one (h .answer) (k .answer) (h .elements) (k .elements) (h .params) (k .params) (h .reads) (k .reads) in
-      let q : n ≡ m = h .number-is ∙ ap (λ (r : A). leftNumber (number r) size (length out)) a ∙ sym (k .number-is) in
+  pub leaves-one : (a b : ReadAnswer) (e e′ p p′ : List (List ℕ)) (new new′ : List ℕ)
+      → Leaves told bytes size ReadsTo e₀ p₀ out a e p new → Leaves told bytes size ReadsTo e₀ p₀ out b e′ p′ new′ → Same a b e e′ p p′ new new′
+  leaves-one a b e e′ p p′ new new′ h k =
+      let (r, t, u) = one (h .answer) (k .answer) (h .elements) (k .elements) (h .params) (k .params) (h .reads) (k .reads) in
+      let q : a ≡ b = h .told-is ∙ ap (λ (x : A). leftAnswer (told x) size (length out)) r ∙ sym (k .told-is) in
       record {
-        number = q;
-        elements = h .elements-are ∙ ap₂ (λ (i : ℕ) (t : List (List ℕ)). kept i t e₀) q b ∙ sym (k .elements-are);
-        params = h .params-are ∙ ap₂ (λ (i : ℕ) (t : List (List ℕ)). kept i t p₀) q c ∙ sym (k .params-are);
-        memory = h .record-is ∙ ap₂ (λ (i : ℕ) (r : A). kept i (filled (bytes r) out) out) q a ∙ sym (k .record-is);
+        answer = q;
+        elements = h .elements-are ∙ ap₂ (λ (x : ReadAnswer) (t : List (List ℕ)). kept (x .number) t e₀) q t ∙ sym (k .elements-are);
+        params = h .params-are ∙ ap₂ (λ (x : ReadAnswer) (t : List (List ℕ)). kept (x .number) t p₀) q u ∙ sym (k .params-are);
+        memory = h .record-is ∙ ap₂ (λ (x : ReadAnswer) (y : A). kept (x .number) (filled (bytes y) out) out) q r ∙ sym (k .record-is);
       }
 
 -- a service, where it is determined
@@ -58,22 +59,17 @@ module _ (bytes : List ℕ) (first : Refusal) (Service : Record → ℕ → ℕ 
   serves-one (unheld t e g) (held u w k f) = clash (sym u ∙ t)
   serves-one (unheld t e g) (unheld u f k) = (e ∙ sym f, g ∙ sym k)
 
--- ---- the five functions
+-- ---- the four functions
 
-module _ (line : List ℕ) (variant year : ℕ) (offset : ℤ) (e₀ p₀ : List (List ℕ)) (out : List ℕ) (n m : ℕ) (e e′ p p′ : List (List ℕ)) (new new′ : List ℕ) where
-  pub exact-one : LeavesExact line variant year offset e₀ p₀ out n e p new → LeavesExact line variant year offset e₀ p₀ out m e′ p′ new′ → Same n m e e′ p p′ new new′
-  exact-one =
-      leaves-one numberOf bytesOf recordSize (ReadsExact line variant year offset e₀ p₀) (one-reading line variant year offset (outcomeOf line variant year offset) e₀ p₀)
-      e₀ p₀ out n m e e′ p p′ new new′
+module _ (line : List ℕ) (e₀ p₀ : List (List ℕ)) (out : List ℕ) (a b : ReadAnswer) (e e′ p p′ : List (List ℕ)) (new new′ : List ℕ) where
+  pub loose-one : (variant year : ℕ) (offset : ℤ) → LeavesLoose line variant year offset e₀ p₀ out a e p new → LeavesLoose line variant year offset e₀ p₀ out b e′ p′ new′
+      → Same a b e e′ p p′ new new′
+  loose-one variant year offset =
+      leaves-one readAnswerOf bytesOf recordSize (Reads line variant year offset e₀ p₀) (one-reading line variant year offset e₀ p₀) e₀ p₀ out a b e e′ p p′ new new′
 
-  pub fallback-one : LeavesFallback line variant year offset e₀ p₀ out n e p new → LeavesFallback line variant year offset e₀ p₀ out m e′ p′ new′ → Same n m e e′ p p′ new new′
-  fallback-one =
-      leaves-one numberOf bytesOf recordSize (ReadsFallback line variant year offset e₀ p₀) (one-reading line variant year offset (orWhole line (outcomeOf line variant year offset)) e₀ p₀)
-      e₀ p₀ out n m e e′ p p′ new new′
-
-  pub strict-one : LeavesStrict line e₀ p₀ out n e p new → LeavesStrict line e₀ p₀ out m e′ p′ new′ → Same n m e e′ p p′ new new′
+  pub strict-one : LeavesStrict line e₀ p₀ out a e p new → LeavesStrict line e₀ p₀ out b e′ p′ new′ → Same a b e e′ p p′ new new′
   strict-one =
-      leaves-one strictNumberOf strictBytesOf strictSize (StrictReads line e₀ p₀) (λ r s e₁ e₂ p₁ p₂ h k. strict-determined h k) e₀ p₀ out n m e e′ p p′ new new′
+      leaves-one strictReadAnswerOf strictBytesOf strictSize (StrictReads line e₀ p₀) (λ r s e₁ e₂ p₁ p₂ h k. strict-determined h k) e₀ p₀ out a b e e′ p p′ new new′
 
 module _ (line bytes : List ℕ) (elements params : List (List ℕ)) (old : List ℕ) {a b : OutputAnswer} {new other : List ℕ} where
   pub print-one : ServesPrint line bytes elements params old a new → ServesPrint line bytes elements params old b other → (a ≡ b) × (new ≡ other)

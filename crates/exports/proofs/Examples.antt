@@ -3,11 +3,16 @@ use Prim.Native.Nat.{ℕ}
 use mathlib.Core.Path.{_≡_, refl}
 use mathlib.Core.List.{[], _∷_, map}
 use Rattle.record.specs.Refusals.{refusalNumber}
-use Rattle.exports.specs.Exports.{leftNumber, kept, firstRefusal}
+use Rattle.record.specs.declared.ReadAnswer.{ReadAnswer}
+use Rattle.exports.specs.Exports.{leftAnswer, kept, firstRefusal}
 
--- 8 comes last: a byte short, and not short
-numbers : leftNumber 0 208 207 ∷ leftNumber 1 208 207 ∷ leftNumber 6 208 0 ∷ leftNumber 0 208 208 ∷ leftNumber 4 240 300 ∷ [] ≡ 8 ∷ 1 ∷ 6 ∷ 0 ∷ 4 ∷ []
-numbers = refl
+abbrev told : ℕ → ℕ → ReadAnswer
+told n w = record { number = n; whole = w; reach = 0 }
+
+-- 8 comes last: a byte short, and not short; and then no line is told to be the message
+answers : leftAnswer (told 0 1) 208 207 ∷ leftAnswer (told 1 0) 208 207 ∷ leftAnswer (told 6 0) 208 0 ∷ leftAnswer (told 0 1) 208 208 ∷ leftAnswer (told 4 0) 240 300 ∷ []
+    ≡ told 8 0 ∷ told 1 0 ∷ told 6 0 ∷ told 0 1 ∷ told 4 0 ∷ []
+answers = refl
 
 -- what was lent is changed by 0 alone
 lent : map (λ (n : ℕ). kept {A = ℕ} n 1 2) (0 ∷ 8 ∷ 4 ∷ []) ≡ 1 ∷ 2 ∷ 2 ∷ []

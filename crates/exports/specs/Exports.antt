@@ -1,80 +1,69 @@
--- The five functions of include/khamdoriem.h: the number that each answers, and what it leaves in what it was lent.
+-- The four functions of include/khamdoriem.h: what each answers, and what it leaves in what it was lent.
 use Prim.Native.Nat.{ℕ}
 use mathlib.Core.Path.{_≡_}
 use mathlib.Core.Bool.{true, false}
-use mathlib.Core.List.{List, []}
+use mathlib.Core.List.{List}
 use lib.Dec.{eqb, ltb}
 use lib.IntN.{ℤ}
 use lib.ListN.{length}
 use Rattle.base.specs.Choose.{if_then_else_}
 use Rattle.base.specs.Fills.{filled}
 use Rattle.record.specs.Limits.{lineLimit}
-use Rattle.record.specs.Answers.{answerOf, strictAnswerOf, outputAnswerOf}
+use Rattle.record.specs.Answers.{answerOf, strictAnswerOf, readAnswerOf, strictReadAnswerOf, outputAnswerOf}
 use Rattle.record.specs.declared.Record.{Record}
 use Rattle.record.specs.declared.Reading.{Reading}
-use Rattle.record.specs.declared.Reading.the-variants.{Read, Refused}
 use Rattle.record.specs.declared.StrictReading.{StrictReading}
-use Rattle.record.specs.declared.StrictReading.the-variants as strict
 use Rattle.record.specs.declared.Written.{Written}
 use Rattle.record.specs.declared.Written.the-variants as written
 use Rattle.record.specs.declared.Refusal.{Refusal}
 use Rattle.record.specs.declared.Refusal.the-variants.{LineTooLong, BadSetting, Unsuitable}
 use Rattle.record.specs.declared.OutputAnswer.{OutputAnswer}
+use Rattle.record.specs.declared.ReadAnswer.{ReadAnswer}
 use Rattle.layout.specs.Layout.{recordSize, strictSize, recordBytes, strictBytes}
 use Rattle.layout.specs.Incoming.{holdsRecord, recordAt, elementCountAt, paramCountAt}
 use Rattle.grammar.specs.Reading.{StrictReads}
-use Rattle.loose.specs.Loose.{ReadsExact, ReadsFallback}
+use Rattle.loose.specs.Loose.{Reads}
 use Rattle.message.specs.Prints.{Prints}
 use Rattle.lookup.specs.Lookup.{Looks}
 
 -- ---- the readers
 
 -- 8, last of all, where the record's memory is too short
-abbrev pub shortNumber : ℕ → ℕ
-shortNumber n = if eqb n 0 then 8 else n
+abbrev pub shortAnswer : ReadAnswer → ReadAnswer
+shortAnswer a = if eqb (a .number) 0 then record { number = 8; whole = 0; reach = 0 } else a
 
--- the number of an answer, where `room` bytes are lent for a record of `size` bytes
-abbrev pub leftNumber : ℕ → ℕ → ℕ → ℕ
-leftNumber n size room = if ltb room size then shortNumber n else n
+-- what is answered, where `room` bytes are lent for a record of `size` bytes
+abbrev pub leftAnswer : ReadAnswer → ℕ → ℕ → ReadAnswer
+leftAnswer a size room = if ltb room size then shortAnswer a else a
 
 -- a call that answers a number other than 0 has changed nothing that it was lent
 abbrev pub kept : {A : Type 0} → ℕ → A → A → A
 kept n new old = if eqb n 0 then new else old
 
--- A call of a reader: it has an answer, and the tables as the reading leaves them, by `Reads`.
-pub record Leaves {A : Type 0} (number : A → ℕ) (bytes : A → List ℕ) (size : ℕ) (Reads : A → List (List ℕ) → List (List ℕ) → Type 0)
-    (e₀ p₀ : List (List ℕ)) (out₀ : List ℕ) (n : ℕ) (e₁ p₁ : List (List ℕ)) (out₁ : List ℕ) : Type 0 where
+-- A call of a reader: it has an answer, and the tables as the reading leaves them, by `ReadsTo`. The caller is told the answer, and has its bytes.
+pub record Leaves {A : Type 0} (told : A → ReadAnswer) (bytes : A → List ℕ) (size : ℕ) (ReadsTo : A → List (List ℕ) → List (List ℕ) → Type 0)
+    (e₀ p₀ : List (List ℕ)) (out₀ : List ℕ) (a : ReadAnswer) (e₁ p₁ : List (List ℕ)) (out₁ : List ℕ) : Type 0 where
   pub answer : A
   pub elements : List (List ℕ)
   pub params : List (List ℕ)
-  pub reads : Reads answer elements params
-  pub number-is : n ≡ leftNumber (number answer) size (length out₀)
-  pub elements-are : e₁ ≡ kept n elements e₀
-  pub params-are : p₁ ≡ kept n params p₀
-  pub record-is : out₁ ≡ kept n (filled (bytes answer) out₀) out₀
+  pub reads : ReadsTo answer elements params
+  pub told-is : a ≡ leftAnswer (told answer) size (length out₀)
+  pub elements-are : e₁ ≡ kept (a .number) elements e₀
+  pub params-are : p₁ ≡ kept (a .number) params p₀
+  pub record-is : out₁ ≡ kept (a .number) (filled (bytes answer) out₀) out₀
 
-abbrev pub numberOf : Reading → ℕ
-numberOf r = answerOf r .number
-
+-- the bytes of the record and the counts
 abbrev pub bytesOf : Reading → List ℕ
-bytesOf (Read r e p) = recordBytes r e p
-bytesOf (Refused f) = []
-
-abbrev pub strictNumberOf : StrictReading → ℕ
-strictNumberOf r = strictAnswerOf r .number
+bytesOf r = let a = answerOf r in recordBytes (a .reading) (a .elements) (a .params)
 
 abbrev pub strictBytesOf : StrictReading → List ℕ
-strictBytesOf (strict.Read r e p) = strictBytes r e p
-strictBytesOf (strict.Refused f) = []
+strictBytesOf r = let a = strictAnswerOf r in strictBytes (a .reading) (a .elements) (a .params)
 
-abbrev pub LeavesExact : List ℕ → ℕ → ℕ → ℤ → List (List ℕ) → List (List ℕ) → List ℕ → ℕ → List (List ℕ) → List (List ℕ) → List ℕ → Type 0
-LeavesExact line variant year offset e₀ p₀ = Leaves numberOf bytesOf recordSize (ReadsExact line variant year offset e₀ p₀) e₀ p₀
+abbrev pub LeavesLoose : List ℕ → ℕ → ℕ → ℤ → List (List ℕ) → List (List ℕ) → List ℕ → ReadAnswer → List (List ℕ) → List (List ℕ) → List ℕ → Type 0
+LeavesLoose line variant year offset e₀ p₀ = Leaves readAnswerOf bytesOf recordSize (Reads line variant year offset e₀ p₀) e₀ p₀
 
-abbrev pub LeavesFallback : List ℕ → ℕ → ℕ → ℤ → List (List ℕ) → List (List ℕ) → List ℕ → ℕ → List (List ℕ) → List (List ℕ) → List ℕ → Type 0
-LeavesFallback line variant year offset e₀ p₀ = Leaves numberOf bytesOf recordSize (ReadsFallback line variant year offset e₀ p₀) e₀ p₀
-
-abbrev pub LeavesStrict : List ℕ → List (List ℕ) → List (List ℕ) → List ℕ → ℕ → List (List ℕ) → List (List ℕ) → List ℕ → Type 0
-LeavesStrict line e₀ p₀ = Leaves strictNumberOf strictBytesOf strictSize (StrictReads line e₀ p₀) e₀ p₀
+abbrev pub LeavesStrict : List ℕ → List (List ℕ) → List (List ℕ) → List ℕ → ReadAnswer → List (List ℕ) → List (List ℕ) → List ℕ → Type 0
+LeavesStrict line e₀ p₀ = Leaves strictReadAnswerOf strictBytesOf strictSize (StrictReads line e₀ p₀) e₀ p₀
 
 -- ---- printing and lookup
 

@@ -1,6 +1,7 @@
 // The C boundary: include/khamdoriem.h declares these functions, docs/INTERFACE.md says what they answer.
 use record::OutputAnswer;
 use record::Param;
+use record::ReadAnswer;
 use record::Reading;
 use record::Refusal;
 use record::StrictReading;
@@ -8,68 +9,70 @@ use record::Written;
 ghost use mathlib.Core.Path.{_≡_};
 ghost use Prim.Native.Nat.{_≤_};
 ghost use lib.ListN.{length};
-ghost use Rattle.record.specs.Answers.{outputAnswerOf};
+ghost use Rattle.record.specs.Answers.{readAnswerOf, strictReadAnswerOf, outputAnswerOf};
 ghost use Rattle.record.specs.Params.{rows};
 ghost use Rattle.record.specs.declared.Written.the-variants.{Refused};
 ghost use Rattle.layout.specs.Layout.{recordSize, strictSize};
-ghost use Rattle.exports.specs.Exports.{shortNumber, numberOf, strictNumberOf, LeavesExact, LeavesFallback, LeavesStrict, firstRefusal, ServesPrint, ServesLookup};
+ghost use Rattle.exports.specs.Exports.{shortAnswer, LeavesLoose, LeavesStrict, firstRefusal, ServesPrint, ServesLookup};
 ghost use Rattle.exports.specs.Steps.{Left, StrictLeft};
 
 // 8 in place of 0.
-fn or_short(number: u32) -> u32
-    ensures { λ n. ⌜ n ≡ shortNumber number ⌝ }
+fn or_short(a: ReadAnswer) -> ReadAnswer
+    ensures { λ r. ⌜ r ≡ shortAnswer a ⌝ }
 {
-    if number == 0 {
-        return 8;
+    if a.number == 0 {
+        return ReadAnswer {
+            number: 8,
+            whole: 0,
+            reach: 0,
+        };
     }
-    number
+    a
 }
 
-// The number of an answer where the record's memory is too short.
-fn short(r: Reading) -> u32
-    ensures { λ n. ⌜ n ≡ shortNumber (numberOf r) ⌝ }
+// What is answered where the record's memory is too short.
+fn short(r: Reading) -> ReadAnswer
+    ensures { λ a. ⌜ a ≡ shortAnswer (readAnswerOf r) ⌝ }
 {
-    let a = record::answer_of(r);
-    or_short(a.number)
+    or_short(record::read_answer_of(r))
 }
 
-fn short_strict(r: StrictReading) -> u32
-    ensures { λ n. ⌜ n ≡ shortNumber (strictNumberOf r) ⌝ }
+fn short_strict(r: StrictReading) -> ReadAnswer
+    ensures { λ a. ⌜ a ≡ shortAnswer (strictReadAnswerOf r) ⌝ }
 {
-    let a = record::strict_answer_of(r);
-    or_short(a.number)
+    or_short(record::strict_read_answer_of(r))
 }
 
-// The number of an answer, and its record.
-fn leave(r: Reading, memory: &mut [u8]) -> u32
+// What is answered, and the record in `memory` where the number is 0.
+fn leave(r: Reading, memory: &mut [u8]) -> ReadAnswer
     requires { ⌜ recordSize ≤ length (now memory) ⌝ }
-    ensures { λ n. ⌜ Left r (now (memory .entry)) n (now (memory .exit)) ⌝ }
+    ensures { λ a. ⌜ Left r (now (memory .entry)) a (now (memory .exit)) ⌝ }
 {
-    match r {
-        Reading::Refused(refusal) => record::refusal_number(refusal),
-        Reading::Read(read, elements, params) => {
-            layout::put_record(memory, read, elements, params);
-            0
-        }
+    let told = record::read_answer_of(r);
+    if told.number != 0 {
+        return told;
     }
+    let a = record::answer_of(r);
+    layout::put_record(memory, a.reading, a.elements, a.params);
+    told
 }
 
-fn leave_strict(r: StrictReading, memory: &mut [u8]) -> u32
+fn leave_strict(r: StrictReading, memory: &mut [u8]) -> ReadAnswer
     requires { ⌜ strictSize ≤ length (now memory) ⌝ }
-    ensures { λ n. ⌜ StrictLeft r (now (memory .entry)) n (now (memory .exit)) ⌝ }
+    ensures { λ a. ⌜ StrictLeft r (now (memory .entry)) a (now (memory .exit)) ⌝ }
 {
-    match r {
-        StrictReading::Refused(refusal) => record::refusal_number(refusal),
-        StrictReading::Read(read, elements, params) => {
-            layout::put_strict(memory, read, elements, params);
-            0
-        }
+    let told = record::strict_read_answer_of(r);
+    if told.number != 0 {
+        return told;
     }
+    let a = record::strict_answer_of(r);
+    layout::put_strict(memory, a.reading, a.elements, a.params);
+    told
 }
 
-// Loose exact reading: the number; where it is 0, the record's 208 bytes in `memory`.
+// Loose reading: where the number is 0, the record's 208 bytes in `memory`.
 #[no_mangle]
-pub extern "C" fn khamdoriem_read_exact(
+pub extern "C" fn khamdoriem_read_loose(
     line: &[u8],
     variant: u32,
     year: u32,
@@ -77,8 +80,8 @@ pub extern "C" fn khamdoriem_read_exact(
     elements: &mut [[usize; 2]],
     params: &mut [Param],
     memory: &mut [u8],
-) -> u32
-    ensures { λ n. ⌜ LeavesExact (now (line .entry)) variant year offset (now (elements .entry)) (rows (now (params .entry))) (now (memory .entry)) n (now (elements .exit)) (rows (now (params .exit))) (now (memory .exit)) ⌝ }
+) -> ReadAnswer
+    ensures { λ a. ⌜ LeavesLoose (now (line .entry)) variant year offset (now (elements .entry)) (rows (now (params .entry))) (now (memory .entry)) a (now (elements .exit)) (rows (now (params .exit))) (now (memory .exit)) ⌝ }
 {
     let room = memory.len();
     if room < layout::RECORD_SIZE {
@@ -86,42 +89,19 @@ pub extern "C" fn khamdoriem_read_exact(
         let p = params.len();
         return short(loose::answer(line, variant, year, offset, e, p));
     }
-    let r = loose::read_exact(line, variant, year, offset, elements, params);
+    let r = loose::read(line, variant, year, offset, elements, params);
     leave(r, memory)
 }
 
-// The same by loose fallback reading.
-#[no_mangle]
-pub extern "C" fn khamdoriem_read_fallback(
-    line: &[u8],
-    variant: u32,
-    year: u32,
-    offset: i32,
-    elements: &mut [[usize; 2]],
-    params: &mut [Param],
-    memory: &mut [u8],
-) -> u32
-    ensures { λ n. ⌜ LeavesFallback (now (line .entry)) variant year offset (now (elements .entry)) (rows (now (params .entry))) (now (memory .entry)) n (now (elements .exit)) (rows (now (params .exit))) (now (memory .exit)) ⌝ }
-{
-    let room = memory.len();
-    if room < layout::RECORD_SIZE {
-        let e = elements.len();
-        let p = params.len();
-        return short(loose::answer_fallback(line, variant, year, offset, e, p));
-    }
-    let r = loose::read_fallback(line, variant, year, offset, elements, params);
-    leave(r, memory)
-}
-
-// Strict reading: the number; where it is 0, the record's 240 bytes in `memory`.
+// Strict reading: where the number is 0, the record's 240 bytes in `memory`.
 #[no_mangle]
 pub extern "C" fn khamdoriem_read_strict(
     line: &[u8],
     elements: &mut [[usize; 2]],
     params: &mut [Param],
     memory: &mut [u8],
-) -> u32
-    ensures { λ n. ⌜ LeavesStrict (now (line .entry)) (now (elements .entry)) (rows (now (params .entry))) (now (memory .entry)) n (now (elements .exit)) (rows (now (params .exit))) (now (memory .exit)) ⌝ }
+) -> ReadAnswer
+    ensures { λ a. ⌜ LeavesStrict (now (line .entry)) (now (elements .entry)) (rows (now (params .entry))) (now (memory .entry)) a (now (elements .exit)) (rows (now (params .exit))) (now (memory .exit)) ⌝ }
 {
     let room = memory.len();
     if room < layout::STRICT_SIZE {

@@ -1,9 +1,9 @@
 -- The contracts of the functions over the parameter table, as the rules take them.
 use mathlib.Core.Path.{refl}
-use mathlib.Core.List.{List, [], _∷_}
+use mathlib.Core.List.{[], _∷_}
 use base.Logic.{id⊢}
 use mir.Syntax.{w32}
-use borrow.Fn.Kinds.{PK, pNum, pSNum}
+use borrow.Fn.Kinds.{pNum, pSNum}
 use borrow.Fn.Read.{all-models, reads}
 use borrow.Kind.MutSlice.{pMutS}
 use borrow.Kind.ShrSlice.{pShrS}
@@ -15,8 +15,7 @@ use Rattle.loose.proofs.Judged as J
 use Rattle.loose.proofs.Judged.Laws as J′
 use Rattle.loose.proofs.Data as D
 use Rattle.loose.proofs.Data.Laws as D′
-use Rattle.loose.proofs.read_exact as x
-use Rattle.loose.proofs.read_fallback as f
+use Rattle.loose.proofs.read as r
 
 abbrev pub reading : Choice
 reading = record { type = R.the-type; laws = R′.the-laws; copy = R′.the-copy; plain = R′.the-plain; few = tt }
@@ -27,14 +26,6 @@ judged = record { type = J.the-type; laws = J′.the-laws; copy = J′.the-copy;
 abbrev pub the-data : Struct
 the-data = record { type = D.the-type; laws = D′.the-laws; copy = D′.the-copy; plain = D′.the-plain }
 
--- the parameters of both
-abbrev kinds : List (PK 3)
-kinds = pShrS bytes 0 tt ∷ pNum w32 ∷ pNum w32 ∷ pSNum w32 ∷ pMutS pair 1 tt ∷ pMutS P.the-row 2 tt ∷ []
-
-abbrev pub read-exact : Contract
-read-exact = plainly 3 kinds (rE reading) (λ w. x.clauses (w .𝓤) (w .H) (w .𝓖 .A) (w .𝓜 .mem) (w .𝓡 .run)) (λ w κs a. tt)
-    (λ κs a. all-models _ (λ w. search reads) (λ w. refl) (λ w. refl) (λ w. refl)) (λ κs a z e. all-models _ (λ w. search reads) (λ w. refl) (λ w. refl) (λ w. refl)) (λ κs a. tt) (λ κs a z e. tt) (λ w κs a. id⊢ (w .𝓤) _) (λ w κs a z e. id⊢ (w .𝓤) _)
-
-abbrev pub read-fallback : Contract
-read-fallback = plainly 3 kinds (rE reading) (λ w. f.clauses (w .𝓤) (w .H) (w .𝓖 .A) (w .𝓜 .mem) (w .𝓡 .run)) (λ w κs a. tt)
+abbrev pub read : Contract
+read = plainly 3 (pShrS bytes 0 tt ∷ pNum w32 ∷ pNum w32 ∷ pSNum w32 ∷ pMutS pair 1 tt ∷ pMutS P.the-row 2 tt ∷ []) (rE reading) (λ w. r.clauses (w .𝓤) (w .H) (w .𝓖 .A) (w .𝓜 .mem) (w .𝓡 .run)) (λ w κs a. tt)
     (λ κs a. all-models _ (λ w. search reads) (λ w. refl) (λ w. refl) (λ w. refl)) (λ κs a z e. all-models _ (λ w. search reads) (λ w. refl) (λ w. refl) (λ w. refl)) (λ κs a. tt) (λ κs a z e. tt) (λ w κs a. id⊢ (w .𝓤) _) (λ w κs a z e. id⊢ (w .𝓤) _)

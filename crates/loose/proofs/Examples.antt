@@ -1,4 +1,4 @@
--- The lines of RULES Cases for the loose readers, and each refusal in its order, computed from the definitions.
+-- The lines of RULES Cases for the loose reader, and each refusal in its order, computed from the definitions.
 use Prim.Native.Nat.{ℕ}
 use mathlib.Core.Path.{_≡_, refl}
 use mathlib.Core.List.{List, [], _∷_, map}
@@ -37,9 +37,9 @@ use Rattle.record.specs.declared.Protocol.{Protocol}
 use Rattle.record.specs.declared.Level.{Level}
 use Rattle.record.specs.declared.Stamp.{Stamp}
 use Rattle.record.specs.declared.Reading.{Reading}
-use Rattle.record.specs.declared.Reading.the-variants.{Read, Refused}
-use Rattle.record.specs.declared.Refusal.the-variants.{LineTooLong, BadSetting, NotUtf8, NoReading, TooManyElements, TooManyParams}
-use Rattle.loose.specs.Loose.{byVariant, outcomeOf, orWhole, answered}
+use Rattle.record.specs.declared.Reading.the-variants.{Whole, Refused}
+use Rattle.record.specs.declared.Refusal.the-variants.{LineTooLong, BadSetting, NotUtf8, TooManyElements, TooManyParams}
+use Rattle.loose.specs.Loose.{byVariant, outcomeOf, answered}
 
 -- what is read, where the structured data stands and ends, and its rows
 abbrev reading : Protocol → Level → Level → Stamp → Place → Place → Place → Place → ℕ → ℕ → ℕ → List (List ℕ) → List (List ℕ) → ℕ → Outcome
@@ -67,12 +67,9 @@ stamped seconds = Stamped (record { seconds = pos seconds; nanos = 0; offset = p
 abbrev read : ℕ × List ℕ → Outcome
 read c = outcomeOf (c .1) (c .0) 2023 (pos 60)
 
--- both readers' answers with tables of `e` and `p` entries
-abbrev exact : ℕ → ℕ → ℤ → ℕ → ℕ → List ℕ → Reading
-exact variant year offset e p line = answered line variant year offset (outcomeOf line variant year offset) e p
-
-abbrev fallback : ℕ → ℕ → ℤ → ℕ → ℕ → List ℕ → Reading
-fallback variant year offset e p line = answered line variant year offset (orWhole line (outcomeOf line variant year offset)) e p
+-- the answer with tables of `e` and `p` entries
+abbrev answer : ℕ → ℕ → ℤ → ℕ → ℕ → List ℕ → Reading
+answer variant year offset e p line = answered line variant year offset e p
 
 abbrev two : List ℕ
 two = bytes "<13>1 - h a p m [x a=\"1\"][y]"
@@ -112,17 +109,15 @@ cases : (map read
     ∷ noReading
     ∷ noReading
     ∷ [])
-    × (map (exact 0 2023 (pos 60) 2 1) (bytes "" ∷ (0xC3 ∷ 0x28 ∷ []) ∷ bytes " hello " ∷ [])
-    ≡ Refused NoReading ∷ Refused NotUtf8 ∷ Refused NoReading ∷ [])
-    × (map (fallback 0 2023 (pos 60) 0 0) (bytes "" ∷ (0xC3 ∷ 0x28 ∷ []) ∷ bytes " hello " ∷ two ∷ [])
-    ≡ Read (messageAlone 0) 0 0 ∷ Refused NotUtf8 ∷ Read (messageAlone 7) 0 0 ∷ Refused TooManyElements ∷ [])
-    × (exact 3 2023 (pos 60) 2 1 two ∷ exact 2 10000 (pos 60) 2 1 two ∷ exact 2 2023 (pos 1440) 2 1 two ∷ exact 2 2023 (negsuc 1439) 2 1 two
-    ∷ exact 2 9999 (negsuc 1438) 1 0 two ∷ exact 2 0 (pos 1439) 2 0 two ∷ exact 3 2023 (pos 60) 2 1 (0xFF ∷ []) ∷ []
+    × (map (answer 0 2023 (pos 60) 0 0) (bytes "" ∷ (0xC3 ∷ 0x28 ∷ []) ∷ bytes " hello " ∷ two ∷ [])
+    ≡ Whole (messageAlone 0) ∷ Refused NotUtf8 ∷ Whole (messageAlone 7) ∷ Refused TooManyElements ∷ [])
+    × (answer 3 2023 (pos 60) 2 1 two ∷ answer 2 10000 (pos 60) 2 1 two ∷ answer 2 2023 (pos 1440) 2 1 two ∷ answer 2 2023 (negsuc 1439) 2 1 two
+    ∷ answer 2 9999 (negsuc 1438) 1 0 two ∷ answer 2 0 (pos 1439) 2 0 two ∷ answer 3 2023 (pos 60) 2 1 (0xFF ∷ []) ∷ []
     ≡ Refused BadSetting ∷ Refused BadSetting ∷ Refused BadSetting ∷ Refused BadSetting
     ∷ Refused TooManyElements ∷ Refused TooManyParams ∷ Refused BadSetting ∷ [])
-    × (map (λ n. answered (replicate n 97) 3 2023 (pos 60) noReading 0 0) (8192 ∷ 8193 ∷ []) ≡ Refused BadSetting ∷ Refused LineTooLong ∷ [])
+    × (map (λ n. answer 3 2023 (pos 60) 0 0 (replicate n 97)) (8192 ∷ 8193 ∷ []) ≡ Refused BadSetting ∷ Refused LineTooLong ∷ [])
 unfolding outcomeOf byVariant utf8From trimmed textEnd whiteFrom whiteLen codePoint isWhite charLen wellFormed leadOf run fieldLen decimalFrom numberAt fixedAt fractionAt leap monthDays validDate validTime valid yearDays daysBeforeYear daysOfMonths dayNumber localSeconds secondsOf spanFrom yearOf monthOf clockOf shown priAt plainAt hostAt tagLen tagAt someBlanksFrom byteFrom numberFrom plainFrom hostFrom tagFrom namedFrom monthNumber monthFrom clockFrom fixedFrom eitherFrom dateFrom timeFrom nanosFrom minutesFrom zoneFrom endFrom fullFrom rfc3339From dayFrom withoutYear withYear rfc3164From quotedLen paramAt idLen moreParams paramsFrom elementFrom itemFrom elementsFrom dataFrom splitAt splitOf hostAndTag spacedHost spacedTag tagEnd headerFrom bodyFrom rfc3164 blankHost blankPlain startFrom fourFrom bodyFrom5424 rfc5424
-cases = (refl, refl, refl, refl, refl)
+cases = (refl, refl, refl, refl)
 
 -- a line that is the message, written out
 whole-line : messageAlone 7 ≡ record {

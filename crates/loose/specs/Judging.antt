@@ -1,27 +1,23 @@
--- What the readers know of a line before a table is touched. (For private contracts alone.)
+-- What the reader knows of a line before a table is touched. (For private contracts alone.)
 use Prim.Native.Nat.{ℕ, _≤_}
 use mathlib.Core.Path.{_≡_}
 use mathlib.Core.List.{List}
 use mathlib.Core.Bool.{Bool, true, false}
-use lib.Dec.{eqb}
 use lib.ListN.{length, take}
 use lib.IntN.{ℤ}
-use Rattle.base.specs.Choose.{if_then_else_}
 use Rattle.utf8.specs.Lead.{isUtf8}
 use Rattle.record.specs.Limits.{lineLimit}
-use Rattle.record.specs.Records.{messageAlone}
 use Rattle.record.specs.declared.Record.{Record}
-use Rattle.record.specs.Refusals.{refusalNumber}
 use Rattle.record.specs.declared.Reading.{Reading}
-use Rattle.record.specs.declared.Reading.the-variants.{Read, Refused}
+use Rattle.record.specs.declared.Reading.the-variants.{Read}
 use Rattle.structured_data.specs.Data.{dataFrom, rowsOr}
 use Rattle.structured_data.specs.declared.Rules.{Rules}
 use Rattle.structured_data.specs.declared.Rules.the-variants.{Rfc3164Rules}
 use Rattle.draft.specs.Outcome.{Outcome}
 use Rattle.draft.specs.Outcome.Outcome.{isReading}
-use Rattle.loose.specs.Loose.{outcomeOf, settingsOk, answered}
+use Rattle.loose.specs.Loose.{outcomeOf, settingsOk, answered, tableAfter}
 use Rattle.loose.specs.declared.Judged.{Judged}
-use Rattle.loose.specs.declared.Judged.the-variants.{Refuse, Fitting}
+use Rattle.loose.specs.declared.Judged.the-variants.{Settled, Fitting}
 use Rattle.loose.specs.declared.Data.{Data}
 
 -- a reading of the text `s` whose rows are those of its structured data by the rules
@@ -44,31 +40,31 @@ pub record Fits (line : List ℕ) (variant year : ℕ) (offset : ℤ) (e p : ℕ
   pub elements-fit : n ≤ e
   pub params-fit : m ≤ p
 
+-- an answer that leaves the tables as they are
+pub record Settles (line : List ℕ) (variant year : ℕ) (offset : ℤ) (e p : ℕ) (x : Reading) : Type 0 where
+  pub answer : x ≡ answered line variant year offset e p
+  pub keeps : (rows old : List (List ℕ)) → old ≡ tableAfter x rows old
+
 abbrev pub judgesOf : List ℕ → ℕ → ℕ → ℤ → ℕ → ℕ → Judged → Type 0
-judgesOf line variant year offset e p (Refuse f) = answered line variant year offset (outcomeOf line variant year offset) e p ≡ Refused f
+judgesOf line variant year offset e p (Settled x) = Settles line variant year offset e p x
 judgesOf line variant year offset e p (Fitting rules r end at n m) = Fits line variant year offset e p rules r end at n m
 
 pub record Judges (line : List ℕ) (variant year : ℕ) (offset : ℤ) (e p : ℕ) (j : Judged) : Type 0 where
   pub is : judgesOf line variant year offset e p j
 
 abbrev pub isFitting : Judged → Bool
-isFitting (Refuse f) = false
+isFitting (Settled x) = false
 isFitting (Fitting rules r end at n m) = true
 
 -- what the rows are stored by
 abbrev pub rulesOf : Judged → Rules
-rulesOf (Refuse f) = Rfc3164Rules
+rulesOf (Settled x) = Rfc3164Rules
 rulesOf (Fitting rules r end at n m) = rules
 
 abbrev pub dataOf : Judged → Data
-dataOf (Refuse f) = record { end = 0; at = 0; ids = 0; params = 0 }
+dataOf (Settled x) = record { end = 0; at = 0; ids = 0; params = 0 }
 dataOf (Fitting rules r end at n m) = record { end = end; at = at; ids = n; params = m }
 
 abbrev pub readingOf : Judged → Reading
-readingOf (Refuse f) = Refused f
+readingOf (Settled x) = x
 readingOf (Fitting rules r end at n m) = Read r n m
-
--- the answer to a line of `len` bytes with the message whole in place of refusal 4
-abbrev pub orMessage : ℕ → Reading → Reading
-orMessage len (Read r e p) = Read r e p
-orMessage len (Refused f) = if eqb (refusalNumber f) 4 then Read (messageAlone len) 0 0 else Refused f

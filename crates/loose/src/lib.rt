@@ -1,4 +1,4 @@
-// lib.rs: the loose readers.
+// lib.rs: the loose reader.
 use draft::Draft;
 use record::Param;
 use record::Reading;
@@ -10,12 +10,12 @@ ghost use Prim.Native.Nat.{_≤_};
 ghost use lib.ListN.{length};
 ghost use Rattle.record.specs.Params.{rows};
 ghost use Rattle.draft.specs.Drafts.{draftOf};
-ghost use Rattle.loose.specs.Loose.{byVariant, outcomeOf, orWhole, settingsOk, answered, ReadsExact, ReadsFallback};
-ghost use Rattle.loose.specs.Judging.{Passes, Judges, isFitting, dataOf, rulesOf, readingOf, orMessage};
+ghost use Rattle.loose.specs.Loose.{byVariant, settingsOk, answered, Reads};
+ghost use Rattle.loose.specs.Judging.{Passes, Judges, isFitting, dataOf, rulesOf, readingOf};
 
-// What is known of a line before a table is touched. `end` is where the trimmed line ends.
+// What is known of a line before a table is touched: its answer, where no table is asked for, or a reading. `end` is where the trimmed line ends.
 enum Judged {
-    Refuse(Refusal),
+    Settled(Reading),
     Fitting {
         rules: Rules,
         read: Record,
@@ -50,7 +50,7 @@ fn by_variant(s: &[u8], start: usize, variant: u32, year: u32, offset: i32) -> D
     draft
 }
 
-// Refusals 4, 5 and 6, where none of the first three is given: tables of `e` and `p` entries.
+// The whole line as the message, or refusals 5 and 6, where none of the first three is given: tables of `e` and `p` entries.
 fn judge_text(line: &[u8], variant: u32, year: u32, offset: i32, e: usize, p: usize) -> Judged
     requires { ⌜ Passes (now line) variant year offset ⌝ }
     ensures { λ r. ⌜ Judges (now (line .entry)) variant year offset e p r ⌝ }
@@ -65,13 +65,13 @@ fn judge_text(line: &[u8], variant: u32, year: u32, offset: i32, e: usize, p: us
         params,
     } = by_variant(&line[0..end], ends.start, variant, year, offset)
     else {
-        return Judged::Refuse(Refusal::NoReading);
+        return Judged::Settled(Reading::Whole(record::message_alone(line.len())));
     };
     if e < elements {
-        return Judged::Refuse(Refusal::TooManyElements);
+        return Judged::Settled(Reading::Refused(Refusal::TooManyElements));
     }
     if p < params {
-        return Judged::Refuse(Refusal::TooManyParams);
+        return Judged::Settled(Reading::Refused(Refusal::TooManyParams));
     }
     Judged::Fitting {
         rules,
@@ -88,13 +88,13 @@ fn judge(line: &[u8], variant: u32, year: u32, offset: i32, e: usize, p: usize) 
     ensures { λ r. ⌜ Judges (now (line .entry)) variant year offset e p r ⌝ }
 {
     if record::LINE_LIMIT < line.len() {
-        return Judged::Refuse(Refusal::LineTooLong);
+        return Judged::Settled(Reading::Refused(Refusal::LineTooLong));
     }
     if !settings_ok(variant, year, offset) {
-        return Judged::Refuse(Refusal::BadSetting);
+        return Judged::Settled(Reading::Refused(Refusal::BadSetting));
     }
     if !utf8::is_utf8(line) {
-        return Judged::Refuse(Refusal::NotUtf8);
+        return Judged::Settled(Reading::Refused(Refusal::NotUtf8));
     }
     judge_text(line, variant, year, offset, e, p)
 }
@@ -104,7 +104,7 @@ fn is_fitting(judged: Judged) -> bool
     ensures { λ r. ⌜ r ≡ isFitting judged ⌝ }
 {
     match judged {
-        Judged::Refuse(_) => false,
+        Judged::Settled(_) => false,
         Judged::Fitting {
             rules: _,
             read: _,
@@ -128,7 +128,7 @@ fn data_of(judged: Judged) -> Data
     ensures { λ r. ⌜ r ≡ dataOf judged ⌝ }
 {
     match judged {
-        Judged::Refuse(_) => Data {
+        Judged::Settled(_) => Data {
             end: 0,
             at: 0,
             ids: 0,
@@ -154,7 +154,7 @@ fn rules_of(judged: Judged) -> Rules
     ensures { λ r. ⌜ r ≡ rulesOf judged ⌝ }
 {
     match judged {
-        Judged::Refuse(_) => Rules::Rfc3164Rules,
+        Judged::Settled(_) => Rules::Rfc3164Rules,
         Judged::Fitting {
             rules,
             read: _,
@@ -170,7 +170,7 @@ fn reading_of(judged: Judged) -> Reading
     ensures { λ r. ⌜ r ≡ readingOf judged ⌝ }
 {
     match judged {
-        Judged::Refuse(refusal) => Reading::Refused(refusal),
+        Judged::Settled(reading) => reading,
         Judged::Fitting {
             rules: _,
             read,
@@ -182,15 +182,15 @@ fn reading_of(judged: Judged) -> Reading
     }
 }
 
-// What exact reading answers to tables of `e` and `p` entries, with no table at hand.
+// What is answered to tables of `e` and `p` entries, with no table at hand.
 pub fn answer(line: &[u8], variant: u32, year: u32, offset: i32, e: usize, p: usize) -> Reading
-    ensures { λ r. ⌜ r ≡ answered (now (line .entry)) variant year offset (outcomeOf (now (line .entry)) variant year offset) e p ⌝ }
+    ensures { λ r. ⌜ r ≡ answered (now (line .entry)) variant year offset e p ⌝ }
 {
     reading_of(judge(line, variant, year, offset, e, p))
 }
 
-// Loose exact reading: a line with no reading is refused.
-pub fn read_exact(
+// Loose reading: a line with no reading becomes the message.
+pub fn read(
     line: &[u8],
     variant: u32,
     year: u32,
@@ -198,7 +198,7 @@ pub fn read_exact(
     elements: &mut [[usize; 2]],
     params: &mut [Param],
 ) -> Reading
-    ensures { λ r. ⌜ ReadsExact (now (line .entry)) variant year offset (now (elements .entry)) (rows (now (params .entry))) r (now (elements .exit)) (rows (now (params .exit))) ⌝ }
+    ensures { λ r. ⌜ Reads (now (line .entry)) variant year offset (now (elements .entry)) (rows (now (params .entry))) r (now (elements .exit)) (rows (now (params .exit))) ⌝ }
 {
     let e = elements.len();
     let p = params.len();
@@ -213,47 +213,4 @@ pub fn read_exact(
         structured_data::fill_data(rules, &line[0..end], at, n, m, elements, params);
     }
     reading_of(judged)
-}
-
-// The answer to a line of `len` bytes with the message whole in place of refusal 4.
-fn or_message(len: usize, r: Reading) -> Reading
-    ensures { λ x. ⌜ x ≡ orMessage len r ⌝ }
-{
-    let Reading::Refused(refusal) = r else {
-        return r;
-    };
-    if record::refusal_number(refusal) == 4 {
-        return Reading::Read(record::message_alone(len), 0, 0);
-    }
-    r
-}
-
-// What fallback reading answers to tables of `e` and `p` entries, with no table at hand.
-pub fn answer_fallback(
-    line: &[u8],
-    variant: u32,
-    year: u32,
-    offset: i32,
-    e: usize,
-    p: usize,
-) -> Reading
-    ensures { λ r. ⌜ r ≡ answered (now (line .entry)) variant year offset (orWhole (now (line .entry)) (outcomeOf (now (line .entry)) variant year offset)) e p ⌝ }
-{
-    or_message(line.len(), answer(line, variant, year, offset, e, p))
-}
-
-// Loose fallback reading: a line with no reading becomes the message.
-pub fn read_fallback(
-    line: &[u8],
-    variant: u32,
-    year: u32,
-    offset: i32,
-    elements: &mut [[usize; 2]],
-    params: &mut [Param],
-) -> Reading
-    ensures { λ r. ⌜ ReadsFallback (now (line .entry)) variant year offset (now (elements .entry)) (rows (now (params .entry))) r (now (elements .exit)) (rows (now (params .exit))) ⌝ }
-{
-    let len = line.len();
-    let reading = read_exact(line, variant, year, offset, elements, params);
-    or_message(len, reading)
 }

@@ -4,7 +4,7 @@ ghost use Rattle.record.specs.Places.{absent, place};
 ghost use Rattle.record.specs.Params.{blank};
 ghost use Rattle.record.specs.Refusals.{refusalNumber};
 ghost use Rattle.record.specs.Records.{messageAlone, emptyRecord, emptyStrict};
-ghost use Rattle.record.specs.Answers.{answerOf, strictAnswerOf, outputAnswerOf};
+ghost use Rattle.record.specs.Answers.{answerOf, strictAnswerOf, readAnswerOf, strictReadAnswerOf, outputAnswerOf};
 
 // How many bytes a line may have.
 pub const LINE_LIMIT: usize = 8192;
@@ -87,9 +87,10 @@ pub enum Refusal {
     OutputShort,
 }
 
-// What a loose reader answers: the record and both counts, or why not.
+// What the loose reader answers: the record and both counts; the whole line as the message, where the rules give no reading; or why not.
 pub enum Reading {
     Read(Record, usize, usize),
+    Whole(Record),
     Refused(Refusal),
 }
 
@@ -108,6 +109,7 @@ pub enum Written {
 // The same answers as a number (0: done) and values.
 pub struct Answer {
     pub number: u32,
+    pub whole: bool,
     pub reading: Record,
     pub elements: usize,
     pub params: usize,
@@ -125,6 +127,14 @@ pub struct StrictAnswer {
 pub struct OutputAnswer {
     pub number: u32,
     pub len: usize,
+}
+
+// What a reader answers a C caller, beside the record: `whole` is 1 where the whole line is the message, else 0; `reach` is 0.
+#[repr(C)]
+pub struct ReadAnswer {
+    pub number: u32,
+    pub whole: u32,
+    pub reach: usize,
 }
 
 // The place of a text that is absent.
@@ -222,12 +232,21 @@ pub fn answer_of(r: Reading) -> Answer
     match r {
         Reading::Read(reading, elements, params) => Answer {
             number: 0,
+            whole: false,
             reading,
             elements,
             params,
         },
+        Reading::Whole(reading) => Answer {
+            number: 0,
+            whole: true,
+            reading,
+            elements: 0,
+            params: 0,
+        },
         Reading::Refused(refusal) => Answer {
             number: refusal_number(refusal),
+            whole: false,
             reading: empty_record(),
             elements: 0,
             params: 0,
@@ -252,6 +271,30 @@ pub fn strict_answer_of(r: StrictReading) -> StrictAnswer
             elements: 0,
             params: 0,
         },
+    }
+}
+
+// What a C caller gets of a reading by value.
+pub fn read_answer_of(r: Reading) -> ReadAnswer
+    ensures { λ a. ⌜ a ≡ readAnswerOf r ⌝ }
+{
+    let a = answer_of(r);
+    ReadAnswer {
+        number: a.number,
+        whole: a.whole as u32,
+        reach: 0,
+    }
+}
+
+// The same of a strict reading.
+pub fn strict_read_answer_of(r: StrictReading) -> ReadAnswer
+    ensures { λ a. ⌜ a ≡ strictReadAnswerOf r ⌝ }
+{
+    let a = strict_answer_of(r);
+    ReadAnswer {
+        number: a.number,
+        whole: 0,
+        reach: 0,
     }
 }
 

@@ -7,17 +7,16 @@ ghost use lib.ListN.{length};
 
 // How many cases of each service there were, and how many differed.
 struct Tally {
-    exact: u64,
-    fallback: u64,
+    read: u64,
     printed: u64,
     looked: u64,
     differ: u64,
 }
 
-fn reads(text: &[u8], fallback: bool) -> bool {
+fn reads(text: &[u8]) -> bool {
     let mut line = [0u8; 8704];
     let mut numbers = [0u64; 2048];
-    case_text::case::reading_case(text, fallback, &mut line, &mut numbers)
+    case_text::case::reading_case(text, &mut line, &mut numbers)
 }
 
 fn prints(text: &[u8]) -> bool {
@@ -41,8 +40,7 @@ fn one_more(n: u64) -> u64 {
 // Whether the case is as it should be.
 fn is_met(text: &[u8], service: u8) -> bool {
     match service {
-        b'E' => reads(text, false),
-        b'F' => reads(text, true),
+        b'R' => reads(text),
         b'P' => prints(text),
         b'L' => looks(text),
         _ => false,
@@ -52,11 +50,8 @@ fn is_met(text: &[u8], service: u8) -> bool {
 // The tally with one case more.
 fn counted(t: Tally, service: u8, met: bool) -> Tally {
     let mut next = t;
-    if service == b'E' {
-        next.exact = one_more(next.exact);
-    }
-    if service == b'F' {
-        next.fallback = one_more(next.fallback);
+    if service == b'R' {
+        next.read = one_more(next.read);
     }
     if service == b'P' {
         next.printed = one_more(next.printed);
@@ -168,8 +163,7 @@ fn one_read(s: State, buffer: &mut [u8]) -> Turn
 fn replay(buffer: &mut [u8]) -> Tally {
     let mut s = State {
         tally: Tally {
-            exact: 0,
-            fallback: 0,
+            read: 0,
             printed: 0,
             looked: 0,
             differ: 0,
@@ -195,8 +189,7 @@ fn replay(buffer: &mut [u8]) -> Tally {
 fn main() {
     let mut buffer = io::large_buffer();
     let t = replay(&mut buffer);
-    say_number(b"replay: ", t.exact, b" exact readings, ");
-    say_number(b"", t.fallback, b" fallback readings, ");
+    say_number(b"replay: ", t.read, b" readings, ");
     say_number(b"", t.printed, b" printed, ");
     say_number(b"", t.looked, b" looked up; ");
     say_number(b"", t.differ, b" differ\n");

@@ -19,10 +19,11 @@ use Rattle.lookup.specs.Unescape.{unescaped}
 use Rattle.lookup.specs.Lookup.{Found, found, valueAnswer, Looks}
 use Rattle.message.specs.Message.{printed}
 use Rattle.message.specs.Prints.{Prints}
+use Rattle.loose.proofs.Answers.{whole-is}
 use Rattle.suited.specs.Served.{Left, printAnswer, lookupAnswer, LeftIsServed}
 use Rattle.suited.proofs.Frame.{reading-short}
 use Rattle.suited.proofs.Strict as division
-use Rattle.suited.proofs.Suited.{exact-suits, fallback-suits, strict-suits}
+use Rattle.suited.proofs.Suited.{loose-suits, line-suits, strict-suits}
 
 -- an answer with another number than 7
 abbrev Other : Written → Type 0
@@ -40,13 +41,13 @@ lookup-other kind f out = by-if (λ (w : Written). Other w) (ltb 1 kind) _ _ (λ
 
 module _ {line : List ℕ} {r : Record} {e p : ℕ} {elements params : List (List ℕ)} where
   pub left-suits : Left line r e p elements params → suits line r e p elements params ≡ true
-  left-suits (Left.by-exact h) = exact-suits h
-  left-suits (Left.by-fallback h) = fallback-suits h
+  left-suits (Left.by-loose h) = loose-suits h
+  left-suits (Left.by-whole h a b) = rw (a, b) (line-suits h)
   left-suits (Left.by-strict h q) = rw q (strict-suits h)
 
   pub left-short : Left line r e p elements params → ltb lineLimit (length line) ≡ false
-  left-short (Left.by-exact {variant} {year} {offset} {e₀} {p₀} h) = reading-short line e₀ p₀ elements params variant year offset _ h
-  left-short (Left.by-fallback {variant} {year} {offset} {e₀} {p₀} h) = reading-short line e₀ p₀ elements params variant year offset _ h
+  left-short (Left.by-loose {variant} {year} {offset} {e₀} {p₀} h) = reading-short line e₀ p₀ elements params variant year offset h
+  left-short (Left.by-whole h a b) = whole-is h .short
   left-short (Left.by-strict h q) = division.reading-short h
 
   module _ (left : Left line r e p elements params) {before after : List ℕ} {w : Written} where

@@ -15,7 +15,7 @@ use Rattle.record.specs.declared.StrictReading.the-variants as strict
 use Rattle.record.specs.declared.Written.{Written}
 use Rattle.record.specs.declared.Written.the-variants.{Done, Refused}
 use Rattle.record.specs.declared.Refusal.the-variants.{BadSetting, OutputShort}
-use Rattle.loose.specs.Loose.{ReadsExact, ReadsFallback}
+use Rattle.loose.specs.Loose.{Reads}
 use Rattle.grammar.specs.Reading.{StrictReads}
 use Rattle.suits.specs.Suits.{suits}
 use Rattle.lookup.specs.Lookup.{Found, found, valueAnswer, Looks}
@@ -24,9 +24,9 @@ use Rattle.message.specs.Prints.{Prints}
 
 -- the record, the counts and the tables that a reader left, where it was done
 pub data Left (line : List ℕ) (r : Record) (e p : ℕ) (elements params : List (List ℕ)) : Type 0 where
-  by-exact : {variant year : ℕ} {offset : ℤ} {e₀ p₀ : List (List ℕ)} → ReadsExact line variant year offset e₀ p₀ (loose.Read r e p) elements params
+  by-loose : {variant year : ℕ} {offset : ℤ} {e₀ p₀ : List (List ℕ)} → Reads line variant year offset e₀ p₀ (loose.Read r e p) elements params
       → Left line r e p elements params
-  by-fallback : {variant year : ℕ} {offset : ℤ} {e₀ p₀ : List (List ℕ)} → ReadsFallback line variant year offset e₀ p₀ (loose.Read r e p) elements params
+  by-whole : {variant year : ℕ} {offset : ℤ} {e₀ p₀ : List (List ℕ)} → Reads line variant year offset e₀ p₀ (loose.Whole r) elements params → e ≡ 0 → p ≡ 0
       → Left line r e p elements params
   by-strict : {s : StrictRecord} {e₀ p₀ : List (List ℕ)} → StrictReads line e₀ p₀ (strict.Read s e p) elements params → r ≡ s .common
       → Left line r e p elements params

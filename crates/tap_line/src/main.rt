@@ -40,7 +40,7 @@ fn read_line(
 ) -> Reading {
     let blank = record::blank();
     let mut params = [blank; 4];
-    loose::read_exact(line, variant, year, offset, elements, &mut params)
+    loose::read(line, variant, year, offset, elements, &mut params)
 }
 
 // Prints a record that has no parameters.

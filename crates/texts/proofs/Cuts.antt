@@ -1,4 +1,4 @@
--- Cuts: the places of a text of characters that lie between two of them. Each step of the loose readers leads from a cut to a cut.
+-- Cuts: the places of a text of characters that lie between two of them. Each step of the loose reader leads from a cut to a cut.
 use Prim.Native.Nat.{ℕ, _+_, _≤_, _<_}
 use mathlib.Core.Path.{_≡_, refl, sym, ap, _∙_}
 use mathlib.Core.List.{List, _++_}

@@ -15,15 +15,15 @@ use Rattle.white.specs.declared.Ends.{Ends}
 use Rattle.white.proofs.ByCharacters.{end-cuts}
 use Rattle.record.specs.declared.Record.{Record}
 use Rattle.grammar.specs.Line.{Each}
-use Rattle.structured_data.specs.Data.{Rows, endAt}
+use Rattle.structured_data.specs.Data.{Rows}
 use Rattle.draft.specs.Outcome.{Outcome}
 use Rattle.draft.specs.Outcome.Outcome.{noReading, isReading}
 use Rattle.record.specs.Records.{messageAlone}
-use Rattle.loose.specs.Loose.{orWhole, byVariant, outcomeOf}
+use Rattle.loose.specs.Loose.{byVariant, outcomeOf}
 use Rattle.loose.proofs.Variants.{of-variant}
 use Rattle.texts.specs.Texts.{OfRecord, OfElement, OfParam}
 use Rattle.texts.proofs.Cuts.{between-text, at-start, at-end}
-use Rattle.texts.proofs.Records.{OutcomeCut, absent-cut, rfc5424-cut, rfc3164-reading-cut}
+use Rattle.texts.proofs.Records.{RecordCut, OutcomeCut, absent-cut, rfc5424-cut, rfc3164-reading-cut}
 
 pub record OutcomeTexts (line : List ℕ) (r : Record) (rows : Rows) : Type 0 where
   pub of-record : OfRecord line r
@@ -40,17 +40,21 @@ each-of f (a ∷ l) h = (f a (h .0), each-of f l (h .1))
 
 -- the texts of what is read from `s`, in a line that goes on with `r`
 module _ (s r : List ℕ) where
+  record-texts : (x : Record) → RecordCut s x → OfRecord (s ++ r) x
+  record-texts x c =
+      record {
+        host = between-text s r _ _ (c .host);
+        app = between-text s r _ _ (c .app);
+        procid = between-text s r _ _ (c .procid);
+        msgid = between-text s r _ _ (c .msgid);
+        message = between-text s r _ _ (c .message);
+      }
+
   texts-of : (o : Outcome) → OutcomeCut s o → TextsOf (s ++ r) o
   texts-of noReading h = tt
   texts-of (isReading x at rows) (c, d) =
       record {
-        of-record = record {
-          host = between-text s r _ _ (c .host);
-          app = between-text s r _ _ (c .app);
-          procid = between-text s r _ _ (c .procid);
-          msgid = between-text s r _ _ (c .msgid);
-          message = between-text s r _ _ (c .message);
-        };
+        of-record = record-texts x c;
         of-elements = each-of (λ row b. between-text s r _ _ b) (rows .elements) (d .ids);
         of-params = each-of (λ row b. record { name = between-text s r _ _ (b .0); value = between-text s r _ _ (b .1) }) (rows .params) (d .params);
       }
@@ -74,14 +78,10 @@ module _ (line : List ℕ) (u : isUtf8 line ≡ true) where
       )
 
   -- a line that is the message whole
-  pub whole-texts : (o : Outcome) → TextsOf line o → TextsOf line (orWhole line o)
-  whole-texts noReading h =
+  pub whole-texts : OfRecord line (messageAlone (length line))
+  whole-texts =
       let z : length line ≡ 0 + length line = omega arith in
       let nowhere = absent-cut line u in
-      subst (λ (l : List ℕ). TextsOf l (isReading (messageAlone (length line)) 0 (endAt 0))) (append-nil line) (
-      texts-of line [] (isReading (messageAlone (length line)) 0 (endAt 0)) (
-        record { host = nowhere; app = nowhere; procid = nowhere; msgid = nowhere; message = record { from = at-start line u; to = rw z at (at-end line u) } },
-        record { ids = tt; params = tt; to = at-start line u },
-      )
-      )
-  whole-texts (isReading x at rows) h = h
+      subst (λ (l : List ℕ). OfRecord l (messageAlone (length line))) (append-nil line)
+      (record-texts line [] (messageAlone (length line))
+      (record { host = nowhere; app = nowhere; procid = nowhere; msgid = nowhere; message = record { from = at-start line u; to = rw z at (at-end line u) } }))

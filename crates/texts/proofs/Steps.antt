@@ -1,4 +1,4 @@
--- The steps of the loose readers, their fields and their timestamps: what each answers ends at a cut.
+-- The steps of the loose reader, its fields and its timestamps: what each answers ends at a cut.
 use Prim.Native.Nat.{ℕ, _+_, _-_}
 use mathlib.Core.Path.{_≡_, refl}
 use mathlib.Core.List.{List}

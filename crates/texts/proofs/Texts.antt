@@ -1,4 +1,4 @@
--- Whole characters, as specs/Texts.antt says it: what a loose reader leaves, and what lookup gives and printing writes of it.
+-- Whole characters, as specs/Texts.antt says it: what the loose reader leaves, and what lookup gives and printing writes of it.
 use Prim.Native.Nat.{ℕ}
 use mathlib.Core.Path.{_≡_, refl}
 use mathlib.Core.List.{List, [], _∷_}
@@ -15,7 +15,7 @@ use Rattle.utf8.specs.Rfc3629.{Utf8}
 use Rattle.utf8.proofs.Texts.{utf8-sound, utf8-complete}
 use Rattle.record.specs.Limits.{lineLimit}
 use Rattle.record.specs.declared.Record.{Record}
-use Rattle.record.specs.declared.Reading.the-variants.{Read}
+use Rattle.record.specs.declared.Reading.the-variants.{Read, Whole}
 use Rattle.record.specs.declared.Refusal.{Refusal}
 use Rattle.record.specs.declared.Written.{Written}
 use Rattle.record.specs.declared.Written.the-variants.{Done, Refused}
@@ -23,7 +23,8 @@ use Rattle.grammar.specs.Line.{Each}
 use Rattle.structured_data.specs.Data.{Rows}
 use Rattle.draft.specs.Outcome.{Outcome}
 use Rattle.draft.specs.Outcome.Outcome.{isReading}
-use Rattle.loose.specs.Loose.{rowsOf, outcomeOf, Reads}
+use Rattle.loose.specs.Loose.{rowsOf, Reads}
+use Rattle.loose.proofs.Answers.{whole-is}
 use Rattle.suits.specs.Suits.{suits}
 use Rattle.lookup.specs.Unescape.{unescaped}
 use Rattle.lookup.specs.Lookup.{idText, Found, found, valueAnswer, valueText, Looks}
@@ -52,11 +53,16 @@ judged-texts : (line : List ℕ) (r : Record) (e p : ℕ) (e₀ p₀ e₁ p₁ :
     → e₁ ≡ filled (rowsOf o .elements) e₀ → p₁ ≡ filled (rowsOf o .params) p₀ → Texts line r e p e₁ p₁
 judged-texts line r e p e₀ p₀ e₁ p₁ o at rows q n m t a b = rw (a, b, q, n, m) (texts-filled line r rows e₀ p₀ (rw q at t))
 
-reading-texts : {r : Record} {e p : ℕ} (line : List ℕ) (e₀ p₀ e₁ p₁ : List (List ℕ)) (variant year : ℕ) (offset : ℤ) (o : Outcome)
-    → Reads line variant year offset o e₀ p₀ (Read r e p) e₁ p₁ → TextsOf line o → Texts line r e p e₁ p₁
-reading-texts line e₀ p₀ e₁ p₁ variant year offset o h t =
-    let j = reading-judged line e₀ p₀ e₁ p₁ variant year offset o h in
-    judged-texts line _ _ _ e₀ p₀ e₁ p₁ o (j .at) (j .rows) (j .outcome) (j .elements-many) (j .params-many) t (h .elements) (h .params)
+reading-texts : {r : Record} {e p : ℕ} (line : List ℕ) (e₀ p₀ e₁ p₁ : List (List ℕ)) (variant year : ℕ) (offset : ℤ)
+    → Reads line variant year offset e₀ p₀ (Read r e p) e₁ p₁ → Texts line r e p e₁ p₁
+reading-texts line e₀ p₀ e₁ p₁ variant year offset h =
+    let u = reading-utf8 line e₀ p₀ e₁ p₁ variant year offset h in
+    let j = reading-judged line e₀ p₀ e₁ p₁ variant year offset h in
+    judged-texts line _ _ _ e₀ p₀ e₁ p₁ _ (j .at) (j .rows) (j .outcome) (j .elements-many) (j .params-many) (outcome-texts line u variant year offset) (h .elements) (h .params)
+
+line-texts : {r : Record} (line : List ℕ) {e₀ p₀ e₁ p₁ : List (List ℕ)} {variant year : ℕ} {offset : ℤ} → Reads line variant year offset e₀ p₀ (Whole r) e₁ p₁
+    → Texts line r 0 0 e₁ p₁
+line-texts line h = let w = whole-is h in record { of-record = rw (w .is .alone) (whole-texts line (w .text)); of-elements = tt; of-params = tt }
 
 -- ---- lookup
 
@@ -119,12 +125,8 @@ print-utf8 {line} {r} {e} {p} {elements} {params} {n} {before} {after} t h =
 pub whole-characters : WholeCharacters
 whole-characters =
     record {
-      exact = λ {line} {variant} {year} {offset} {e₀} {p₀} {e₁} {p₁} h.
-          let u = reading-utf8 line e₀ p₀ e₁ p₁ variant year offset _ h in
-          reading-texts line e₀ p₀ e₁ p₁ variant year offset _ h (outcome-texts line u variant year offset);
-      fallback = λ {line} {variant} {year} {offset} {e₀} {p₀} {e₁} {p₁} h.
-          let u = reading-utf8 line e₀ p₀ e₁ p₁ variant year offset _ h in
-          reading-texts line e₀ p₀ e₁ p₁ variant year offset _ h (whole-texts line u (outcomeOf line variant year offset) (outcome-texts line u variant year offset));
+      loose = λ {line} {variant} {year} {offset} {e₀} {p₀} {e₁} {p₁} h. reading-texts line e₀ p₀ e₁ p₁ variant year offset h;
+      whole = λ {line} h. line-texts line h;
       lookup = lookup-utf8;
       print = print-utf8;
     }

@@ -1,4 +1,4 @@
--- No character is ever cut: a loose reader takes lines of UTF-8 alone, and each text that it leaves is UTF-8 again, as are the value that lookup
+-- No character is ever cut: the loose reader takes lines of UTF-8 alone, and each text that it leaves is UTF-8 again, as are the value that lookup
 -- gives of it and the text that printing writes.
 use Prim.Native.Nat.{ℕ}
 use mathlib.Core.List.{List}
@@ -7,10 +7,10 @@ use lib.IntN.{ℤ}
 use Rattle.base.specs.Texts.{textAt}
 use Rattle.utf8.specs.Rfc3629.{Utf8}
 use Rattle.record.specs.declared.Record.{Record}
-use Rattle.record.specs.declared.Reading.the-variants.{Read}
+use Rattle.record.specs.declared.Reading.the-variants.{Read, Whole}
 use Rattle.record.specs.declared.Written.the-variants.{Done}
 use Rattle.grammar.specs.Line.{Each}
-use Rattle.loose.specs.Loose.{ReadsExact, ReadsFallback}
+use Rattle.loose.specs.Loose.{Reads}
 use Rattle.lookup.specs.Lookup.{Looks}
 use Rattle.message.specs.Prints.{Prints}
 
@@ -38,11 +38,11 @@ pub record Texts (line : List ℕ) (r : Record) (e p : ℕ) (elements params : L
   pub of-params : Each (OfParam line) (take p params)
 
 pub record WholeCharacters : Type 0 where
-  -- Every text that a loose reader leaves is UTF-8.
-  pub exact : {line : List ℕ} {variant year : ℕ} {offset : ℤ} {e₀ p₀ e₁ p₁ : List (List ℕ)} {r : Record} {e p : ℕ}
-      → ReadsExact line variant year offset e₀ p₀ (Read r e p) e₁ p₁ → Texts line r e p e₁ p₁
-  pub fallback : {line : List ℕ} {variant year : ℕ} {offset : ℤ} {e₀ p₀ e₁ p₁ : List (List ℕ)} {r : Record} {e p : ℕ}
-      → ReadsFallback line variant year offset e₀ p₀ (Read r e p) e₁ p₁ → Texts line r e p e₁ p₁
+  -- Every text that the loose reader leaves is UTF-8.
+  pub loose : {line : List ℕ} {variant year : ℕ} {offset : ℤ} {e₀ p₀ e₁ p₁ : List (List ℕ)} {r : Record} {e p : ℕ}
+      → Reads line variant year offset e₀ p₀ (Read r e p) e₁ p₁ → Texts line r e p e₁ p₁
+  pub whole : {line : List ℕ} {variant year : ℕ} {offset : ℤ} {e₀ p₀ e₁ p₁ : List (List ℕ)} {r : Record}
+      → Reads line variant year offset e₀ p₀ (Whole r) e₁ p₁ → Texts line r 0 0 e₁ p₁
   -- Where they are, so is the value that lookup gives, by either unescaping: the first n bytes of the output;
   pub lookup : {line : List ℕ} {r : Record} {e p : ℕ} {elements params : List (List ℕ)} {id name : List ℕ} {kind n : ℕ} {before after : List ℕ}
       → Texts line r e p elements params → Looks line r e p elements params id name kind before (Done n) after → Utf8 (take n after)

@@ -18,15 +18,11 @@ impl Memory {
         Memory { elements: vec![[77_777; 2]; elements], params: vec![[88_888; 5]; params], record: vec![99; record] }
     }
 
-    fn read_exact(&mut self, line: &[u8], settings: Numbers) -> u32 {
-        read_exact(line, settings, &mut self.elements, &mut self.params, &mut self.record)
+    fn read_loose(&mut self, line: &[u8], settings: Numbers) -> ReadAnswer {
+        read_loose(line, settings, &mut self.elements, &mut self.params, &mut self.record)
     }
 
-    fn read_fallback(&mut self, line: &[u8], settings: Numbers) -> u32 {
-        read_fallback(line, settings, &mut self.elements, &mut self.params, &mut self.record)
-    }
-
-    fn read_strict(&mut self, line: &[u8]) -> u32 {
+    fn read_strict(&mut self, line: &[u8]) -> ReadAnswer {
         read_strict(line, &mut self.elements, &mut self.params, &mut self.record)
     }
 
@@ -35,10 +31,19 @@ impl Memory {
     }
 }
 
+/// A reading.
+const READ: ReadAnswer = ReadAnswer { number: 0, whole: 0, reach: 0 };
+/// The whole line as the message.
+const WHOLE: ReadAnswer = ReadAnswer { number: 0, whole: 1, reach: 0 };
+
+fn refused(number: u32) -> ReadAnswer {
+    ReadAnswer { number, whole: 0, reach: 0 }
+}
+
 /// `LINE` as the strict reader leaves it.
 fn read() -> Memory {
     let mut memory = Memory::new(2, 2, 240);
-    assert_eq!(memory.read_strict(LINE), 0);
+    assert_eq!(memory.read_strict(LINE), READ);
     memory
 }
 
@@ -53,8 +58,8 @@ fn settings_out_of_range_are_refused_with_2() {
     ];
     for settings in wrong {
         let mut memory = Memory::new(2, 2, 240);
-        assert_eq!(memory.read_exact(LINE, settings), 2);
-        assert_eq!(memory.read_fallback(LINE, settings), 2);
+        assert_eq!(memory.read_loose(LINE, settings), refused(2));
+        assert_eq!(memory.read_loose(b"no line", settings), refused(2));
         assert_eq!(memory, Memory::new(2, 2, 240));
     }
 }
@@ -74,7 +79,7 @@ fn a_lone_backslash_at_the_end_of_a_value_goes_or_stays_by_kind() {
     // No reader leaves such a value: backslash takes the next character with it. Here the place ends a byte early.
     let line = br#"<13>1 - gate7 reader 42 TAP [a@1 x="1\\"]"#;
     let mut memory = Memory::new(1, 1, 240);
-    assert_eq!(memory.read_strict(line), 0);
+    assert_eq!(memory.read_strict(line), READ);
     memory.params[0][4] -= 1;
     let mut output = [b'.'; 2];
     assert_eq!(lookup(memory.lent(line), b"a@1", b"x", 0, &mut output), Written { number: 0, len: 1 });
@@ -85,25 +90,61 @@ fn a_lone_backslash_at_the_end_of_a_value_goes_or_stays_by_kind() {
 
 #[test]
 fn refused_readers_change_nothing() {
-    for (elements, params, record, line, number) in
-        [(2, 2, 240, &b"no line"[..], 4), (1, 2, 240, LINE, 5), (2, 1, 240, LINE, 6), (2, 2, 207, LINE, 8)]
-    {
+    for (elements, params, record, number) in [(1, 2, 240, 5), (2, 1, 240, 6), (2, 2, 207, 8)] {
         let untouched = Memory::new(elements, params, record);
         let mut memory = untouched.clone();
-        assert_eq!(memory.read_exact(line, SETTINGS), number);
-        assert_eq!(memory.read_strict(line), number);
+        assert_eq!(memory.read_loose(LINE, SETTINGS), refused(number));
+        assert_eq!(memory.read_strict(LINE), refused(number));
         assert_eq!(memory, untouched);
     }
+    let mut memory = Memory::new(2, 2, 240);
+    assert_eq!(memory.read_strict(b"no line"), refused(4));
+    assert_eq!(memory, Memory::new(2, 2, 240));
+}
+
+#[test]
+fn the_loose_reader_refuses_with_the_first_number_that_applies() {
+    const WRONG: Numbers = Numbers { year: 10_000, ..SETTINGS };
+    let (long, broken) = ([&b"\xff"[..], &[b'x'; 8192]].concat(), b"<13>1 - - - - - [a x=\"\"]\xff");
+    // Each is refused by all that come after it too.
+    for (line, settings, elements, params, number) in [
+        (&long[..], WRONG, 0, 0, 1),
+        (broken, WRONG, 0, 0, 2),
+        (broken, SETTINGS, 0, 0, 3),
+        (LINE, SETTINGS, 1, 1, 5),
+        (LINE, SETTINGS, 2, 1, 6),
+        (LINE, SETTINGS, 2, 2, 8),
+    ] {
+        assert_eq!(Memory::new(elements, params, 207).read_loose(line, settings), refused(number));
+    }
+}
+
+#[test]
+fn a_whole_line_is_laid_out_like_a_reading() {
+    let mut memory = Memory::new(1, 1, 250);
+    assert_eq!(memory.read_loose(b"no line", SETTINGS), WHOLE);
+    let mut expected = Memory::new(1, 1, 250);
+    expected.record[..208].fill(0);
+    expected.record[176 + 8] = 7;
+    assert_eq!(memory, expected);
+    let mut output = [b'.'; 18];
+    assert_eq!(print(memory.lent(b"no line"), &mut output), Written { number: 0, len: 18 });
+    assert_eq!(&output, b"<47> - - : no line");
+
+    // Where the record's memory is short it is refused, and says nothing of the line.
+    let mut short = Memory::new(0, 0, 207);
+    assert_eq!(short.read_loose(b"no line", SETTINGS), refused(8));
+    assert_eq!(short, Memory::new(0, 0, 207));
 }
 
 #[test]
 fn readers_keep_what_lies_past_the_counts_and_the_layout() {
     let mut memory = Memory::new(3, 4, 250);
-    assert_eq!(memory.read_exact(LINE, SETTINGS), 0);
+    assert_eq!(memory.read_loose(LINE, SETTINGS), READ);
     assert_eq!(memory.elements[2..], [[77_777; 2]]);
     assert_eq!(memory.params[2..], [[88_888; 5]; 2]);
     assert_eq!(memory.record[208..], [99; 42]);
-    assert_eq!(memory.read_strict(LINE), 0);
+    assert_eq!(memory.read_strict(LINE), READ);
     assert_eq!(memory.elements[2..], [[77_777; 2]]);
     assert_eq!(memory.params[2..], [[88_888; 5]; 2]);
     assert_eq!(memory.record[240..], [99; 10]);

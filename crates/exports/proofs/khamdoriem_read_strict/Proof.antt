@@ -1,7 +1,6 @@
 -- `exports::khamdoriem_read_strict` meets its contract: a derivation by hand. With too little memory the answer alone is asked for; else both tables are lent on to the reader, and the memory for its record.
-use Rattle.derivation.specs.Derive.{Asked, Cx, Derived, Laid, Learnt, Lfts, Life, List, Row, R·, Shares, World, [], _<_, _∷_, _≤_, _▸_, _▹_, alive, any-gone, at, back, begin, branch, by-choice, by-mut, by-num, by-shr, bytes, calls, choice, chosen-held, cites, cx, eT, finish, fix-len, fld, gone, i64, join, lease, leased, len, lend, lends, length, lent, lit, lose, lt, ltb-false, ltb-true, made, muts, nexts, none, num, off, over, owed, owing, packs, pair, proves, put, puts, refl, returns, room, sBool, same, sc, shr, sliceTy, spent, tablesOf, tyBool, tyInt, unmade, unsigned, w32, w64, world}
+use Rattle.derivation.specs.Derive.{Asked, Cx, Derived, Laid, Learnt, Lfts, Life, List, Row, R·, Shares, World, [], _<_, _∷_, _≤_, _▸_, _▹_, alive, any-gone, at, back, begin, branch, by-choice, by-mut, by-num, by-shr, bytes, calls, choice, chosen-held, cites, cx, eT, finish, fix-len, fld, gone, i64, join, lease, leased, len, lend, lends, length, lent, lit, lose, lost, lt, ltb-false, ltb-true, made, muts, nexts, none, num, off, over, owed, owing, packs, pair, proves, put, puts, refl, returns, room, sBool, same, sc, shr, sliceTy, spent, tablesOf, tyBool, tyInt, unmade, unsigned, w32, w64, world}
 use Rattle.record.specs.Params.{rows}
-use Rattle.record.specs.Answers.{strictAnswerOf}
 use Rattle.record.proofs.Params.{rows-length}
 use Rattle.entries.proofs.Contracts as E
 use Rattle.strict.proofs.Contracts as O
@@ -29,7 +28,7 @@ use Rattle.exports.proofs.leave_strict.Met as Lm
 module _ (w : World) where
   -- the context, by the rows of the tables and the memory, the reading and the answer, and what is lent of each
   abbrev call-at : Row → Row → Row → Row → Row → Row → Row → List Life → Cx
-  call-at e p m r a e′ p′ ls = cx (any-gone (tyInt w32) ∷ shr bytes 0 ∷ e ∷ p ∷ m ∷ any-gone (tyInt w64) ∷ any-gone (tyInt w64) ∷ any-gone (tyInt w64) ∷ r ∷ any-gone tyBool ∷ a ∷ any-gone (eT pair) ∷ e′ ∷ any-gone (eT (R· E.param)) ∷ p′ ∷ any-gone (eT bytes) ∷ any-gone (sliceTy (eT bytes)) ∷ []) ls
+  call-at e p m r a e′ p′ ls = cx (lost C.read-answer ∷ shr bytes 0 ∷ e ∷ p ∷ m ∷ any-gone (tyInt w64) ∷ any-gone (tyInt w64) ∷ any-gone (tyInt w64) ∷ r ∷ any-gone tyBool ∷ a ∷ any-gone (eT pair) ∷ e′ ∷ any-gone (eT (R· E.param)) ∷ p′ ∷ any-gone (eT bytes) ∷ any-gone (sliceTy (eT bytes)) ∷ []) ls
 
   -- nothing is lent
   abbrev head-at : Lfts 4 → Shares 4 → Row → Row → Cx
@@ -72,7 +71,7 @@ module _ (w : World) where
         (
           (λ t.
               let l : length (m .now) < strictSize = ltb-true (length (m .now)) strictSize t in
-              ((λ ls. tt), λ g. ((λ ls. tt), λ n. ((refl, (refl, (refl, (refl, tt)))), short l (g .1) (rw (rows-length (p .now)) (g .5)) (strictAnswerOf (g .1)) refl (n .1) (n .5))))),
+              ((λ ls. tt), λ g. ((λ ls. tt), λ n. ((refl, (refl, (refl, (refl, tt)))), short l (g .1) (rw (rows-length (p .now)) (g .5)) (n .1) (n .5))))),
           (λ f.
               let l : strictSize ≤ length (m .now) = ltb-false (length (m .now)) strictSize f in
               λ γ. (refl, λ γ′. (refl, ((λ ls. tt), λ g. (refl, λ k. (refl, λ k′. λ γ″. (refl, ((λ ls. l), λ n. (refl, λ q. ((refl, (fix-len (e .ptr) (e .name) (g .2 .1 .0) (e .now) k′, (fix-len (p .ptr) (p .name) (g .2 .1 .1 .0) (p .now) k, (fix-len (m .ptr) (m .name) (n .2 .1 .0) (m .now) q, tt)))), all l (g .1) (g .2 .1 .0) (rows (g .2 .1 .1 .0)) (g .5) (n .1) (n .2 .1 .0) (n .5))))))))))),

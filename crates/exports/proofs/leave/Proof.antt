@@ -3,20 +3,17 @@ use Rattle.exports.proofs.Calls.{left-laws}
 use Rattle.exports.proofs.leave.Statement.{statement}
 use Rattle.exports.proofs.leave.Tie as tie
 
-enum-known-r : tie.Need-enum-known-r
-enum-known-r c = search needs
-
-refusal-number-requires : tie.Need-refusal-number-requires
-refusal-number-requires c κs = search needs
-
-enum-known-r-2 : tie.Need-enum-known-r-2
-enum-known-r-2 c = search needs
-
-put-record-requires : tie.Need-put-record-requires
-put-record-requires c κs = search needs
+read-answer-of-requires : tie.Need-read-answer-of-requires
+read-answer-of-requires c κs = search needs
 
 returns : tie.Need-returns
 returns c = search (left-laws, needs)
+
+answer-of-requires : tie.Need-answer-of-requires
+answer-of-requires c κs = search needs
+
+put-record-requires : tie.Need-put-record-requires
+put-record-requires c κs = search needs
 
 same-length : tie.Need-same-length
 same-length c = search needs
@@ -28,10 +25,9 @@ pub leave-spec : {M : Type 1} → statement M
 leave-spec =
     tie.close
     (tie.spec
-    enum-known-r
-    refusal-number-requires
-    enum-known-r-2
-    put-record-requires
+    read-answer-of-requires
     returns
+    answer-of-requires
+    put-record-requires
     same-length
     returns-2)

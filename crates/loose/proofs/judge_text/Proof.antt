@@ -24,6 +24,9 @@ enum-known-rules c = search needs
 enum-told : tie.Need-enum-told
 enum-told c = search needs
 
+message-alone-requires : tie.Need-message-alone-requires
+message-alone-requires c κs = search needs
+
 returns : tie.Need-returns
 returns c = search (judge-text-laws, needs)
 
@@ -47,6 +50,7 @@ judge-text-spec =
     by-variant-requires
     enum-known-rules
     enum-told
+    message-alone-requires
     returns
     returns-2
     returns-3

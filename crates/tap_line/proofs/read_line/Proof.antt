@@ -1,4 +1,4 @@
--- `tap_line::read_line` meets its contract: a derivation by hand. A local table is lent to the exact reader.
+-- `tap_line::read_line` meets its contract: a derivation by hand. A local table is lent to the loose reader.
 use Rattle.derivation.specs.Derive.{Asked, Cx, Derived, Laid, Learnt, Lfts, Row, R·, Shares, World, [], _∷_, _▸_, _▹_, aT, alive, any-gone, array, arrays, as-array, at, back, begin, borrows, by-mut, by-num, by-shr, by-snum, bytes, calls, cites, cx, eT, finish, fix-len, fld, gone, held, i32, lease, leased, lend, lends, lent, lit<, lose, lost, made, none, off, over, owed, owing, packs, packs-all, pair, proves, read-whole, refl, repeats, returned, returns, room, same, sc, sc-here, shr, spent, struct, tablesOf, unmade, w32, world}
 use borrow.Rule.Array.Rows.{arr-owed}
 use Rattle.entries.proofs.Contracts as E
@@ -7,8 +7,8 @@ use Rattle.record.proofs.blank.Kinds as Bk
 use Rattle.record.proofs.blank.Reads as Br
 use Rattle.record.proofs.blank.Symbol as Bs
 use Rattle.record.proofs.blank.Met as Bm
-use Rattle.loose.proofs.read_exact.Symbol as Rs
-use Rattle.loose.proofs.read_exact.Met as Rm
+use Rattle.loose.proofs.read.Symbol as Rs
+use Rattle.loose.proofs.read.Met as Rm
 use Rattle.tap_line.proofs.Contracts as C
 use Rattle.tap_line.proofs.read_line.Key
 use Rattle.tap_line.proofs.read_line.Statement as stated
@@ -27,7 +27,7 @@ module _ (w : World) where
       packs pair 8 9 2 same gone (fld 5 1 (owed pair 1 2 (lease (κs .1 .0) (qs .1 .0))) refl) refl refl ▹
       borrows E.param 4 7 10 3 same gone refl (lit< tt, lit< tt) ▹
       packs-all E.param 4 10 11 3 same gone tt refl refl ▹ at (lent-at κs qs (unmade O.reading) (leased pair 2) (leased (R· E.param) 3)) ▸
-      calls 3 (O.read-exact .ps) (O.read-exact .r) (Asked O.read-exact) (Learnt O.read-exact) Rs.name (cites O.read-exact w code.env Rs.name Rs.routine code.calls-loose·read-exact (Rm.met (w .𝓤) (w .H) (w .𝓜) (w .𝓖) (w .𝓡))) (0 ∷ 2 ∷ 3 ∷ []) (by-shr bytes 0 tt 1 0 lend refl (by-num w32 2 (sc i32) refl (by-num w32 3 (sc i32) refl (by-snum w32 4 (sc i32) refl (by-mut pair 1 tt 9 lent refl (by-mut (R· E.param) 2 tt 11 lent refl none)))))) 0 gone (tt, (tt, (tt, tt))) refl ▹
+      calls 3 (O.read .ps) (O.read .r) (Asked O.read) (Learnt O.read) Rs.name (cites O.read w code.env Rs.name Rs.routine code.calls-loose·read (Rm.met (w .𝓤) (w .H) (w .𝓜) (w .𝓖) (w .𝓡))) (0 ∷ 2 ∷ 3 ∷ []) (by-shr bytes 0 tt 1 0 lend refl (by-num w32 2 (sc i32) refl (by-num w32 3 (sc i32) refl (by-snum w32 4 (sc i32) refl (by-mut pair 1 tt 9 lent refl (by-mut (R· E.param) 2 tt 11 lent refl none)))))) 0 gone (tt, (tt, (tt, tt))) refl ▹
       at (lent-at κs qs (made O.reading) (spent pair) (spent (R· E.param))) ▸ finish 3 refl ▸ returned E.param 4 11 7 3 same same refl ▸ lose 3 refl ▸ finish 2 refl ▸ back pair 9 5 1 2 (lease (κs .1 .0) (qs .1 .0)) same same refl refl ▸ lose 2 refl ▸ room 7 (array E.param 4 refl) ▸
       room 2 (over i32) ▸ room 3 (over i32) ▸ room 4 (over i32) ▸ returns tt
 

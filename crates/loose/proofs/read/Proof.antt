@@ -1,4 +1,4 @@
--- `loose::read_exact` meets its contract: a derivation by hand. What was judged is asked by covered calls; where the line is read, a part of it and both tables are lent on.
+-- `loose::read` meets its contract: a derivation by hand. What was judged is asked by covered calls; where the line is read, a part of it and both tables are lent on.
 use Rattle.derivation.specs.Derive.{Asked, Cx, Derived, Laid, Learnt, Lfts, Life, List, Row, R·, Shares, World, [], _∙_, _∷_, _▸_, _▹_, _◂_, alive, any-gone, ap, arith, at, back, begin, branch, by-choice, by-mut, by-num, by-part, by-shr, by-snum, bytes, calls, choice, chosen-held, cites, cuts-of, cx, eT, finish, fix-len, fld, gone, here, i32, i64, iT, join, last, lease, leased, len, lend, lends, lent, lit, lose, lost, made, muts, nexts, none, num, off, offset, over, owed, owing, packs, packs-part, pair, part, part-lend, proves, put, puts, refl, returns, room, sBool, sPtr, sUnit, same, sc, sc-here, shared, shr, sliceTy, slots₃, spent, sptr, struct, sym, tablesOf, tyBool, tyInt, tyPtr, tyUnit, unmade, unshared, unsigned, w32, w64, world}
 use mir.Syntax.{sub}
 use mir.Val.{vint}
@@ -9,9 +9,9 @@ use Rattle.structured_data.proofs.Contracts as D
 use Rattle.structured_data.proofs.fill_data.Symbol as Ds
 use Rattle.structured_data.proofs.fill_data.Met as Dm
 use Rattle.loose.proofs.Contracts as C
-use Rattle.loose.proofs.read_exact.Key
-use Rattle.loose.proofs.read_exact.Statement as stated
-use Rattle.loose.proofs.read_exact.Code as code
+use Rattle.loose.proofs.read.Key
+use Rattle.loose.proofs.read.Statement as stated
+use Rattle.loose.proofs.read.Code as code
 use Rattle.loose.proofs.Readings.{served}
 use Rattle.loose.proofs.judge.Kinds as Jk
 use Rattle.loose.proofs.judge.Reads as Jr
@@ -51,7 +51,7 @@ module _ (w : World) where
   abbrev lent-at : Lfts 3 → Shares 3 → Row → Row → Cx
   lent-at κs qs e p = read-at (owing pair 1 3 (lease (κs .1 .0) (qs .1 .0))) (owing (R· E.param) 2 4 (lease (κs .1 .1 .0) (qs .1 .1 .0))) (made D.rules) (lost C.the-data) (sc-here i64) (shared 0) e p ((lease (κs .0) (qs .0)) ∷ off ∷ off ∷ alive ∷ alive ∷ [])
 
-  abbrev derived : Derived C.read-exact w code.env Key.name 2 code.function
+  abbrev derived : Derived C.read w code.env Key.name 2 code.function
   derived κs qs bs =
       put 7 i64 gone (fld 5 1 (len pair 1) refl) refl (λ u. refl) (λ u. tt) ▹
       put 8 i64 gone (fld 6 1 (len (R· E.param) 2) refl) refl (λ u. refl) (λ u. tt) ▹
@@ -79,10 +79,23 @@ module _ (w : World) where
       room 16 (over sBool) ▸ nexts tt)) (
       calls 0 Rk.ps Rk.r Rr.Asked Rr.Learnt Rs.name (Rr.known w code.env Rs.name Rs.routine code.calls-loose·reading-of (Rm.met (w .𝓤) (w .H) (w .𝓜) (w .𝓖) (w .𝓡))) [] (by-choice C.judged 9 chosen-held refl none) 0 gone tt refl ▹ room 9 (choice C.judged refl) ▸ room 2 (over i32) ▸ room 3 (over i32) ▸ room 4 (over i32) ▸ returns tt)
 
-  laid : Laid C.read-exact w code.env Key.name 2 code.function derived
+  laid : Laid C.read w code.env Key.name 2 code.function derived
   laid κs qs a good pre bs =
-      ((λ ls. tt), λ g. let s = served (a .0 .now) (a .1 .0) (a .1 .1 .0) (a .1 .1 .1 .0) (record { sfits = good .1 .1 .1 .0 }) (a .1 .1 .1 .1 .0 .now) (rows (a .1 .1 .1 .1 .1 .0 .now)) (g .1) (rw (rows-length (a .1 .1 .1 .1 .1 .0 .now)) (g .5)) in ((λ ls. tt), λ b. ((λ t. let y = sym (b .5) ∙ t in ((λ ls. tt), λ d. ((λ ls. tt), λ u. (tt, (omega arith, ((refl, refl, omega arith, rw (d .5) (s .inside y)), λ part. (ap (vint w64) (part .1), λ γ. (refl, λ γ′. (refl, ((λ ls. rw (u .5, d .5) (s .room y)), λ k. (refl, λ l. (refl, λ l′. ((λ ls. tt), λ r. ((refl, (tt, (tt, (tt, (fix-len (a .1 .1 .1 .1 .0 .ptr) (a .1 .1 .1 .1 .0 .name) (k .2 .1 .1 .1 .1 .1 .0) (a .1 .1 .1 .1 .0 .now) l′, (fix-len (a .1 .1 .1 .1 .1 .0 .ptr) (a .1 .1 .1 .1 .1 .0 .name) (k .2 .1 .1 .1 .1 .1 .1 .0) (a .1 .1 .1 .1 .1 .0 .now) l, tt)))))), rw (r .5) (s .filled-in y (k .2 .1 .1 .1 .1 .1 .0) (rows (k .2 .1 .1 .1 .1 .1 .1 .0)) (rw (u .5, d .5) at (k .5))))))))))))))))), (λ f. ((λ ls. tt), λ r. ((refl, (tt, (tt, (tt, (refl, (refl, tt)))))), rw (r .5) (s .as-they-are (sym (b .5) ∙ f))))))))
+      let e = a .1 .1 .1 .1 .0 in
+      let p = a .1 .1 .1 .1 .1 .0 in (
+        (λ ls. tt),
+        λ g.
+            let s = served (a .0 .now) (a .1 .0) (a .1 .1 .0) (a .1 .1 .1 .0) (record { sfits = good .1 .1 .1 .0 }) (e .now) (rows (p .now)) (g .1) (rw (rows-length (p .now)) (g .5)) in (
+              (λ ls. tt),
+              λ b. (
+                (λ t.
+                    let y = sym (b .5) ∙ t in
+                    ((λ ls. tt), λ d. ((λ ls. tt), λ u. (tt, (omega arith, ((refl, refl, omega arith, rw (d .5) (s .inside y)), λ part. (ap (vint w64) (part .1), λ γ. (refl, λ γ′. (refl, ((λ ls. rw (u .5, d .5) (s .room y)), λ k. (refl, λ l. (refl, λ l′. ((λ ls. tt), λ r. ((refl, (tt, (tt, (tt, (fix-len (e .ptr) (e .name) (k .2 .1 .1 .1 .1 .1 .0) (e .now) l′, (fix-len (p .ptr) (p .name) (k .2 .1 .1 .1 .1 .1 .1 .0) (p .now) l, tt)))))), rw (r .5) (s .filled-in y (k .2 .1 .1 .1 .1 .1 .0) (rows (k .2 .1 .1 .1 .1 .1 .1 .0)) (rw (u .5, d .5) at (k .5))))))))))))))))),
+                (λ f. ((λ ls. tt), λ r. ((refl, (tt, (tt, (tt, (refl, (refl, tt)))))), rw (r .5) (s .as-they-are (sym (b .5) ∙ f))))),
+              ),
+            ),
+      )
 
-pub read-exact-spec : {M : Type 1} → stated.statement M
+pub read-spec : {M : Type 1} → stated.statement M
 unfolding code.routine tablesOf
-read-exact-spec 𝓤 H 𝓜 𝓖 𝓡 = proves C.read-exact (world 𝓤 H 𝓜 𝓖 𝓡) code.env Key.name 2 code.function refl (code.unfolded 𝓤 H 𝓜 𝓡) (derived (world 𝓤 H 𝓜 𝓖 𝓡)) (laid (world 𝓤 H 𝓜 𝓖 𝓡))
+read-spec 𝓤 H 𝓜 𝓖 𝓡 = proves C.read (world 𝓤 H 𝓜 𝓖 𝓡) code.env Key.name 2 code.function refl (code.unfolded 𝓤 H 𝓜 𝓡) (derived (world 𝓤 H 𝓜 𝓖 𝓡)) (laid (world 𝓤 H 𝓜 𝓖 𝓡))
