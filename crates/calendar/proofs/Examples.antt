@@ -59,6 +59,7 @@ instants =
     ∷ entry (at 2023 2 4 9 2 2) (minus 1439) (pos 1675587662)
     ∷ entry (at 2023 2 5 10 1 2) (pos 0) (pos 1675591262)
     ∷ entry (at 2023 2 5 11 1 2) (pos 60) (pos 1675591262)
+    ∷ entry (at 2023 2 5 23 0 0) (pos 0) (pos 1675638000)
     ∷ entry (at 0 1 1 0 0 0) (pos 0) (minus 62167219200)
     ∷ entry (at 0 12 31 23 59 59) (pos 0) (minus 62135596801)
     ∷ entry (at 1969 1 1 0 0 0) (pos 0) (minus 31536000)
