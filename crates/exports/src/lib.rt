@@ -70,7 +70,7 @@ fn leave_strict(r: StrictReading, memory: &mut [u8]) -> ReadAnswer
     told
 }
 
-// Loose reading: where the number is 0, the record's 208 bytes in `memory`.
+// Loose reading: where the number is 0, the record's 216 bytes in `memory`.
 #[no_mangle]
 pub extern "C" fn khamdoriem_read_loose(
     line: &[u8],
@@ -93,7 +93,7 @@ pub extern "C" fn khamdoriem_read_loose(
     leave(r, memory)
 }
 
-// Strict reading: where the number is 0, the record's 240 bytes in `memory`.
+// Strict reading: where the number is 0, the record's 248 bytes in `memory`.
 #[no_mangle]
 pub extern "C" fn khamdoriem_read_strict(
     line: &[u8],
@@ -134,7 +134,7 @@ fn unheld(len: usize, kind: u32) -> OutputAnswer
     record::output_answer_of(Written::Refused(first))
 }
 
-// Printing of the record that the 208 bytes hold: number and length.
+// Printing of the record that the 216 bytes hold: number and length.
 #[no_mangle]
 pub extern "C" fn khamdoriem_print(
     line: &[u8],
