@@ -13,8 +13,16 @@ ghost use Rattle.record.specs.Answers.{readAnswerOf, strictReadAnswerOf, output
 ghost use Rattle.record.specs.Params.{rows};
 ghost use Rattle.record.specs.declared.Written.the-variants.{Refused};
 ghost use Rattle.layout.specs.Layout.{recordSize, strictSize};
-ghost use Rattle.exports.specs.Exports.{shortAnswer, LeavesLoose, LeavesStrict, firstRefusal, ServesPrint, ServesLookup};
+ghost use Rattle.exports.specs.Exports.{interfaceNumber, shortAnswer, LeavesLoose, LeavesStrict, firstRefusal, ServesPrint, ServesLookup};
 ghost use Rattle.exports.specs.Steps.{Left, StrictLeft};
+
+// The number of the interface, which a host compares with that of its header.
+#[no_mangle]
+pub extern "C" fn khamdoriem_interface() -> u32
+    ensures { λ n. ⌜ n ≡ interfaceNumber ⌝ }
+{
+    2
+}
 
 // 8 in place of 0.
 fn or_short(a: ReadAnswer) -> ReadAnswer
