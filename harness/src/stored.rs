@@ -1,5 +1,5 @@
-//! The stored output of the program `cases` against the Rust: each loose case in the same words, from the Rust's message
-//! (in class D7 of docs/DIFFERENCES.md with its hyphen, and in class D8 with its fraction in the line's digits).
+//! The stored output of the program `cases` against the Rust: each loose case in the same words, from the Rust's message. By the classes of
+//! docs/DIFFERENCES.md: in D1 to D5 the whole line, in D7 the message with its hyphen, in D8 the fraction in the line's digits.
 //!
 //! A case is a line of the program's input: `R`, variant, year, offset, and the line that is read. A strict case (`S`) and a line that is refused
 //! before it is read have no answer of the Rust.
@@ -82,9 +82,13 @@ fn told(line: &str, message: &Message<&str>) -> Vec<u8> {
 /// What the Rust says to a case, where it has an answer.
 fn answer(case: &Case<'_>) -> Option<Vec<u8>> {
     let text = oracle::admit(case.line, case.settings).ok()?;
-    Some(match oracle::exact(text, case.settings) {
-        Some(message) => told(text, &oracle::with_hyphen(text, case.settings, message).0),
-        None => [b"  whole\n".to_vec(), told(text, &oracle::fallback(text, case.settings))].concat(),
+    let whole = |message| [b"  whole\n".to_vec(), told(text, &message)].concat();
+    let message = oracle::exact(text, case.settings);
+    let class = oracle::class_of(text, message.as_ref());
+    Some(match message {
+        Some(message) if class.is_none() => told(text, &oracle::with_hyphen(text, case.settings, message).0),
+        Some(_) => whole(oracle::whole(text)),
+        None => whole(oracle::fallback(text, case.settings)),
     })
 }
 
