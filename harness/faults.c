@@ -1,10 +1,15 @@
 /* Wrong answers laid over the archive's own, one by one, to see that the harness finds each. The archive's functions are renamed right_*;
    these stand in their place, and the variable FAULT says which of them is wrong. harness/try-faults builds and runs them. */
 #include <stdlib.h>
+#include <string.h>
 #include "khamdoriem.h"
 
 #define WORD(record, at) (((uint64_t *)(record))[at])
 
+/* The words of a record that are looked at here. */
+enum { PROTOCOL = 0, FACILITY = 2, SEVERITY = 4, STAMP = 6, NANOS = 8, DIGITS = 9, HOST = 11, APP = 14, MESSAGE = 23, MESSAGE_LEN = 24, ELEMENTS = 25, PARAMS = 26, HAS_MESSAGE = 30 };
+
+uint32_t right_interface(void);
 struct khamdoriem_read right_read_loose(const uint8_t *, size_t, uint32_t, uint32_t, int32_t, khamdoriem_element *, size_t, khamdoriem_param *, size_t,
                                         uint8_t *, size_t);
 struct khamdoriem_read right_read_strict(const uint8_t *, size_t, khamdoriem_element *, size_t, khamdoriem_param *, size_t, uint8_t *, size_t);
@@ -21,8 +26,16 @@ static int fault(void) {
 
 /* Is nothing set in the record but the message, as where the whole line is the message? */
 static int message_alone(const uint8_t *record) {
-    return !(WORD(record, 0) | WORD(record, 2) | WORD(record, 4) | WORD(record, 6) | WORD(record, 10) | WORD(record, 13) | WORD(record, 24));
+    return !(WORD(record, PROTOCOL) | WORD(record, FACILITY) | WORD(record, SEVERITY) | WORD(record, STAMP) | WORD(record, HOST) | WORD(record, APP) |
+             WORD(record, ELEMENTS));
 }
+
+/* Where the digits of the printed fraction end: `<p>version`, a space, 19 bytes of date and clock, the point, the digits. */
+static size_t fraction_end(const uint8_t *output, const uint8_t *record) {
+    return (size_t)((const uint8_t *)strchr((const char *)output, ' ') - output) + 1 + 19 + 1 + WORD(record, DIGITS);
+}
+
+uint32_t khamdoriem_interface(void) { return right_interface() + (fault() == 34); }                     /* another interface */
 
 struct khamdoriem_read khamdoriem_read_loose(const uint8_t *line, size_t line_len, uint32_t variant, uint32_t year, int32_t offset,
                                              khamdoriem_element *elements, size_t elements_len, khamdoriem_param *params, size_t params_len,
@@ -31,24 +44,25 @@ struct khamdoriem_read khamdoriem_read_loose(const uint8_t *line, size_t line_le
     uint32_t n = a.number;
     switch (fault()) {
     case 1: if (n == 5 && elements_len) elements[0][0] = 0; break;                                      /* a refused call fills a table */
-    case 2: if (n == 0 && record_len > 208) record[208] = 0; break;                                     /* a byte past the record */
-    case 3: if (n == 0 && WORD(record, 25) > 2 && params_len > WORD(record, 25)) params[WORD(record, 25)][4] = 0; break; /* an entry past the count */
-    case 4: if (n == 0 && WORD(record, 8) == 123456789) WORD(record, 8)--; break;                       /* a nanosecond lost */
+    case 2: if (n == 0 && record_len > KHAMDORIEM_RECORD) record[KHAMDORIEM_RECORD] = 0; break;         /* a byte past the record */
+    case 3: if (n == 0 && WORD(record, PARAMS) > 2 && params_len > WORD(record, PARAMS)) params[WORD(record, PARAMS)][4] = 0; break; /* an entry past the count */
+    case 4: if (n == 0 && WORD(record, NANOS) == 123456789) WORD(record, NANOS)--; break;               /* a nanosecond lost */
     case 5: if (n == 6) a.number = 5; break;                                                            /* the wrong table named */
-    case 6: if (n == 0 && WORD(record, 23) == 0) WORD(record, 22) = 0; break;                           /* an empty message at the line's start */
-    case 7: if (n == 0 && WORD(record, 25) == 2 && params[1][4] == 0) params[1][3] = 0; break;          /* an empty value at the line's start */
+    case 6: if (n == 0 && WORD(record, MESSAGE_LEN) == 0) WORD(record, MESSAGE) = 0; break;             /* an empty message at the line's start */
+    case 7: if (n == 0 && WORD(record, PARAMS) == 2 && params[1][4] == 0) params[1][3] = 0; break;      /* an empty value at the line's start */
     case 8: if (line_len == 8192) a.number = 1; break;                                                  /* the length limit off by one */
     case 9: if (line_len > 8192 && variant > 2) a.number = 2; break;                                    /* refusals in another order */
     case 10: if (line_len == 0) a.whole = 0; break;                                                     /* the empty line has a reading */
     case 11: if (n == 3) a.number = 4; break;                                                           /* another number */
     case 12: if (n == 8 && record_len) record[0] = 0; break;                                            /* a refused call writes the record */
-    case 22: if (n == 0 && !WORD(record, 0) && WORD(record, 23) && line[WORD(record, 22)] == '-') { WORD(record, 22)++; WORD(record, 23)--; } break; /* a hyphen lost */
-    case 23: if (n == 0 && WORD(record, 0) && !WORD(record, 24) && WORD(record, 23) && line[WORD(record, 22) - 2] == '-') { WORD(record, 22) -= 2; WORD(record, 23) += 2; } break; /* one kept in RFC 5424 */
+    case 22: if (n == 0 && !WORD(record, PROTOCOL) && WORD(record, MESSAGE_LEN) && line[WORD(record, MESSAGE)] == '-') { WORD(record, MESSAGE)++; WORD(record, MESSAGE_LEN)--; } break; /* a hyphen lost */
+    case 23: if (n == 0 && WORD(record, PROTOCOL) && !WORD(record, ELEMENTS) && WORD(record, MESSAGE_LEN) && line[WORD(record, MESSAGE) - 2] == '-') { WORD(record, MESSAGE) -= 2; WORD(record, MESSAGE_LEN) += 2; } break; /* one kept in RFC 5424 */
     case 24: if (line_len && variant == 2) a.whole = 0; break;                                          /* a whole line answered as a reading */
     case 25: if (n == 0 && message_alone(record)) a.whole = 1; break;                                   /* a reading answered as a whole line */
     case 26: if (n == 0 && a.whole && line_len == 1) a.number = 4; break;                               /* a whole line refused */
-    case 27: if (n == 0 && a.whole && line_len && line[line_len - 1] == ' ') WORD(record, 23)--; break; /* a whole line trimmed */
+    case 27: if (n == 0 && a.whole && line_len && line[line_len - 1] == ' ') WORD(record, MESSAGE_LEN)--; break; /* a whole line trimmed */
     case 28: if (n == 3) a.reach = line_len; break;                                                     /* a length beside a refusal */
+    case 31: if (n == 0 && WORD(record, NANOS) == 0) WORD(record, DIGITS) = 0; break;                   /* a fraction of zeros taken for none */
     }
     return a;
 }
@@ -57,8 +71,9 @@ struct khamdoriem_read khamdoriem_read_strict(const uint8_t *line, size_t line_l
                                               khamdoriem_param *params, size_t params_len, uint8_t *record, size_t record_len) {
     struct khamdoriem_read a = right_read_strict(line, line_len, elements, elements_len, params, params_len, record, record_len);
     switch (fault()) {
-    case 13: if (a.number == 0 && WORD(record, 12) == 255) a.number = 4; break;             /* the host's limit off by one */
-    case 14: if (a.number == 0 && WORD(record, 29) && WORD(record, 23) == 0) WORD(record, 29) = 0; break; /* an empty message taken for none */
+    case 13: if (a.number == 0 && WORD(record, HOST + 2) == 255) a.number = 4; break;       /* the host's limit off by one */
+    case 14: if (a.number == 0 && WORD(record, HAS_MESSAGE) && WORD(record, MESSAGE_LEN) == 0) WORD(record, HAS_MESSAGE) = 0; break; /* an empty message taken for none */
+    case 32: if (a.number == 0 && WORD(record, DIGITS) == 6) WORD(record, DIGITS)++; break; /* the point counted with the digits */
     }
     return a;
 }
@@ -69,8 +84,22 @@ struct khamdoriem_written khamdoriem_print(const uint8_t *line, size_t line_len,
     switch (fault()) {
     case 15: if (w.number == 8 && output_len) output[output_len - 1] = 0; break;            /* a refused call writes */
     case 16: if (w.number == 0 && output_len > w.len) output[w.len] = '\n'; break;          /* a byte past the result */
-    case 17: if (w.number == 7 && record_len >= 208 && WORD(record, 8) == 1000000000) w.number = 0; break; /* nanoseconds over the limit */
+    case 17: if (w.number == 7 && record_len >= KHAMDORIEM_RECORD && WORD(record, NANOS) == 1000000000) w.number = 0; break; /* nanoseconds over the limit */
     case 21: if (w.number == 7 && params_len) ((size_t *)params)[0]++; break;               /* a table that is only to be read */
+    case 29:                                                                                /* a digit dropped, where the number stays the same */
+        if (w.number == 0 && WORD(record, DIGITS) > 1 && output[fraction_end(output, record) - 1] == '0') {
+            size_t end = fraction_end(output, record);
+            memmove(output + end - 1, output + end, w.len-- - end);
+        }
+        break;
+    case 30:                                                                                /* a zero too many */
+        if (w.number == 0 && WORD(record, DIGITS) && output_len > w.len) {
+            size_t end = fraction_end(output, record);
+            memmove(output + end + 1, output + end, w.len++ - end);
+            output[end] = '0';
+        }
+        break;
+    case 33: if (w.number == 7 && record_len >= KHAMDORIEM_RECORD && WORD(record, NANOS) == 500000000 && WORD(record, DIGITS) == 0) w.number = 0; break; /* digits that do not show the nanoseconds */
     }
     return w;
 }

@@ -11,9 +11,13 @@
 extern "C" {
 #endif
 
+/* The number of this interface. A host that khamdoriem_interface answers with another number was built with the header of another archive, and must not
+   go on: it would misread a record. */
+#define KHAMDORIEM_INTERFACE 2
+
 /* Bytes of a record's layout: from the loose reader, and from the strict one. */
-#define KHAMDORIEM_RECORD 208
-#define KHAMDORIEM_STRICT_RECORD 240
+#define KHAMDORIEM_RECORD 216
+#define KHAMDORIEM_STRICT_RECORD 248
 
 /* The place of an element's id. */
 typedef size_t khamdoriem_element[2];
@@ -34,6 +38,9 @@ struct khamdoriem_written {
     uint32_t number;
     size_t len;
 };
+
+/* KHAMDORIEM_INTERFACE, as the archive has it. */
+uint32_t khamdoriem_interface(void);
 
 struct khamdoriem_read khamdoriem_read_loose(const uint8_t *line, size_t line_len, uint32_t variant, uint32_t year, int32_t offset,
                                              khamdoriem_element *elements, size_t elements_len, khamdoriem_param *params, size_t params_len,

@@ -1,14 +1,15 @@
 //! Before anything is measured: the readers answer alike on every line that is read, so that the same work is compared.
 use crate::gate;
-use crate::readers::{rust, Lent};
+use crate::readers::{interface, rust, Lent};
 use crate::shapes::{Shape, GROWING, IDS, LENGTHS, SLOW};
 
-// Words of the record (docs/INTERFACE.md).
+// Words of the record (docs/INTERFACE.md). In interface 1 it has no word of digits.
 const SECONDS: usize = 7;
-const MESSAGE: usize = 22;
-const MESSAGE_LEN: usize = 23;
-const ELEMENTS: usize = 24;
-const PARAMS: usize = 25;
+const MESSAGE: usize = if cfg!(interface_1) { 22 } else { 23 };
+const MESSAGE_LEN: usize = MESSAGE + 1;
+const ELEMENTS: usize = MESSAGE + 2;
+const PARAMS: usize = MESSAGE + 3;
+const INTERFACE: u32 = if cfg!(interface_1) { 1 } else { 2 };
 
 /// Whether the line has a reading, if the Rust and ours agree on it.
 fn agreed(line: &str, variant: u32, lent: &mut Lent) -> Result<bool, String> {
@@ -76,6 +77,9 @@ fn ids(shape: &Shape, lent: &mut Lent) -> Result<(), String> {
 
 /// Checks the file and all shapes, and says on standard output what was found, as rows of the results.
 pub fn check(text: &str) -> Result<(), String> {
+    if interface() != INTERFACE {
+        return Err(format!("the archive has interface {}, and this program is written for {INTERFACE}", interface()));
+    }
     let mut lent = Lent::new();
     for name in gate::KINDS_OF_LINES {
         let (variant, lines) = gate::of_kind(name, text).expect("a kind");

@@ -46,6 +46,8 @@ impl Answer {
 // A slice crosses as a pointer and a count (include/khamdoriem.h).
 #[link(name = "exports", kind = "static")]
 extern "C" {
+    #[cfg(not(interface_1))]
+    fn khamdoriem_interface() -> u32;
     #[cfg_attr(number_alone, link_name = "khamdoriem_read_exact")]
     fn khamdoriem_read_loose(
         line: *const u8,
@@ -72,6 +74,17 @@ extern "C" {
     ) -> Answer;
 }
 
+/// The number of the archive's interface; one that is older than the call has 1.
+pub fn interface() -> u32 {
+    #[cfg(interface_1)]
+    return 1;
+    // SAFETY: it is given nothing.
+    #[cfg(not(interface_1))]
+    unsafe {
+        khamdoriem_interface()
+    }
+}
+
 #[derive(Clone, Copy, PartialEq)]
 pub enum Reader {
     Rust,
@@ -83,13 +96,13 @@ pub enum Reader {
 pub struct Lent {
     elements: Vec<[usize; 2]>,
     params: Vec<[usize; 5]>,
-    record: [u8; 240],
+    record: [u8; 248],
 }
 
 impl Lent {
     /// Room for any line of 8,192 bytes.
     pub fn new() -> Lent {
-        Lent { elements: vec![[0; 2]; 4096], params: vec![[0; 5]; 4096], record: [0; 240] }
+        Lent { elements: vec![[0; 2]; 4096], params: vec![[0; 5]; 4096], record: [0; 248] }
     }
 
     /// Word `i` of the record (docs/INTERFACE.md).

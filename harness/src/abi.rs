@@ -1,13 +1,39 @@
-//! The archive's four functions, as include/khamdoriem.h declares them.
+//! The archive's five functions, as include/khamdoriem.h declares them.
 
 pub type Element = [usize; 2];
 pub type Param = [usize; 5];
 
-/// Bytes and words of a record from the loose reader, and from the strict one.
-pub const RECORD: usize = 208;
-pub const STRICT_RECORD: usize = 240;
-pub const WORDS: usize = 26;
-pub const STRICT_WORDS: usize = 30;
+/// The number of the interface that is spoken here.
+pub const INTERFACE: u32 = 2;
+
+/// The words of a record at which its fields start: the mark of one that has a mark. A place has its start and its length in the next two words.
+pub mod word {
+    pub const PROTOCOL: usize = 0;
+    pub const VERSION: usize = 1;
+    pub const FACILITY: usize = 2;
+    pub const SEVERITY: usize = 4;
+    pub const STAMP: usize = 6;
+    pub const SECONDS: usize = 7;
+    pub const NANOS: usize = 8;
+    pub const DIGITS: usize = 9;
+    pub const OFFSET: usize = 10;
+    pub const HOST: usize = 11;
+    pub const APP: usize = 14;
+    pub const PID: usize = 17;
+    pub const MSGID: usize = 20;
+    pub const MESSAGE: usize = 23;
+    pub const MESSAGE_LEN: usize = 24;
+    pub const ELEMENTS: usize = 25;
+    pub const PARAMS: usize = 26;
+    pub const STAMP_TEXT: usize = 27;
+    pub const HAS_MESSAGE: usize = 30;
+}
+
+/// Words and bytes of a record from the loose reader, and from the strict one.
+pub const WORDS: usize = 27;
+pub const STRICT_WORDS: usize = 31;
+pub const RECORD: usize = 8 * WORDS;
+pub const STRICT_RECORD: usize = 8 * STRICT_WORDS;
 pub const LONGEST: usize = 8192;
 
 #[derive(Clone, Copy, Debug, PartialEq)]
@@ -49,6 +75,7 @@ pub struct Given<'a> {
 
 #[link(name = "exports", kind = "static")]
 extern "C" {
+    fn khamdoriem_interface() -> u32;
     fn khamdoriem_read_loose(
         line: *const u8, line_len: usize, variant: u32, year: u32, offset: i32, elements: *mut Element, elements_len: usize,
         params: *mut Param, params_len: usize, record: *mut u8, record_len: usize,
@@ -66,6 +93,11 @@ extern "C" {
         params: *const Param, params_len: usize, id: *const u8, id_len: usize, name: *const u8, name_len: usize, kind: u32,
         output: *mut u8, output_len: usize,
     ) -> Written;
+}
+
+/// The number of the archive's interface.
+pub fn interface() -> u32 {
+    unsafe { khamdoriem_interface() }
 }
 
 pub fn read(reader: Reader, line: &[u8], s: Settings, elements: &mut [Element], params: &mut [Param], record: &mut [u8]) -> Read {

@@ -1,7 +1,8 @@
-//! The classes of docs/DIFFERENCES.md, a predicate each. D1 to D5 are of lines that the Rust reads and the port does not; D6 is of
+//! The classes of docs/DIFFERENCES.md, a predicate each. D1 to D5 are of lines that the Rust reads and the port does not; D6 and D8 are of
 //! printing; D7 is of lines that both read, with another message.
 
-use crate::oracle::Answer;
+use crate::abi::word;
+use crate::oracle::{fraction, Answer};
 use syslog_loose::{Message, ProcId, Protocol};
 
 #[derive(Clone, Copy, Debug, PartialEq)]
@@ -20,9 +21,11 @@ pub enum Class {
     D6,
     /// RFC 3164: a hyphen where the structured data would stand, which the Rust takes and the port leaves to the message.
     D7,
+    /// A fraction with another count of digits than the Rust prints, which is 0, 3, 6 or 9.
+    D8,
 }
 
-pub const CLASSES: usize = 7;
+pub const CLASSES: usize = 8;
 
 /// Seconds of 0000-01-01T00:00:00 and of 9999-12-31T23:59:59.
 pub const FIRST_SECOND: i64 = -62_167_219_200;
@@ -32,7 +35,8 @@ fn blanks(text: &str) -> &str {
     text.trim_start_matches([' ', '\t'])
 }
 
-fn digits(text: &str) -> (&str, &str) {
+/// The digits at the front of a text, and what is behind them.
+pub fn digits(text: &str) -> (&str, &str) {
     let end = text.bytes().take_while(u8::is_ascii_digit).count();
     text.split_at(end)
 }
@@ -54,6 +58,12 @@ pub fn from_stamp<'a>(text: &'a str, protocol: &Protocol) -> &'a str {
         Protocol::RFC3164 => blanks(rest),
         Protocol::RFC5424(_) => blanks(digits(rest).1),
     }
+}
+
+/// The text of a timestamp of form (c), in a line that the Rust read; none where it is of form (a) or (b) or `-`.
+pub fn form_c<'a>(text: &'a str, protocol: &Protocol) -> Option<&'a str> {
+    let from = from_stamp(text, protocol);
+    from.starts_with(|c: char| c.is_ascii_digit()).then(|| &from[..from.find(' ').unwrap_or(from.len())])
 }
 
 /// The field of that number (timestamp 0, host 1, app 2, process id 3, message id 4) of an RFC 5424 line that the Rust read.
@@ -78,21 +88,18 @@ pub fn year_of_b(stamp: &str) -> Option<u64> {
 /// D1 to D5, of a line and the Rust's reading of it.
 pub fn of_reading(text: &str, message: &Message<&str>) -> Option<Class> {
     let stamp = message.timestamp.as_ref()?;
-    let from = from_stamp(text, &message.protocol);
-    if !from.starts_with(|c: char| c.is_ascii_digit()) {
-        let year = year_of_b(from)?;
+    let Some(form_c) = form_c(text, &message.protocol) else {
+        let year = year_of_b(from_stamp(text, &message.protocol))?;
         let local = stamp.timestamp() + stamp.offset().local_minus_utc() as i64;
         return match year {
             10_000.. => Some(Class::D4),
             _ if !(FIRST_SECOND..=LAST_SECOND).contains(&local) => Some(Class::D5),
             _ => None,
         };
-    }
-    let form_c = &from[..from.find(' ').unwrap_or(from.len())];
-    let fraction = form_c.split_once('.').map_or("", |(_, rest)| digits(rest).0);
+    };
     if stamp.timestamp_subsec_nanos() >= 1_000_000_000 && form_c.contains(":60") {
         Some(Class::D1)
-    } else if fraction.len() >= 10 {
+    } else if fraction(text, message).len() >= 10 {
         Some(Class::D2)
     } else if form_c.contains('\u{2212}') {
         Some(Class::D3)
@@ -106,14 +113,14 @@ pub fn of_reading(text: &str, message: &Message<&str>) -> Option<Class> {
 /// Such a hyphen stands before the blanks before the message. It may be a field's all the same: it is not exactly if with a second one put
 /// before it the Rust reads every field as it did, and the message from the second on.
 pub fn hyphen(text: &str, answer: &Answer, read: impl Fn(&str) -> Option<Answer>) -> Option<usize> {
-    if answer.words[0] != 0 || !answer.elements.is_empty() {
+    if answer.words[word::PROTOCOL] != 0 || !answer.elements.is_empty() {
         return None;
     }
-    let at = text[..answer.words[22] as usize].trim_end_matches([' ', '\t']).strip_suffix('-')?.len();
+    let at = text[..answer.words[word::MESSAGE] as usize].trim_end_matches([' ', '\t']).strip_suffix('-')?.len();
     let doubled = [&text[..at], "-", &text[at..]].concat();
     let other = read(&doubled)?;
-    let from_second = other.words[22] == at as u64 + 1 && other.words[23] == text[at..].trim_end().len() as u64;
-    (from_second && other.elements.is_empty() && other.words[..22] == answer.words[..22]).then_some(at)
+    let from_second = other.words[word::MESSAGE] == at as u64 + 1 && other.words[word::MESSAGE_LEN] == text[at..].trim_end().len() as u64;
+    (from_second && other.elements.is_empty() && other.words[..word::MESSAGE] == answer.words[..word::MESSAGE]).then_some(at)
 }
 
 /// D6, of the process id's text and what the Rust made of it.
@@ -122,4 +129,28 @@ pub fn of_pid(text: Option<&str>, pid: Option<&ProcId<&str>>) -> Option<Class> {
         (Some(text), Some(ProcId::PID(number))) if number.to_string() != text => Some(Class::D6),
         _ => None,
     }
+}
+
+/// D8, of a line that the Rust prints for a record whose fraction has so many digits: if the Rust's has another count, the line with the same number in
+/// so many digits, and every other byte as it is.
+pub fn in_digits(printed: &[u8], count: usize) -> Option<Vec<u8>> {
+    let stamp = 1 + printed.iter().position(|&b| b == b' ').expect("no space before the timestamp");
+    if printed[stamp] == b'-' {
+        return None;
+    }
+    // `YYYY-MM-DDThh:mm:ss`, and then a point or the offset's sign.
+    let point = stamp + 19;
+    let end = match printed[point] {
+        b'.' => point + 1 + printed[point + 1..].iter().take_while(|b| b.is_ascii_digit()).count(),
+        _ => point,
+    };
+    let theirs = end.saturating_sub(point + 1);
+    if theirs == count {
+        return None;
+    }
+    let value = printed[point..end].iter().skip(1).fold(0, |value, &b| 10 * value + (b - b'0') as u64);
+    let (nanos, unit) = (value * 10u64.pow(9 - theirs as u32), 10u64.pow(9 - count as u32));
+    assert_eq!(nanos % unit, 0, "so many digits do not show the Rust's number");
+    let ours = if count == 0 { String::new() } else { format!(".{:0count$}", nanos / unit) };
+    Some([&printed[..point], ours.as_bytes(), &printed[end..]].concat())
 }

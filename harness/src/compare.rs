@@ -1,7 +1,7 @@
 //! The comparison. A case is one service on one line with one set of settings, and what lookup is asked is part of its settings. A case makes
 //! several calls: with memory that fits, that is too short by one, of length 0, and longer; they are not counted as cases.
 
-use crate::abi::{self, Element, Given, Param, Read, Reader, Settings, Written, RECORD, STRICT_RECORD, STRICT_WORDS, WORDS};
+use crate::abi::{self, word, Element, Given, Param, Read, Reader, Settings, Written, RECORD, STRICT_RECORD, STRICT_WORDS, WORDS};
 use crate::classes::{self, Class, CLASSES};
 use crate::forge::Forged;
 use crate::lent::Lent;
@@ -230,7 +230,7 @@ impl Desk {
         }
         self.forged.from_answer(answer, WORDS, &mut self.random);
         self.lending(text.as_bytes(), |desk, given| {
-            desk.printing(given, &Ok(message.to_string().into_bytes()))?;
+            desk.printing(given, Ok(message.to_string().into_bytes()))?;
             desk.lookups(given, &message, answer)
         })
     }
@@ -248,9 +248,16 @@ impl Desk {
         seen
     }
 
-    fn printing(&mut self, given: Given, wanted: &Result<Vec<u8>, u32>) -> Check {
+    /// Printing of a record that the Rust prints so, or that is refused. Where the Rust's fraction has another count of digits than the record has, it
+    /// is its number in so many digits that is wanted; every other byte is the Rust's.
+    fn printing(&mut self, given: Given, theirs: Result<Vec<u8>, u32>) -> Check {
         self.counts.cases += 1;
-        self.counts.calls += written(&mut self.output, &mut self.random, "print", wanted, |output| abi::print(given, output))?;
+        let count = records::words_of(given.record)[word::DIGITS] as usize;
+        let in_digits = theirs.as_ref().ok().and_then(|printed| classes::in_digits(printed, count));
+        let differs = in_digits.is_some();
+        let wanted = in_digits.map_or(theirs, Ok);
+        self.counts.calls += written(&mut self.output, &mut self.random, "print", &wanted, |output| abi::print(given, output))?;
+        self.counts.classes[Class::D8 as usize] += differs as u64;
         Ok(())
     }
 
@@ -303,7 +310,7 @@ impl Desk {
     }
 
     fn print_and_look(&mut self, given: Given) -> Check {
-        self.printing(given, &records::printed(given))?;
+        self.printing(given, records::printed(given))?;
         let part = |start: usize, len: usize| given.line.get(start..start.saturating_add(len)).unwrap_or(b"x");
         let (mut id, mut name): (&[u8], &[u8]) = (b"id", b"a");
         if let Some(last) = given.params.len().checked_sub(1) {
@@ -347,14 +354,14 @@ fn agrees(line: &[u8], answer: &Answer) -> Check {
     let Ok(text) = std::str::from_utf8(line) else { return Ok(()) };
     let part = |at: usize| &text[answer.words[at + 1] as usize..(answer.words[at + 1] + answer.words[at + 2]) as usize];
     let Some(message) = oracle::exact(text, Settings { variant: 2, year: 2023, offset: 0 }) else {
-        let colons = part(10).ends_with(':') || [13, 16, 19].iter().any(|&at| part(at) == ":");
+        let colons = part(word::HOST).ends_with(':') || [word::APP, word::PID, word::MSGID].iter().any(|&at| part(at) == ":");
         return if colons { Ok(()) } else { fault("strict", "the Rust has no reading", "accepted", "no reading") };
     };
     let mut loose = Answer::default();
     oracle::put_message(&mut loose, text, &message);
-    let whole = &text[answer.words[22] as usize..(answer.words[22] + answer.words[23]) as usize];
+    let whole = part(word::MESSAGE - 1);
     let trimmed = whole.trim_end().trim_start_matches([' ', '\t']);
-    let same = loose.words[..22] == answer.words[..22] && loose.elements == answer.elements && loose.params == answer.params;
+    let same = loose.words[..word::MESSAGE] == answer.words[..word::MESSAGE] && loose.elements == answer.elements && loose.params == answer.params;
     if !same || trimmed != message.msg {
         return fault("strict", "the Rust's fields", answer, &loose);
     }

@@ -1,6 +1,6 @@
 //! Records and tables that no reader made: what printing and lookup are lent may be anything.
 
-use crate::abi::{Element, Given, Param, RECORD, WORDS};
+use crate::abi::{word, Element, Given, Param, RECORD, WORDS};
 use crate::classes::{FIRST_SECOND, LAST_SECOND};
 use crate::oracle::Answer;
 use crate::random::Random;
@@ -57,6 +57,9 @@ impl Forged {
             let at = random.below(WORDS);
             words[at] = odd_word(at, words[at.saturating_sub(1)], line_len, random);
         }
+        if words[word::STAMP] == 1 && random.one_in(6) {
+            words[word::NANOS..word::OFFSET].copy_from_slice(&odd_fraction(random));
+        }
         if random.one_in(3) {
             self.spoil_tables(line_len, random);
         }
@@ -76,8 +79,8 @@ impl Forged {
             let (name, value) = (place(line_len, random), place(line_len, random));
             self.params.push([number, name[0], name[1], value[0], value[1]]);
         }
-        words[24] = self.elements.len() as u64 - (random.one_in(6) && elements > 0) as u64;
-        words[25] = self.params.len() as u64 - (random.one_in(6) && params > 0) as u64;
+        words[word::ELEMENTS] = self.elements.len() as u64 - (random.one_in(6) && elements > 0) as u64;
+        words[word::PARAMS] = self.params.len() as u64 - (random.one_in(6) && params > 0) as u64;
     }
 
     fn spoil_tables(&mut self, line_len: usize, random: &mut Random) {
@@ -110,45 +113,68 @@ fn local_second(offset: i64, random: &mut Random) -> i64 {
     }
 }
 
+/// Nanoseconds, and a count of digits that shows them.
+fn fraction(random: &mut Random) -> [u64; 2] {
+    let digits = random.below(10) as u32;
+    let most = 10u64.pow(digits) - 1;
+    let value = match random.below(3) {
+        0 => random.of(&[0, 1.min(most), most, 5 * 10u64.pow(digits) / 10, most / 10 * 10]),
+        _ => random.next() % (most + 1),
+    };
+    [value * 10u64.pow(9 - digits), digits as u64]
+}
+
+/// Nanoseconds and a count of digits, one of which is at the limit of what the other allows, or just past it.
+fn odd_fraction(random: &mut Random) -> [u64; 2] {
+    let digits = random.below(11) as u64;
+    let unit = 10u64.pow(9 - digits.min(9) as u32);
+    let nanos = random.of(&[0, unit, unit / 10, unit + 1, 999_999_999, 1_000_000_000 - unit, 1_000_000_000, 500_000_000, 123_456_789 / unit * unit]);
+    [nanos, digits]
+}
+
 /// A record that suits the line, of any protocol, presence and instant.
 fn fresh_words(words: &mut [u64; WORDS], line_len: usize, random: &mut Random) {
-    let counts = [words[24], words[25]];
+    let counts = [words[word::ELEMENTS], words[word::PARAMS]];
     *words = [0; WORDS];
-    words[24..].copy_from_slice(&counts);
+    words[word::ELEMENTS..].copy_from_slice(&counts);
     if random.one_in(2) {
-        words[..2].copy_from_slice(&[1, random.of(&[0, 1, 9, 10, 99, 999, 1000, 65_536, 999_999_999, 4_294_967_295])]);
+        words[word::PROTOCOL..][..2].copy_from_slice(&[1, random.of(&[0, 1, 9, 10, 99, 999, 1000, 65_536, 999_999_999, 4_294_967_295])]);
     }
-    for (at, bound) in [(2, 24), (4, 8)] {
+    for (at, bound) in [(word::FACILITY, 24), (word::SEVERITY, 8)] {
         if random.one_in(2) {
             words[at..at + 2].copy_from_slice(&[1, random.below(bound) as u64]);
         }
     }
     if !random.one_in(4) {
         let offset = random.of(&[0, 1, -1, 60, -60, 330, -1439, 1439, 1438, -1438]);
-        let nanos = random.of(&[0, 1, 1000, 999, 1_000_000, 999_999, 120_000_000, 123_456_789, 123_456_000, 999_999_999, 500_000_000]);
-        words[6..10].copy_from_slice(&[1, local_second(offset, random) as u64, nanos, offset as u64]);
+        let [nanos, digits] = fraction(random);
+        words[word::STAMP..word::HOST].copy_from_slice(&[1, local_second(offset, random) as u64, nanos, digits, offset as u64]);
     }
-    for at in [10, 13, 16, 19] {
+    for at in [word::HOST, word::APP, word::PID, word::MSGID] {
         let [start, len] = place(line_len, random);
         words[at..at + 3].copy_from_slice(&[random.below(2) as u64, start as u64, len as u64]);
     }
     let [start, len] = place(line_len, random);
-    words[22..24].copy_from_slice(&[start as u64, len as u64]);
+    words[word::MESSAGE..word::ELEMENTS].copy_from_slice(&[start as u64, len as u64]);
 }
+
+const FACILITY_VALUE: usize = word::FACILITY + 1;
+const SEVERITY_VALUE: usize = word::SEVERITY + 1;
 
 /// A number at a limit of the word's rule.
 fn odd_word(at: usize, before: u64, line_len: usize, random: &mut Random) -> u64 {
     let line = line_len as u64;
     let signed = |value: i64| value as u64;
     match at {
-        0 | 2 | 4 | 6 | 10 | 13 | 16 | 19 => random.of(&[0, 1, 2, 255, 256, 1 << 32, u64::MAX]),
-        1 => random.of(&[0, 1, (1 << 32) - 1, 1 << 32, u64::MAX]),
-        3 => random.of(&[0, 1, 23, 24, 31, 255, 256, 1 << 32]),
-        5 => random.of(&[0, 1, 7, 8, 255, 256, 1 << 32]),
-        7 => random.of(&[0, signed(FIRST_SECOND), signed(FIRST_SECOND - 1), signed(LAST_SECOND), signed(LAST_SECOND + 1), 1 << 63, (1 << 63) - 1, u64::MAX]),
-        8 => random.of(&[0, 999_999_999, 1_000_000_000, (1 << 32) - 1, 1 << 32, u64::MAX]),
-        9 => random.of(&[0, 1439, 1440, signed(-1439), signed(-1440), signed(i32::MIN as i64), signed(i32::MIN as i64 - 1), (1 << 31) - 1, 1 << 31, (1 << 32) - 1]),
-        24 | 25 => random.of(&[0, 1, 2, 3, u64::MAX, 1 << 63]),
+        word::PROTOCOL | word::FACILITY | word::SEVERITY | word::STAMP | word::HOST | word::APP | word::PID | word::MSGID => random.of(&[0, 1, 2, 255, 256, 1 << 32, u64::MAX]),
+        word::VERSION => random.of(&[0, 1, (1 << 32) - 1, 1 << 32, u64::MAX]),
+        FACILITY_VALUE => random.of(&[0, 1, 23, 24, 31, 255, 256, 1 << 32]),
+        SEVERITY_VALUE => random.of(&[0, 1, 7, 8, 255, 256, 1 << 32]),
+        word::SECONDS => random.of(&[0, signed(FIRST_SECOND), signed(FIRST_SECOND - 1), signed(LAST_SECOND), signed(LAST_SECOND + 1), 1 << 63, (1 << 63) - 1, u64::MAX]),
+        word::NANOS => random.of(&[0, 999_999_999, 1_000_000_000, (1 << 32) - 1, 1 << 32, u64::MAX]),
+        word::DIGITS => random.of(&[0, 1, 3, 6, 8, 9, 10, 255, (1 << 32) - 1, 1 << 32, (1 << 32) + 3, u64::MAX]),
+        word::OFFSET => random.of(&[0, 1439, 1440, signed(-1439), signed(-1440), signed(i32::MIN as i64), signed(i32::MIN as i64 - 1), (1 << 31) - 1, 1 << 31, (1 << 32) - 1]),
+        word::ELEMENTS | word::PARAMS => random.of(&[0, 1, 2, 3, u64::MAX, 1 << 63]),
         _ => random.of(&[0, 1, line, line + 1, line.saturating_sub(before), line.saturating_sub(before) + 1, u64::MAX, 0u64.wrapping_sub(before), 1 << 63]),
     }
 }

@@ -101,6 +101,13 @@ fn run(wanted: &Wanted, desk: &mut Desk) -> Option<(Shown, u64)> {
 
 fn compared(wanted: &Wanted) -> ExitCode {
     let mut desk = Desk::new();
+    if abi::interface() != abi::INTERFACE {
+        println!("harness: the interface differs in its number");
+        println!("  ours     {}", abi::interface());
+        println!("  wanted   {}", abi::INTERFACE);
+        println!("harness: {}", summary(wanted, &desk.counts, 1));
+        return ExitCode::FAILURE;
+    }
     let Some((shown, salt)) = run(wanted, &mut desk) else {
         println!("harness: {}", summary(wanted, &desk.counts, 0));
         return ExitCode::SUCCESS;

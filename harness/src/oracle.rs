@@ -1,11 +1,12 @@
 //! What the Rust answers, in the words of the archive's record, and what docs/RULES.md fixes around it.
 //!
 //! Places are computed from the pointers of the Rust's texts. Two texts have none: an empty value is a static text there, and a process id that
-//! parses is a number. For those the place is found in the line, behind the text that stands before it.
+//! parses is a number. For those the place is found in the line, behind the text that stands before it. Nor does the Rust count the digits of a
+//! fraction: they are counted in the text that it reads the timestamp from.
 
-use crate::abi::{Element, Param, Settings, LONGEST, STRICT_WORDS};
+use crate::abi::{word, Element, Param, Settings, LONGEST, STRICT_WORDS};
 use crate::classes::{self, Class};
-use chrono::FixedOffset;
+use chrono::{DateTime, FixedOffset};
 use syslog_loose::{parse_message_with_year_exact_tz, parse_message_with_year_tz, Message, ProcId, Protocol, Variant};
 
 #[derive(Clone, Debug, Default, PartialEq)]
@@ -126,6 +127,21 @@ pub fn pid_text<'a>(text: &'a str, message: &Message<&'a str>) -> Option<&'a str
     }
 }
 
+/// The digits of the timestamp's fraction as they stand in the line; none in forms (a) and (b). Two things say that they are those which the Rust
+/// read: chrono makes the same timestamp of the text that they stand in, and they write its nanoseconds (ten and more of them as far as chrono goes).
+pub fn fraction<'a>(text: &'a str, message: &Message<&str>) -> &'a str {
+    let Some(stamp) = message.timestamp else { return "" };
+    let Some(form_c) = classes::form_c(text, &message.protocol) else {
+        assert_eq!(stamp.timestamp_subsec_nanos(), 0, "a fraction in form (a) or (b)");
+        return "";
+    };
+    assert_eq!(DateTime::parse_from_rfc3339(form_c), Ok(stamp), "the timestamp is not where it was looked for");
+    let digits = form_c.split_once('.').map_or("", |(_, behind)| classes::digits(behind).0);
+    let nine: String = digits.chars().chain("000000000".chars()).take(9).collect();
+    assert_eq!(nine.parse(), Ok(stamp.timestamp_subsec_nanos() % 1_000_000_000), "the fraction is not where it was looked for");
+    digits
+}
+
 fn put_structured(answer: &mut Answer, text: &str, message: &Message<&str>) {
     for (number, element) in message.structured_data.iter().enumerate() {
         answer.elements.push([start(text, element.id), element.id.len()]);
@@ -145,28 +161,29 @@ pub fn put_message(answer: &mut Answer, text: &str, message: &Message<&str>) {
     answer.clear(0);
     let w = &mut answer.words;
     if let Protocol::RFC5424(version) = message.protocol {
-        w[0] = 1;
-        w[1] = version as u64;
+        w[word::PROTOCOL] = 1;
+        w[word::VERSION] = version as u64;
     }
     if let Some(facility) = message.facility {
-        w[2..4].copy_from_slice(&[1, facility as u64]);
+        w[word::FACILITY..][..2].copy_from_slice(&[1, facility as u64]);
     }
     if let Some(severity) = message.severity {
-        w[4..6].copy_from_slice(&[1, severity as u64]);
+        w[word::SEVERITY..][..2].copy_from_slice(&[1, severity as u64]);
     }
     if let Some(stamp) = message.timestamp {
-        let minutes = stamp.offset().local_minus_utc() as i64 / 60;
-        w[6..10].copy_from_slice(&[1, stamp.timestamp() as u64, stamp.timestamp_subsec_nanos() as u64, minutes as u64]);
+        let (nanos, minutes) = (stamp.timestamp_subsec_nanos() as u64, stamp.offset().local_minus_utc() as i64 / 60);
+        let digits = fraction(text, message).len() as u64;
+        w[word::STAMP..word::HOST].copy_from_slice(&[1, stamp.timestamp() as u64, nanos, digits, minutes as u64]);
     }
-    put(&mut w[10..13], text, message.hostname);
-    put(&mut w[13..16], text, message.appname);
-    put(&mut w[16..19], text, pid_text(text, message));
-    put(&mut w[19..22], text, message.msgid);
-    w[22] = start(text, message.msg) as u64;
-    w[23] = message.msg.len() as u64;
+    put(&mut w[word::HOST..][..3], text, message.hostname);
+    put(&mut w[word::APP..][..3], text, message.appname);
+    put(&mut w[word::PID..][..3], text, pid_text(text, message));
+    put(&mut w[word::MSGID..][..3], text, message.msgid);
+    w[word::MESSAGE] = start(text, message.msg) as u64;
+    w[word::MESSAGE_LEN] = message.msg.len() as u64;
     put_structured(answer, text, message);
-    answer.words[24] = answer.elements.len() as u64;
-    answer.words[25] = answer.params.len() as u64;
+    answer.words[word::ELEMENTS] = answer.elements.len() as u64;
+    answer.words[word::PARAMS] = answer.params.len() as u64;
 }
 
 /// The whole line as the message.

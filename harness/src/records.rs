@@ -1,6 +1,6 @@
 //! Records as printing and lookup are given them: which are refused with 7, and what the Rust prints and looks up for the others.
 
-use crate::abi::{Element, Given, Param, LONGEST, RECORD, WORDS};
+use crate::abi::{word, Element, Given, Param, LONGEST, RECORD, WORDS};
 use crate::classes::{FIRST_SECOND, LAST_SECOND};
 use chrono::{DateTime, FixedOffset};
 use syslog_loose::{decompose_pri, Message, ProcId, Protocol, StructuredElement};
@@ -24,33 +24,42 @@ fn within(line: &[u8], start: u64, len: u64) -> bool {
 
 /// The form of docs/INTERFACE.md, "A record that comes in".
 fn is_record(w: &[u64]) -> bool {
-    let marks = [w[2], w[4], w[6], w[10], w[13], w[16], w[19]];
-    let small = |mark: u64, value: u64| value < if mark == 1 { 256 } else { 1 };
-    let offset = i32::try_from(w[9] as i64).is_ok();
-    (w[0] == 0 && w[1] == 0 || w[0] == 1 && w[1] < 1 << 32)
-        && marks.iter().all(|&mark| mark <= 1)
-        && small(w[2], w[3])
-        && small(w[4], w[5])
-        && if w[6] == 1 { w[8] < 1 << 32 && offset } else { w[7..10] == [0, 0, 0] }
+    let marks = [word::FACILITY, word::SEVERITY, word::STAMP, word::HOST, word::APP, word::PID, word::MSGID];
+    let small = |at: usize| w[at + 1] < if w[at] == 1 { 256 } else { 1 };
+    let stamp = match w[word::STAMP] {
+        1 => w[word::NANOS] < 1 << 32 && w[word::DIGITS] < 1 << 32 && i32::try_from(w[word::OFFSET] as i64).is_ok(),
+        _ => w[word::SECONDS..word::HOST] == [0; 4],
+    };
+    (w[word::PROTOCOL] == 0 && w[word::VERSION] == 0 || w[word::PROTOCOL] == 1 && w[word::VERSION] < 1 << 32)
+        && marks.iter().all(|&at| w[at] <= 1)
+        && small(word::FACILITY)
+        && small(word::SEVERITY)
+        && stamp
+}
+
+/// Do so many digits show the nanoseconds? The nanoseconds are written out in nine, and those behind the count are zeros.
+fn shows(digits: u64, nanos: u64) -> bool {
+    digits <= 9 && format!("{nanos:09}").bytes().skip(digits as usize).all(|b| b == b'0')
 }
 
 /// Refusal 7's conditions on a record's own numbers and on the places in it (RULES Suits).
 fn suits_line(line: &[u8], w: &[u64]) -> bool {
-    let local = w[7] as i64 as i128 + w[9] as i64 as i128 * 60;
-    let stamp = w[6] == 0
-        || w[8] <= 999_999_999
-            && (-1439..=1439).contains(&(w[9] as i64))
+    let local = w[word::SECONDS] as i64 as i128 + w[word::OFFSET] as i64 as i128 * 60;
+    let stamp = w[word::STAMP] == 0
+        || w[word::NANOS] <= 999_999_999
+            && shows(w[word::DIGITS], w[word::NANOS])
+            && (-1439..=1439).contains(&(w[word::OFFSET] as i64))
             && (FIRST_SECOND as i128..=LAST_SECOND as i128).contains(&local);
-    let places = [(w[11], w[12]), (w[14], w[15]), (w[17], w[18]), (w[20], w[21]), (w[22], w[23])];
-    w[3] <= 23 && w[5] <= 7 && stamp && places.iter().all(|&(start, len)| within(line, start, len))
+    let starts = [word::HOST + 1, word::APP + 1, word::PID + 1, word::MSGID + 1, word::MESSAGE];
+    w[word::FACILITY + 1] <= 23 && w[word::SEVERITY + 1] <= 7 && stamp && starts.iter().all(|&at| within(line, w[at], w[at + 1]))
 }
 
 /// Refusal 7's conditions on counts and tables.
 fn tables_suit(g: Given, w: &[u64]) -> bool {
-    if w[24] > g.elements.len() as u64 || w[25] > g.params.len() as u64 {
+    if w[word::ELEMENTS] > g.elements.len() as u64 || w[word::PARAMS] > g.params.len() as u64 {
         return false;
     }
-    let (elements, params) = (&g.elements[..w[24] as usize], &g.params[..w[25] as usize]);
+    let (elements, params) = (&g.elements[..w[word::ELEMENTS] as usize], &g.params[..w[word::PARAMS] as usize]);
     let mut last = 0;
     let mut rise = |number: usize| {
         let rises = number >= last;
@@ -94,8 +103,9 @@ impl Wide {
         &self.text[self.starts[start as usize]..self.starts[(start + len) as usize]]
     }
 
-    fn optional(&self, word: &[u64]) -> Option<&str> {
-        (word[0] == 1).then(|| self.part(word[1], word[2]))
+    /// Of the words from a mark on.
+    fn optional(&self, words: &[u64]) -> Option<&str> {
+        (words[0] == 1).then(|| self.part(words[1], words[2]))
     }
 }
 
@@ -105,31 +115,31 @@ fn narrow(text: &str) -> Vec<u8> {
 
 /// The Rust's message of a record that suits its line.
 fn message<'a>(wide: &'a Wide, w: &[u64], elements: &[Element], params: &[Param]) -> Message<&'a str> {
-    let (facility, severity) = decompose_pri((w[3] * 8 + w[5]) as u8);
-    let zone = FixedOffset::east_opt(w[9] as i64 as i32 * 60).expect("an offset in range");
-    let stamp = DateTime::from_timestamp(w[7] as i64, w[8] as u32).expect("an instant in range");
-    let mut structured: Vec<_> = elements[..w[24] as usize]
+    let (facility, severity) = decompose_pri((w[word::FACILITY + 1] * 8 + w[word::SEVERITY + 1]) as u8);
+    let zone = FixedOffset::east_opt(w[word::OFFSET] as i64 as i32 * 60).expect("an offset in range");
+    let stamp = DateTime::from_timestamp(w[word::SECONDS] as i64, w[word::NANOS] as u32).expect("an instant in range");
+    let mut structured: Vec<_> = elements[..w[word::ELEMENTS] as usize]
         .iter()
         .map(|e| StructuredElement { id: wide.part(e[0] as u64, e[1] as u64), params: vec![] })
         .collect();
-    for p in &params[..w[25] as usize] {
+    for p in &params[..w[word::PARAMS] as usize] {
         structured[p[0]].params.push((wide.part(p[1] as u64, p[2] as u64), wide.part(p[3] as u64, p[4] as u64)));
     }
     Message {
-        protocol: if w[0] == 0 { Protocol::RFC3164 } else { Protocol::RFC5424(w[1] as u32) },
-        facility: facility.filter(|_| w[2] == 1),
-        severity: severity.filter(|_| w[4] == 1),
-        timestamp: (w[6] == 1).then(|| stamp.with_timezone(&zone)),
-        hostname: wide.optional(&w[10..13]),
-        appname: wide.optional(&w[13..16]),
-        procid: wide.optional(&w[16..19]).map(ProcId::Name),
-        msgid: wide.optional(&w[19..22]),
+        protocol: if w[word::PROTOCOL] == 0 { Protocol::RFC3164 } else { Protocol::RFC5424(w[word::VERSION] as u32) },
+        facility: facility.filter(|_| w[word::FACILITY] == 1),
+        severity: severity.filter(|_| w[word::SEVERITY] == 1),
+        timestamp: (w[word::STAMP] == 1).then(|| stamp.with_timezone(&zone)),
+        hostname: wide.optional(&w[word::HOST..]),
+        appname: wide.optional(&w[word::APP..]),
+        procid: wide.optional(&w[word::PID..]).map(ProcId::Name),
+        msgid: wide.optional(&w[word::MSGID..]),
         structured_data: structured,
-        msg: wide.part(w[22], w[23]),
+        msg: wide.part(w[word::MESSAGE], w[word::MESSAGE_LEN]),
     }
 }
 
-/// What printing answers: the Rust's bytes, or 1 or 7.
+/// What the Rust prints of a record, or printing's refusal, 1 or 7.
 pub fn printed(g: Given) -> Result<Vec<u8>, u32> {
     if let Some(number) = refusal(g, None) {
         return Err(number);

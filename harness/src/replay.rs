@@ -1,15 +1,16 @@
 //! A list of cases with their answers, for a program that has no Rust beside it. Every answer is the Rust's or follows from docs/RULES.md; none
-//! is the archive's. Lines of the classes D1 to D6 are left out; a line of D7 has the message with its hyphen.
+//! is the archive's. Lines of the classes D1 to D6 are left out; a line of D7 has the message with its hyphen, and one of D8 is printed in its own
+//! digits.
 //!
 //! One case a line, fields separated by one space, numbers decimal (signed ones as two's complement in 64 bits), bytes as hex, `-` for none:
 //!
-//!     R variant year offset elements_len params_len LINE number [whole, 26 words, 2 numbers an element, 5 numbers a parameter]
+//!     R variant year offset elements_len params_len LINE number [whole, 27 words, 2 numbers an element, 5 numbers a parameter]
 //!     P LINE variant year offset left room number OUT          loose reading, then printing over the line's first `left` bytes into `room` bytes
 //!     L LINE variant year offset ID NAME kind room number OUT  loose reading, then lookup
 //!
 //! `whole` is 1 where the whole line is the message, and 0 where there is a reading.
 
-use crate::abi::{Settings, RECORD, WORDS};
+use crate::abi::{word, Settings, RECORD, WORDS};
 use crate::classes;
 use crate::lines::Lines;
 use crate::oracle::{self, Answer};
@@ -89,24 +90,24 @@ fn skeleton(line: &[u8]) -> u8 {
     (sum ^ (sum >> 29)) as u8
 }
 
-/// The timestamp's form: none, `-`, (a), (b), or (c) with its digits and its zone.
+/// The timestamp's form: none, `-`, (a), (b), or (c) with its digits, its zone and whether the Rust prints another count of digits.
 fn form(text: &str, message: &Message<&str>) -> [u8; 2] {
     let from = classes::from_stamp(text, &message.protocol);
     if message.timestamp.is_none() {
         return [0, from.starts_with('-') as u8];
     }
-    if !from.starts_with(|c: char| c.is_ascii_digit()) {
+    let Some(stamp) = classes::form_c(text, &message.protocol) else {
         return [1 + classes::year_of_b(from).is_some() as u8, 0];
-    }
-    let stamp = &from[..from.find(' ').unwrap_or(from.len())];
-    let fraction = stamp.split_once('.').map_or(0, |(_, rest)| rest.bytes().take_while(u8::is_ascii_digit).count());
+    };
+    let fraction = oracle::fraction(text, message).len();
     let zone = match stamp.as_bytes()[19 + fraction + (fraction > 0) as usize] {
         b'Z' => 0,
         b'z' => 1,
         b'+' => 2,
         _ => 3,
     };
-    [3 + fraction as u8, zone]
+    let differs = classes::in_digits(message.to_string().as_bytes(), fraction).is_some();
+    [3 + fraction as u8, zone + 4 * differs as u8]
 }
 
 /// Which kinds of escape stand in the values.
@@ -136,7 +137,7 @@ fn skips(text: &str, message: &Message<&str>, answer: &Answer) -> u8 {
         let last = answer.params.iter().rfind(|p| p[0] == number);
         at = last.map_or_else(|| blanks(element[0] + element[1]) + 1, |p| p[3] + p[4] + 2);
     }
-    (blanks(at) as u64 != answer.words[22]) as u8
+    (blanks(at) as u64 != answer.words[word::MESSAGE]) as u8
 }
 
 impl List {
@@ -184,10 +185,12 @@ impl List {
             return key;
         }
         let w = &answer.words;
-        let present = [2, 4, 6, 10, 13, 16, 19].iter().fold(0, |mask, &at| mask << 1 | w[at] as u8);
+        let marks = [word::FACILITY, word::SEVERITY, word::STAMP, word::HOST, word::APP, word::PID, word::MSGID];
+        let present = marks.iter().fold(0, |mask, &at| mask << 1 | w[at] as u8);
         let [form, zone] = form(text, message);
-        key[3..9].copy_from_slice(&[1 + w[0] as u8, skeleton(line) % 16, form, zone, escapes(message), skips(text, message, answer)]);
-        key[9..13].copy_from_slice(&[(w[23] == 0) as u8, present, w[24].min(3) as u8, w[25].min(4) as u8]);
+        key[3..9].copy_from_slice(&[1 + w[word::PROTOCOL] as u8, skeleton(line) % 16, form, zone, escapes(message), skips(text, message, answer)]);
+        key[9..11].copy_from_slice(&[(w[word::MESSAGE_LEN] == 0) as u8, present]);
+        key[11..13].copy_from_slice(&[w[word::ELEMENTS].min(3) as u8, w[word::PARAMS].min(4) as u8]);
         key
     }
 
@@ -215,6 +218,7 @@ impl List {
     fn written(&mut self, text: &str, s: Settings, message: &Message<&str>, answer: &Answer) {
         let line = text.as_bytes();
         let printed = message.to_string().into_bytes();
+        let printed = classes::in_digits(&printed, answer.words[word::DIGITS] as usize).unwrap_or(printed);
         for room in [printed.len() + self.random.below(2), printed.len() - 1] {
             let number = if room < printed.len() { 8 } else { 0 };
             let key = self.key(b'P', number, line, Some((text, message, answer)));
@@ -222,9 +226,9 @@ impl List {
             self.offer(key, line, || format!("P {} {} {} {room} {number} {out}", hex(line), shown(s), line.len()));
         }
         // A line that ends before its message does: the record does not suit it.
-        if answer.words[23] > 0 {
+        if answer.words[word::MESSAGE_LEN] > 0 {
             let key = self.key(b'P', 7, line, Some((text, message, answer)));
-            let left = answer.words[22] + answer.words[23] - 1;
+            let left = answer.words[word::MESSAGE] + answer.words[word::MESSAGE_LEN] - 1;
             self.offer(key, line, || format!("P {} {} {left} {} 7 -", hex(line), shown(s), printed.len()));
         }
         for element in &message.structured_data {

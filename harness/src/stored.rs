@@ -1,10 +1,11 @@
-//! The stored output of the program `cases` against the Rust: each loose case in the same words, from the Rust's message
-//! (in class D7 of docs/DIFFERENCES.md with its hyphen).
+//! The stored output of the program `cases` against the Rust: each loose case in the same words, from the Rust's message. By the classes of
+//! docs/DIFFERENCES.md: in D1 to D5 the whole line, in D7 the message with its hyphen, in D8 the fraction in the line's digits.
 //!
 //! A case is a line of the program's input: `R`, variant, year, offset, and the line that is read. A strict case (`S`) and a line that is refused
 //! before it is read have no answer of the Rust.
 
-use crate::abi::Settings;
+use crate::abi::{word, Settings};
+use crate::classes;
 use crate::oracle::{self, Answer};
 use std::io::Write;
 use std::process::ExitCode;
@@ -34,12 +35,12 @@ fn tell(out: &mut Vec<u8>, label: &str, value: &[u8]) {
 fn tell_texts(out: &mut Vec<u8>, line: &[u8], answer: &Answer) {
     let part = |start: usize, len: usize| &line[start..start + len];
     let w = &answer.words;
-    for (label, at) in [("  host ", 10), ("  app ", 13), ("  process id ", 16), ("  message id ", 19)] {
+    for (label, at) in [("  host ", word::HOST), ("  app ", word::APP), ("  process id ", word::PID), ("  message id ", word::MSGID)] {
         if w[at] == 1 {
             tell(out, label, part(w[at + 1] as usize, w[at + 2] as usize));
         }
     }
-    tell(out, "  message ", part(w[22] as usize, w[23] as usize));
+    tell(out, "  message ", part(w[word::MESSAGE] as usize, w[word::MESSAGE_LEN] as usize));
     for &[start, len] in &answer.elements {
         tell(out, "  element ", part(start, len));
     }
@@ -56,32 +57,38 @@ fn told(line: &str, message: &Message<&str>) -> Vec<u8> {
     oracle::put_message(&mut answer, line, message);
     let w = &answer.words;
     let mut out = Vec::new();
-    if w[0] == 0 {
+    if w[word::PROTOCOL] == 0 {
         tell(&mut out, "  RFC 3164", b"");
     } else {
-        tell(&mut out, "  RFC 5424, version ", w[1].to_string().as_bytes());
+        tell(&mut out, "  RFC 5424, version ", w[word::VERSION].to_string().as_bytes());
     }
-    for (label, at) in [("  facility ", 2), ("  severity ", 4)] {
+    for (label, at) in [("  facility ", word::FACILITY), ("  severity ", word::SEVERITY)] {
         if w[at] == 1 {
             tell(&mut out, label, w[at + 1].to_string().as_bytes());
         }
     }
-    if w[6] == 1 {
-        tell(&mut out, "  seconds ", (w[7] as i64).to_string().as_bytes());
-        tell(&mut out, "  nanoseconds ", w[8].to_string().as_bytes());
-        tell(&mut out, "  offset ", (w[9] as i64).to_string().as_bytes());
+    if w[word::STAMP] == 1 {
+        tell(&mut out, "  seconds ", (w[word::SECONDS] as i64).to_string().as_bytes());
+        tell(&mut out, "  nanoseconds ", w[word::NANOS].to_string().as_bytes());
+        tell(&mut out, "  digits ", w[word::DIGITS].to_string().as_bytes());
+        tell(&mut out, "  offset ", (w[word::OFFSET] as i64).to_string().as_bytes());
     }
     tell_texts(&mut out, line.as_bytes(), &answer);
-    tell(&mut out, "  prints ", message.to_string().as_bytes());
+    let printed = message.to_string().into_bytes();
+    tell(&mut out, "  prints ", &classes::in_digits(&printed, w[word::DIGITS] as usize).unwrap_or(printed));
     out
 }
 
 /// What the Rust says to a case, where it has an answer.
 fn answer(case: &Case<'_>) -> Option<Vec<u8>> {
     let text = oracle::admit(case.line, case.settings).ok()?;
-    Some(match oracle::exact(text, case.settings) {
-        Some(message) => told(text, &oracle::with_hyphen(text, case.settings, message).0),
-        None => [b"  whole\n".to_vec(), told(text, &oracle::fallback(text, case.settings))].concat(),
+    let whole = |message| [b"  whole\n".to_vec(), told(text, &message)].concat();
+    let message = oracle::exact(text, case.settings);
+    let class = oracle::class_of(text, message.as_ref());
+    Some(match message {
+        Some(message) if class.is_none() => told(text, &oracle::with_hyphen(text, case.settings, message).0),
+        Some(_) => whole(oracle::whole(text)),
+        None => whole(oracle::fallback(text, case.settings)),
     })
 }
 

@@ -1,6 +1,6 @@
 //! RFC 5424 section 6, read by hand: a second opinion on the strict reader. It shares nothing with the port.
 
-use crate::abi::LONGEST;
+use crate::abi::{word, LONGEST};
 use crate::oracle::Answer;
 
 /// A place in the line that moves forward; every step answers None where the grammar derives nothing.
@@ -74,8 +74,8 @@ fn days(year: u64, month: u64, day: u64) -> i64 {
     before(year as i64) - before(1970) + (months + day - 1) as i64
 }
 
-/// Seconds, nanoseconds and offset of a timestamp that is not `-`.
-fn stamp(w: &mut Walk) -> Option<(i64, u64, i64)> {
+/// Seconds, nanoseconds, digits of the fraction and offset of a timestamp that is not `-`.
+fn stamp(w: &mut Walk) -> Option<(i64, u64, usize, i64)> {
     let year = w.digits(4, 0, 9999)?;
     w.byte(b'-')?;
     let month = w.digits(2, 1, 12)?;
@@ -87,14 +87,15 @@ fn stamp(w: &mut Walk) -> Option<(i64, u64, i64)> {
     let minute = w.digits(2, 0, 59)?;
     w.byte(b':')?;
     let second = w.digits(2, 0, 59)?;
-    let mut nanos = 0;
+    let (mut nanos, mut digits) = (0, 0);
     if w.byte(b'.').is_some() {
         let (at, len) = w.run(6, |b| b.is_ascii_digit())?;
         nanos = decimal(&w.line[at..at + len])? * 10u64.pow(9 - len as u32);
+        digits = len;
     }
     let offset = zone(w)?;
     let clock = (hour * 3600 + minute * 60 + second) as i64;
-    Some((days(year, month, day) * 86_400 + clock - offset * 60, nanos, offset))
+    Some((days(year, month, day) * 86_400 + clock - offset * 60, nanos, digits, offset))
 }
 
 fn zone(w: &mut Walk) -> Option<i64> {
@@ -132,14 +133,14 @@ fn header(w: &mut Walk, words: &mut [u64]) -> Option<()> {
     w.byte(b' ')?;
     let from = w.at;
     if w.byte(b'-').is_none() {
-        let (seconds, nanos, offset) = stamp(w)?;
-        words[6..10].copy_from_slice(&[1, seconds as u64, nanos, offset as u64]);
-        words[26..29].copy_from_slice(&[1, from as u64, (w.at - from) as u64]);
+        let (seconds, nanos, digits, offset) = stamp(w)?;
+        words[word::STAMP..word::HOST].copy_from_slice(&[1, seconds as u64, nanos, digits as u64, offset as u64]);
+        words[word::STAMP_TEXT..][..3].copy_from_slice(&[1, from as u64, (w.at - from) as u64]);
     }
-    field(w, 255, &mut words[10..13])?;
-    field(w, 48, &mut words[13..16])?;
-    field(w, 128, &mut words[16..19])?;
-    field(w, 32, &mut words[19..22])
+    field(w, 255, &mut words[word::HOST..][..3])?;
+    field(w, 48, &mut words[word::APP..][..3])?;
+    field(w, 128, &mut words[word::PID..][..3])?;
+    field(w, 32, &mut words[word::MSGID..][..3])
 }
 
 /// A value up to its quote: pairs of a backslash are taken from the left.
@@ -198,8 +199,8 @@ fn parts(w: &mut Walk, answer: &mut Answer) -> Option<()> {
         if message.starts_with(b"\xEF\xBB\xBF") {
             std::str::from_utf8(message).ok()?;
         }
-        answer.words[22..24].copy_from_slice(&[w.at as u64, message.len() as u64]);
-        answer.words[29] = 1;
+        answer.words[word::MESSAGE..][..2].copy_from_slice(&[w.at as u64, message.len() as u64]);
+        answer.words[word::HAS_MESSAGE] = 1;
     }
     Some(())
 }
@@ -212,6 +213,6 @@ pub fn read(line: &[u8], answer: &mut Answer) {
     if parts(&mut Walk { line, at: 0 }, answer).is_none() {
         return answer.clear(4);
     }
-    answer.words[24] = answer.elements.len() as u64;
-    answer.words[25] = answer.params.len() as u64;
+    answer.words[word::ELEMENTS] = answer.elements.len() as u64;
+    answer.words[word::PARAMS] = answer.params.len() as u64;
 }

@@ -122,7 +122,8 @@ impl<'line, 'tables, Kind> Reading<'line, 'tables, Kind> {
 
     /// Writes the record as text at the front of `output` and answers the part that was written. The bytes past it are kept.
     ///
-    /// An absent facility counts as 5 and an absent severity as 7; the timestamp has its offset as sign, hours and minutes.
+    /// An absent facility counts as 5 and an absent severity as 7; the timestamp has the digits of its fraction as they stand in the
+    /// line, and its offset as sign, hours and minutes.
     ///
     /// # Errors
     ///

@@ -3,9 +3,9 @@
 use crate::settings::Offset;
 
 /// Bytes of a strict record, which is the longest.
-const BYTES: usize = 240;
+const BYTES: usize = 248;
 /// Bytes of a loose record. Those of a strict one begin with them.
-const LOOSE_BYTES: usize = 208;
+const LOOSE_BYTES: usize = 216;
 
 const PROTOCOL: usize = 0;
 const VERSION: usize = 8;
@@ -14,16 +14,17 @@ const SEVERITY: usize = 32;
 const TIMESTAMP: usize = 48;
 const SECONDS: usize = 56;
 const NANOSECONDS: usize = 64;
-const OFFSET: usize = 72;
-pub(crate) const HOST: usize = 80;
-pub(crate) const APP_NAME: usize = 104;
-pub(crate) const PROCESS_ID: usize = 128;
-pub(crate) const MESSAGE_ID: usize = 152;
-const MESSAGE: usize = 176;
-const ELEMENTS: usize = 192;
-const PARAMS: usize = 200;
-pub(crate) const TIMESTAMP_TEXT: usize = 208;
-const HAS_MESSAGE: usize = 232;
+const DIGITS: usize = 72;
+const OFFSET: usize = 80;
+pub(crate) const HOST: usize = 88;
+pub(crate) const APP_NAME: usize = 112;
+pub(crate) const PROCESS_ID: usize = 136;
+pub(crate) const MESSAGE_ID: usize = 160;
+const MESSAGE: usize = 184;
+const ELEMENTS: usize = 200;
+const PARAMS: usize = 208;
+pub(crate) const TIMESTAMP_TEXT: usize = 216;
+const HAS_MESSAGE: usize = 240;
 
 /// The protocol of a line.
 #[derive(Clone, Copy, Debug, PartialEq, Eq, Hash)]
@@ -37,7 +38,19 @@ pub enum Protocol {
     },
 }
 
-/// The timestamp of a line: an instant, and the offset at which it is shown.
+/// The timestamp of a line: an instant, how finely the line tells it, and the offset at which it is shown.
+///
+/// `10:01:02.5` and `10:01:02.500` are one instant with other digits, and as timestamps they are not equal: compare `seconds` and
+/// `nanoseconds` where the instant alone counts.
+///
+/// ```
+/// # let mut tables = khamdoriem::Tables::new(0, 0);
+/// let line = b"<13>1 2026-01-05T10:01:02.500Z gate7 reader 42 TAP - ok";
+/// let stamp = tables.read_strict(line)?.timestamp().unwrap();
+/// assert_eq!((stamp.seconds, stamp.nanoseconds), (1_767_607_262, 500_000_000));
+/// assert_eq!((stamp.digits(), stamp.resolution_nanoseconds()), (3, 1_000_000)); // a clock of milliseconds
+/// # Ok::<(), khamdoriem::Refusal>(())
+/// ```
 #[derive(Clone, Copy, Debug, PartialEq, Eq, Hash)]
 pub struct Timestamp {
     /// Seconds since 1970-01-01T00:00:00Z, negative before it.
@@ -46,6 +59,22 @@ pub struct Timestamp {
     pub nanoseconds: u32,
     /// The offset of the local time from UTC.
     pub offset: Offset,
+    /// 0 to 9: not public, so that none else can be put there.
+    digits: u8,
+}
+
+impl Timestamp {
+    /// How many digits the line's fraction of a second has, zeros at its end too: 0 to 9. `10:01:02.000` has three, `10:01:02` has
+    /// none, and RFC 3164's own forms of the clock never have one. Printing writes exactly so many.
+    pub const fn digits(&self) -> u8 {
+        self.digits
+    }
+
+    /// How many nanoseconds a one in the last digit is: the step of the clock as the line tells it, 1,000,000,000 where it has whole
+    /// seconds and 1 where it has nine digits. `nanoseconds` is a multiple of it.
+    pub const fn resolution_nanoseconds(&self) -> u32 {
+        10u32.pow(9 - self.digits as u32)
+    }
 }
 
 /// The memory of a record: what the last reader that was not refused left there.
@@ -117,6 +146,7 @@ impl Record {
             seconds: self.word(SECONDS) as i64,
             nanoseconds: self.word(NANOSECONDS) as u32,
             offset: Offset::from_minutes(self.word(OFFSET) as i32).expect("a reader leaves an offset in range"),
+            digits: self.word(DIGITS) as u8,
         })
     }
 

@@ -1,10 +1,14 @@
-//! The four functions of the archive, each behind a safe function over slices and numbers.
+//! The five functions of the archive, each behind a safe function over slices and numbers.
 //!
 //! This is the only module with `unsafe`. What makes each call safe is the same: the archive's functions are total, whatever
 //! the bytes, numbers and lengths. They read and write within the counts that they are given and keep nothing after the call.
 //! A Rust slice gives what they ask of a pointer: it is never null (an empty slice's is dangling), it is aligned for its type,
 //! and what is behind a `&mut` overlaps nothing else of the call. Whatever numbers they store are values of `usize` and `u8`.
 //! The declarations follow `include/khamdoriem.h`: a slice is a pointer and then a count.
+
+/// The number of the interface that this crate is written for, `KHAMDORIEM_INTERFACE` of the header: where each field of a record
+/// stands, and what each answer means.
+const INTERFACE: u32 = 2;
 
 /// The place of an element's id: start and length.
 pub(crate) type ElementEntry = [usize; 2];
@@ -31,6 +35,8 @@ pub(crate) struct Written {
 }
 
 extern "C" {
+    fn khamdoriem_interface() -> u32;
+
     fn khamdoriem_read_loose(
         line: *const u8,
         line_len: usize,
@@ -103,6 +109,19 @@ pub(crate) struct Lent<'a> {
     pub(crate) record: &'a [u8],
     pub(crate) elements: &'a [ElementEntry],
     pub(crate) params: &'a [ParamEntry],
+}
+
+/// Panics unless the archive has the interface that this crate is written for: a record of another would be misread.
+pub(crate) fn check_interface() {
+    // SAFETY: the module's: the function is given nothing and answers a number.
+    same_interface(unsafe { khamdoriem_interface() });
+}
+
+fn same_interface(archive: u32) {
+    assert!(
+        archive == INTERFACE,
+        "the archive that is linked has interface {archive}, and this crate is written for interface {INTERFACE}: take both from one source"
+    );
 }
 
 /// Loose reading.

@@ -44,7 +44,13 @@ pub struct Tables {
 
 impl Tables {
     /// Tables for readings of at most so many elements and so many parameters. Either may be 0.
+    ///
+    /// # Panics
+    ///
+    /// Where the archive that is linked has another interface than this crate was written for (docs/INTERFACE.md), so that what it
+    /// leaves would be misread. Nothing reaches the archive without tables, so no call goes to such a one.
     pub fn new(elements: usize, params: usize) -> Tables {
+        sys::check_interface();
         Tables {
             elements: vec![[0; 2]; elements].into_boxed_slice(),
             params: vec![[0; 5]; params].into_boxed_slice(),

@@ -1,8 +1,6 @@
 //! The loose reader: the rules line by line, the fields of both protocols, absent and empty.
 
-use khamdoriem::{
-    LooseAnswer, Offset, Protocol, Reading, Refusal, Settings, Tables, Timestamp, Variant, WholeLine, Year,
-};
+use khamdoriem::{LooseAnswer, Offset, Protocol, Reading, Refusal, Settings, Tables, Variant, WholeLine, Year};
 
 fn settings(variant: Variant, year: u32, minutes: i32) -> Settings {
     Settings::new(variant, Year::new(year).unwrap(), Offset::from_minutes(minutes).unwrap())
@@ -25,6 +23,11 @@ fn text(field: Option<&[u8]>) -> Option<String> {
 
 fn some(text: &str) -> Option<String> {
     Some(text.to_string())
+}
+
+/// Seconds, nanoseconds, digits and minutes of the offset.
+fn stamp(line: &str) -> Result<Option<(i64, u32, u8, i32)>, Refusal> {
+    at_60(line, |r| r.timestamp().map(|t| (t.seconds, t.nanoseconds, t.digits(), t.offset.minutes())))
 }
 
 fn message(line: &str) -> Result<String, Refusal> {
@@ -88,19 +91,18 @@ fn a_timestamp_with_a_year_is_utc_shown_at_the_offset() {
 #[test]
 fn a_timestamp_without_a_year_is_local() {
     let line = "<13>Feb  5 10:01:02 gate7 reader[42]: tap ok";
-    let expected = Timestamp { seconds: 1_675_587_662, nanoseconds: 0, offset: Offset::from_minutes(60).unwrap() };
-    assert_eq!(at_60(line, |r| r.timestamp()), Ok(Some(expected)));
+    assert_eq!(stamp(line), Ok(Some((1_675_587_662, 0, 0, 60))));
     assert_eq!(printed(line), Ok("<13> 2023-02-05T10:01:02+01:00 gate7 reader[42]: tap ok".to_string()));
 }
 
 #[test]
 fn days_by_month_and_year() {
-    let stamp = |line: &str| at_60(line, |r| r.timestamp().unwrap().seconds);
-    assert_eq!(stamp("<13>1 2023-02-29T00:00:00Z h a p m - x"), Err(Refusal::NoReading));
-    assert_eq!(stamp("<13>1 2024-02-29T00:00:00Z h a p m - x"), Ok(1_709_164_800));
+    let seconds = |line: &str| at_60(line, |r| r.timestamp().unwrap().seconds);
+    assert_eq!(seconds("<13>1 2023-02-29T00:00:00Z h a p m - x"), Err(Refusal::NoReading));
+    assert_eq!(seconds("<13>1 2024-02-29T00:00:00Z h a p m - x"), Ok(1_709_164_800));
     // The year of RFC 3164 is the setting's.
     let line = "<13>Feb 29 00:00:00 h t: m";
-    assert_eq!(stamp(line), Err(Refusal::NoReading));
+    assert_eq!(seconds(line), Err(Refusal::NoReading));
     let leap = settings(Variant::Either, 2024, 0);
     assert_eq!(read(line, leap, |r| r.timestamp().unwrap().seconds), Ok(1_709_164_800));
 }
@@ -143,8 +145,7 @@ fn fields_of_rfc5424() {
         assert_eq!(r.line(), line.as_bytes());
         assert_eq!(r.protocol(), Protocol::Rfc5424 { version: 1 });
         assert_eq!((r.facility(), r.severity()), (Some(1), Some(5)));
-        let stamp = Timestamp { seconds: 1_767_607_262, nanoseconds: 3_000_000, offset: Offset::UTC };
-        assert_eq!(r.timestamp(), Some(stamp));
+        assert_eq!(stamp(line), Ok(Some((1_767_607_262, 3_000_000, 3, 0))));
         assert_eq!(text(r.host()), some("gate7"));
         assert_eq!(text(r.app_name()), some("reader"));
         assert_eq!(text(r.process_id()), some("42"));
@@ -185,15 +186,60 @@ fn an_empty_value_lies_between_its_quotes() {
 
 #[test]
 fn timestamps_before_1970_have_negative_seconds() {
-    let stamp = |line: &str| at_60(line, |r| r.timestamp());
-    let utc = |seconds, nanoseconds| Some(Timestamp { seconds, nanoseconds, offset: Offset::UTC });
-    assert_eq!(stamp("<13>1 1969-12-31T23:59:59Z h a p m - x"), Ok(utc(-1, 0)));
-    assert_eq!(stamp("<13>1 1969-12-31T23:59:59.25Z h a p m - x"), Ok(utc(-1, 250_000_000)));
-    assert_eq!(stamp("<13>1 0000-01-01T00:00:00Z h a p m - x"), Ok(utc(-62_167_219_200, 0)));
-    let west = Timestamp { seconds: 86_340, nanoseconds: 999_999_999, offset: Offset::MIN };
-    assert_eq!(stamp("<13>1 1970-01-01T00:00:00.999999999-23:59 h a p m - x"), Ok(Some(west)));
-    let east = Timestamp { seconds: -86_340, nanoseconds: 0, offset: Offset::MAX };
-    assert_eq!(stamp("<13>1 1970-01-01T00:00:00+23:59 h a p m - x"), Ok(Some(east)));
+    assert_eq!(stamp("<13>1 1969-12-31T23:59:59Z h a p m - x"), Ok(Some((-1, 0, 0, 0))));
+    assert_eq!(stamp("<13>1 1969-12-31T23:59:59.25Z h a p m - x"), Ok(Some((-1, 250_000_000, 2, 0))));
+    assert_eq!(stamp("<13>1 0000-01-01T00:00:00Z h a p m - x"), Ok(Some((-62_167_219_200, 0, 0, 0))));
+    let west = "<13>1 1970-01-01T00:00:00.999999999-23:59 h a p m - x";
+    assert_eq!(stamp(west), Ok(Some((86_340, 999_999_999, 9, -1439))));
+    assert_eq!(stamp("<13>1 1970-01-01T00:00:00+23:59 h a p m - x"), Ok(Some((-86_340, 0, 0, 1439))));
+}
+
+#[test]
+fn a_fraction_keeps_its_digits() {
+    for (fraction, nanoseconds, digits, resolution) in [
+        ("", 0, 0, 1_000_000_000),
+        (".0", 0, 1, 100_000_000),
+        (".5", 500_000_000, 1, 100_000_000),
+        (".000", 0, 3, 1_000_000),
+        (".500", 500_000_000, 3, 1_000_000),
+        (".500000", 500_000_000, 6, 1_000),
+        (".1234567", 123_456_700, 7, 100),
+        (".000000000", 0, 9, 1),
+        (".123456789", 123_456_789, 9, 1),
+    ] {
+        // Form (c) in both protocols, and what they print.
+        for (before, after) in [("<13>1 ", " gate7 reader 42 TAP - ok"), ("<13>", " gate7 reader[42]: ok")] {
+            let line = format!("{before}2026-01-05T10:01:02{fraction}Z{after}");
+            assert_eq!(stamp(&line), Ok(Some((1_767_607_262, nanoseconds, digits, 0))), "{line}");
+            assert_eq!(at_60(&line, |r| r.timestamp().unwrap().resolution_nanoseconds()), Ok(resolution), "{line}");
+            let space = if before.ends_with(' ') { "" } else { " " };
+            assert_eq!(printed(&line), Ok(format!("{before}{space}2026-01-05T10:01:02{fraction}+00:00{after}")));
+        }
+    }
+    // A point without a digit is no fraction, and ten digits are none: what is past the ninth could not be kept.
+    for fraction in [".", ".1234567890", ".0000000000"] {
+        assert_eq!(stamp(&format!("<13>1 2026-01-05T10:01:02{fraction}Z h a p m - x")), Err(Refusal::NoReading));
+    }
+}
+
+#[test]
+fn the_clocks_of_rfc3164_have_whole_seconds() {
+    for line in ["<13>Feb  5 10:01:02 gate7 reader[42]: ok", "<13>Feb  5 2023 10:01:02 gate7 reader[42]: ok"] {
+        let read = at_60(line, |r| r.timestamp().map(|t| (t.nanoseconds, t.digits(), t.resolution_nanoseconds())));
+        assert_eq!(read, Ok(Some((0, 0, 1_000_000_000))));
+    }
+    assert_eq!(stamp("<13>- gate7 reader[42]: ok"), Ok(None));
+}
+
+#[test]
+fn timestamps_of_one_instant_differ_in_their_digits() {
+    let at = |fraction: &str| {
+        let line = format!("<13>1 2026-01-05T10:01:02{fraction}Z gate7 reader 42 TAP - ok");
+        at_60(&line, |r| r.timestamp().unwrap()).unwrap()
+    };
+    assert_eq!(at(".50"), at(".50"));
+    assert_ne!(at(".50"), at(".5"));
+    assert_eq!((at(".50").seconds, at(".50").nanoseconds), (at(".5").seconds, at(".5").nanoseconds));
 }
 
 #[test]

@@ -1,9 +1,15 @@
 //! The strict reader: what the grammar of RFC 5424 takes and refuses, and what only it tells.
 
-use khamdoriem::{Offset, Protocol, Refusal, Tables, Timestamp, MAX_LINE};
+use khamdoriem::{Protocol, Reading, Refusal, Strict, Tables, MAX_LINE};
 
 fn taken(line: &[u8]) -> Result<(), Refusal> {
     Tables::new(8, 8).read_strict(line).map(|_| ())
+}
+
+/// Seconds, nanoseconds, digits and minutes of the offset.
+fn stamp(reading: Reading<'_, '_, Strict>) -> (i64, u32, u8, i32) {
+    let t = reading.timestamp().unwrap();
+    (t.seconds, t.nanoseconds, t.digits(), t.offset.minutes())
 }
 
 #[test]
@@ -14,8 +20,7 @@ fn fields() {
     assert_eq!(reading.line(), line);
     assert_eq!(reading.protocol(), Protocol::Rfc5424 { version: 1 });
     assert_eq!((reading.facility(), reading.severity()), (Some(20), Some(5)));
-    let offset = Offset::from_minutes(-420).unwrap();
-    assert_eq!(reading.timestamp(), Some(Timestamp { seconds: 1_065_935_655, nanoseconds: 3_000_000, offset }));
+    assert_eq!(stamp(reading), (1_065_935_655, 3_000_000, 3, -420));
     assert_eq!(reading.timestamp_text(), Some(&b"2003-10-11T22:14:15.003-07:00"[..]));
     assert_eq!(reading.host(), Some(&b"gate7"[..]));
     assert_eq!(reading.app_name(), Some(&b"reader"[..]));
@@ -86,18 +91,32 @@ fn a_line_has_at_most_8192_bytes() {
 }
 
 #[test]
-fn a_fraction_has_at_most_six_digits() {
+fn a_fraction_has_at_most_six_digits_and_keeps_them() {
     let mut tables = Tables::new(0, 0);
-    let stamp = |t: &mut Tables, line: &[u8]| t.read_strict(line).map(|r| r.timestamp().unwrap().nanoseconds);
-    assert_eq!(stamp(&mut tables, b"<13>1 2024-02-29T00:00:00.000001Z h a p m - x"), Ok(1_000));
-    assert_eq!(stamp(&mut tables, b"<13>1 2024-02-29T00:00:00.0000001Z h a p m - x"), Err(Refusal::NoReading));
+    let mut read = |fraction: &str| {
+        let line = format!("<13>1 2024-02-29T00:00:00{fraction}Z h a p m - x");
+        let reading = tables.read_strict(line.as_bytes())?;
+        let mut output = [0; 64];
+        let printed = format!("<13>1 2024-02-29T00:00:00{fraction}+00:00 h a p m - x");
+        assert_eq!(reading.print(&mut output), Ok(printed.as_bytes()));
+        let (_, nanoseconds, digits, _) = stamp(reading);
+        Ok((nanoseconds, digits, reading.timestamp().unwrap().resolution_nanoseconds()))
+    };
+    assert_eq!(read(""), Ok((0, 0, 1_000_000_000)));
+    assert_eq!(read(".5"), Ok((500_000_000, 1, 100_000_000)));
+    assert_eq!(read(".000"), Ok((0, 3, 1_000_000)));
+    assert_eq!(read(".000001"), Ok((1_000, 6, 1_000)));
+    assert_eq!(read(".500000"), Ok((500_000_000, 6, 1_000)));
+    for fraction in [".", ".0000001", ".500000000"] {
+        assert_eq!(read(fraction), Err(Refusal::NoReading));
+    }
 }
 
 #[test]
 fn before_1970() {
     let mut tables = Tables::new(0, 0);
     let reading = tables.read_strict(b"<13>1 1969-12-31T23:59:58.5Z h a p m - x").unwrap();
-    assert_eq!(reading.timestamp(), Some(Timestamp { seconds: -2, nanoseconds: 500_000_000, offset: Offset::UTC }));
+    assert_eq!(stamp(reading), (-2, 500_000_000, 1, 0));
 }
 
 #[test]
@@ -111,8 +130,7 @@ fn examples_of_rfc5424() {
 
     let line = b"<165>1 2003-08-24T05:14:15.000003-07:00 192.0.2.1 myproc 8710 - - %% It's time to make the do-nuts.";
     let reading = tables.read_strict(line).unwrap();
-    let offset = Offset::from_minutes(-420).unwrap();
-    assert_eq!(reading.timestamp(), Some(Timestamp { seconds: 1_061_727_255, nanoseconds: 3_000, offset }));
+    assert_eq!(stamp(reading), (1_061_727_255, 3_000, 6, -420));
     assert_eq!((reading.process_id(), reading.message_id()), (Some(&b"8710"[..]), None));
 
     let line = br#"<165>1 2003-10-11T22:14:15.003Z mymachine.example.com evntslog - ID47 [exampleSDID@32473 iut="3" eventSource="Application" eventID="1011"][examplePriority@32473 class="high"]"#;

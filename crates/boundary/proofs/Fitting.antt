@@ -65,7 +65,7 @@ stamp-in Unstamped h = tt
 stamp-in (Stamped t) h =
     let i = suited.stamp-in t h in
     let f = offset-in (t .offset) (i .offset-in) in
-    (seconds-in (t .seconds) (t .offset) (i .clock) f (i .shows), omega (arith, i .nanos-in), f)
+    (seconds-in (t .seconds) (t .offset) (i .clock) f (i .shows), omega (arith, i .nanos-in), omega (arith, i .digits-in), f)
 
 -- ---- the whole
 

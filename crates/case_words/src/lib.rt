@@ -67,6 +67,7 @@ fn show_front(words: &[u64]) {
     if at(words, layout::TIMESTAMP_WORD) == 1 {
         say_signed(b"  seconds ", at(words, layout::SECONDS_WORD), b"\n");
         say_number(b"  nanoseconds ", at(words, layout::NANOS_WORD), b"\n");
+        say_number(b"  digits ", at(words, layout::DIGITS_WORD), b"\n");
         say_signed(b"  offset ", at(words, layout::OFFSET_WORD), b"\n");
     }
 }

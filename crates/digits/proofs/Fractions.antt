@@ -1,13 +1,12 @@
--- `fractionAt`: what it answers, on which text, and a fraction brought to nine digits.
-use Prim.Native.Nat.{ℕ, suc, _+_, _-_, _*_, _^_, _≤_, _<_}
-use mathlib.Core.Path.{_≡_, sym, ap, _∙_}
+-- `fractionAt`: what it answers, on which text, and a fraction in nanoseconds.
+use Prim.Native.Nat.{ℕ, zero, suc, _+_, _-_, _*_, _^_, _≤_, _<_}
+use mathlib.Core.Path.{_≡_, refl, sym, ap, _∙_}
 use mathlib.Core.Bool.{false, _&&_, and-false}
-use mathlib.Core.List.{List, _++_}
-use native.Mathlib.Nat.{pow-zero, pow-suc, one-le-pow, mul-one, mul-assoc, add-mul, mul-le-mul-right, pow-le-pow-right, lt-of-lt-of-le}
-use native.Mathlib.Numerals.{add-one}
+use mathlib.Core.List.{List, [], _∷_, _++_}
+use native.Mathlib.Nat.{pow-zero, one-le-pow, add-mul, mul-le-mul-right, pow-le-pow-right}
 use native.Mathlib.Omega.{arith}
 use lib.Dec.{leb}
-use lib.ListN.{length, take}
+use lib.ListN.{length, getD, take}
 use lib.Pow.{pow-add}
 use lib.Seq.{take-append-seam}
 use mir.Syntax.{w32}
@@ -23,38 +22,51 @@ use Rattle.digits.proofs.Choices.{chosen, not-chosen}
 use Rattle.digits.proofs.Decimals.{decimal-front-lt}
 use Rattle.digits.proofs.Numbers.{IsNumber, number-is}
 
--- `v` of `n` digits, brought to `k` digits as `w`
-pub record Scaled (v n w k : ℕ) : Type 0 where
-  pub from : n ≤ k
-  pub upto : k ≤ 9
-  pub is : w ≡ v * 10 ^ (k - n)
-  pub small : w < 10 ^ k
+-- the powers of ten from 10 ^ n down
+unfoldable powers : ℕ → List ℕ
+powers zero = 1 ∷ []
+powers (suc n) = (10 ^ suc n) ∷ powers n
 
-pub scaled-start : (v n : ℕ) → (n ≤ 9) × (v < 10 ^ n) → Scaled v n v n
-scaled-start v n h =
-    let z : n - n ≡ 0 = omega arith in
-    record { from = omega arith; upto = h .0; is = rw (z, pow-zero, mul-one); small = h .1 }
+power-at : (n k : ℕ) → k ≤ n → getD (powers n) k 0 ≡ 10 ^ (n - k)
+unfolding powers
+power-at zero zero h = refl
+power-at zero (suc k) h = absurd (omega arith)
+power-at (suc n) zero h = let e : suc n - 0 ≡ suc n = omega arith in rw e
+power-at (suc n) (suc k) h = let e : suc n - suc k ≡ n - k = omega arith in rw e (power-at n k (omega arith))
 
-module _ (v n w k : ℕ) (c : Scaled v n w k) (h : k < 9) where
-  pub scaled-fits : Fits w32 (w * 10)
-  scaled-fits =
-      let l : w < 10 ^ 8 = lt-of-lt-of-le (c .small) (pow-le-pow-right (omega arith) {i = k} {j = 8} (omega arith)) in
-      record { fits = omega arith }
+-- what a one is in the last place of a fraction
+module _ (n : ℕ) where
+  pub unit-past : 9 < n → 1 ≡ 10 ^ (9 - n)
+  unit-past h = let z : 9 - n ≡ 0 = omega arith in rw (z, pow-zero)
 
-  pub scaled-more : Scaled v n (w * 10) (k + 1)
-  scaled-more =
-      let p : k + 1 - n ≡ suc (k - n) = omega (arith, c .from) in
-      record {
-        from = omega (arith, c .from);
-        upto = omega arith;
-        is = rw (p, pow-suc, ← mul-assoc, c .is);
-        small = rw (add-one k, pow-suc) (omega (arith, c .small));
-      }
+  pub unit-at : n ≤ 9 → getD (1000000000 ∷ 100000000 ∷ 10000000 ∷ 1000000 ∷ 100000 ∷ 10000 ∷ 1000 ∷ 100 ∷ 10 ∷ 1 ∷ []) n 0 ≡ 10 ^ (9 - n)
+  unfolding powers
+  unit-at h = power-at 9 n h
 
-pub scaled-all : (v n w k : ℕ) → Scaled v n w k → 9 ≤ k → w ≡ v * 10 ^ (9 - n)
-scaled-all v n w k c h = let e : k ≡ 9 = omega (arith, c .upto) in c .is ∙ ap (λ (j : ℕ). v * 10 ^ (j - n)) e
+pub ruleset unit-laws = (unit-past, unit-at)
 
-pub ruleset scaled-laws = (scaled-start, scaled-fits, scaled-more, scaled-all)
+-- as a divisor
+pub unit-some : (n u : ℕ) → u ≡ 10 ^ (9 - n) → 0 < u
+unit-some n u e = rw e (one-le-pow (9 - n) 10 (omega arith))
+
+-- `v` of `n` digits is less than a second
+pub below-second : (v n : ℕ) → (n ≤ 9) × (v < 10 ^ n) → v * 10 ^ (9 - n) < 10 ^ 9
+below-second v n h =
+    let p = 10 ^ (9 - n) in
+    let l : suc v * p ≤ 10 ^ n * p = mul-le-mul-right p (h .1) in
+    let k : n + (9 - n) ≡ 9 = omega (arith, h .0) in
+    let q : 10 ^ n * p ≡ 10 ^ 9 = sym (pow-add 10 n (9 - n)) ∙ ap (λ (j : ℕ). 10 ^ j) k in
+    let z : 1 ≤ p = one-le-pow (9 - n) 10 (omega arith) in
+    omega (arith, q, add-mul 1 v p)
+
+module _ (v n : ℕ) (h : (n ≤ 9) × (v < 10 ^ n)) (u : ℕ) (e : u ≡ 10 ^ (9 - n)) where
+  pub nanos-fit : Fits w32 (v * u)
+  nanos-fit = record { fits = rw e (omega (arith, below-second v n h)) }
+
+  pub nanos-are : v * u ≡ v * 10 ^ (9 - n)
+  nanos-are = rw e
+
+pub ruleset unit-nanos-laws = (nanos-fit, nanos-are)
 
 pub record IsFraction (most : ℕ) (s : List ℕ) (v n : ℕ) : Type 0 where
   pub whole : n ≡ digitRun s
@@ -79,13 +91,8 @@ module _ (most : ℕ) (s : List ℕ) (v n : ℕ) (e : fractionAt most s ≡ Valu
   pub fraction-len : most ≤ 9 → (1 ≤ n) × (n ≤ most) × (n ≤ length s) × (v < 10 ^ 9)
   fraction-len h =
       let i = fraction-is in
-      let d = decimal (take n s) in
-      let p = 10 ^ (9 - n) in
-      let l : suc d * p ≤ 10 ^ n * p = mul-le-mul-right p (decimal-front-lt s n (omega (arith, i .whole))) in
-      let k : n + (9 - n) ≡ 9 = omega (arith, i .few) in
-      let q : 10 ^ n * p ≡ 10 ^ 9 = sym (pow-add 10 n (9 - n)) ∙ ap (λ (j : ℕ). 10 ^ j) k in
-      let z : 1 ≤ p = one-le-pow (9 - n) 10 (omega arith) in
-      (i .some, i .few, omega (arith, i .whole, run-le isDigit s), rw (i .value) (omega (arith, q, add-mul 1 d p)))
+      let l : decimal (take n s) < 10 ^ n = decimal-front-lt s n (omega (arith, i .whole)) in
+      (i .some, i .few, omega (arith, i .whole, run-le isDigit s), rw (i .value) (below-second (decimal (take n s)) n (omega (arith, i .few), l)))
 
 -- digits, and after them a byte that is none
 pub fraction-text : (most : ℕ) (t r : List ℕ) → All isDigit t → 1 ≤ length t → length t ≤ most → digitRun r ≡ 0

@@ -95,18 +95,47 @@ pub fn four_digits(s: &[u8]) -> Number
     }
 }
 
+// How many nanoseconds a one is in the last place of a fraction of 0 to 9 digits.
+const UNITS: [u32; 10] = [
+    1_000_000_000,
+    100_000_000,
+    10_000_000,
+    1_000_000,
+    100_000,
+    10_000,
+    1_000,
+    100,
+    10,
+    1,
+];
+
+// How many nanoseconds a one is in the last place of a fraction of `len` digits; from nine on a single one.
+pub fn unit(len: usize) -> u32
+    ensures { λ r. ⌜ r ≡ 10 ^ (9 - len) ⌝ }
+{
+    if 9 < len {
+        return 1;
+    }
+    UNITS[len]
+}
+
 // The nanoseconds of a fraction whose `len` digits write `value`.
 fn nanos(value: u32, len: usize) -> u32
     requires { ⌜ (len ≤ 9) × (value < 10 ^ len) ⌝ }
     ensures { λ r. ⌜ r ≡ value * 10 ^ (9 - len) ⌝ }
 {
-    let mut scaled = value;
-    let mut places = len;
-    while places < 9 {
-        scaled *= 10;
-        places += 1;
+    value * unit(len)
+}
+
+// How many digits a fraction of `len` bytes has, its point among them; one of no bytes has none.
+pub fn after_point(len: usize) -> u32
+    requires { ⌜ len ≤ 10 ⌝ }
+    ensures { λ r. ⌜ r ≡ len - 1 ⌝ }
+{
+    if len == 0 {
+        return 0;
     }
-    scaled
+    (len - 1) as u32
 }
 
 // All the digits at the front of `s`, from 1 to `most` of them, as nanoseconds.

@@ -4,13 +4,17 @@ use mathlib.Core.Path.{_≡_, refl}
 use mathlib.Core.List.{[], _∷_, map}
 use Rattle.record.specs.Refusals.{refusalNumber}
 use Rattle.record.specs.declared.ReadAnswer.{ReadAnswer}
-use Rattle.exports.specs.Exports.{leftAnswer, kept, firstRefusal}
+use Rattle.exports.specs.Exports.{interfaceNumber, leftAnswer, kept, firstRefusal}
 
 abbrev told : ℕ → ℕ → ReadAnswer
 told n w = record { number = n; whole = w; reach = 0 }
 
+-- as include/khamdoriem.h has it
+interface : interfaceNumber ≡ 2
+interface = refl
+
 -- 8 comes last: a byte short, and not short; and then no line is told to be the message
-answers : leftAnswer (told 0 1) 208 207 ∷ leftAnswer (told 1 0) 208 207 ∷ leftAnswer (told 6 0) 208 0 ∷ leftAnswer (told 0 1) 208 208 ∷ leftAnswer (told 4 0) 240 300 ∷ []
+answers : leftAnswer (told 0 1) 216 215 ∷ leftAnswer (told 1 0) 216 215 ∷ leftAnswer (told 6 0) 216 0 ∷ leftAnswer (told 0 1) 216 216 ∷ leftAnswer (told 4 0) 248 300 ∷ []
     ≡ told 8 0 ∷ told 1 0 ∷ told 6 0 ∷ told 0 1 ∷ told 4 0 ∷ []
 answers = refl
 

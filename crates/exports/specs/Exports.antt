@@ -1,4 +1,4 @@
--- The four functions of include/khamdoriem.h: what each answers, and what it leaves in what it was lent.
+-- The five functions of include/khamdoriem.h: what each answers, and what it leaves in what it was lent.
 use Prim.Native.Nat.{ℕ}
 use mathlib.Core.Path.{_≡_}
 use mathlib.Core.Bool.{true, false}
@@ -25,6 +25,13 @@ use Rattle.grammar.specs.Reading.{StrictReads}
 use Rattle.loose.specs.Loose.{Reads}
 use Rattle.message.specs.Prints.{Prints}
 use Rattle.lookup.specs.Lookup.{Looks}
+
+-- ---- the interface's number
+
+-- It rises where a host that was built with an older header would misread an answer or a layout. 1 had no number in the archive, and a record without the
+-- digits of a fraction.
+abbrev pub interfaceNumber : ℕ
+interfaceNumber = 2
 
 -- ---- the readers
 

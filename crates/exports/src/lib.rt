@@ -13,8 +13,16 @@ ghost use Rattle.record.specs.Answers.{readAnswerOf, strictReadAnswerOf, output
 ghost use Rattle.record.specs.Params.{rows};
 ghost use Rattle.record.specs.declared.Written.the-variants.{Refused};
 ghost use Rattle.layout.specs.Layout.{recordSize, strictSize};
-ghost use Rattle.exports.specs.Exports.{shortAnswer, LeavesLoose, LeavesStrict, firstRefusal, ServesPrint, ServesLookup};
+ghost use Rattle.exports.specs.Exports.{interfaceNumber, shortAnswer, LeavesLoose, LeavesStrict, firstRefusal, ServesPrint, ServesLookup};
 ghost use Rattle.exports.specs.Steps.{Left, StrictLeft};
+
+// The number of the interface, which a host compares with that of its header.
+#[no_mangle]
+pub extern "C" fn khamdoriem_interface() -> u32
+    ensures { λ n. ⌜ n ≡ interfaceNumber ⌝ }
+{
+    2
+}
 
 // 8 in place of 0.
 fn or_short(a: ReadAnswer) -> ReadAnswer
@@ -70,7 +78,7 @@ fn leave_strict(r: StrictReading, memory: &mut [u8]) -> ReadAnswer
     told
 }
 
-// Loose reading: where the number is 0, the record's 208 bytes in `memory`.
+// Loose reading: where the number is 0, the record's 216 bytes in `memory`.
 #[no_mangle]
 pub extern "C" fn khamdoriem_read_loose(
     line: &[u8],
@@ -93,7 +101,7 @@ pub extern "C" fn khamdoriem_read_loose(
     leave(r, memory)
 }
 
-// Strict reading: where the number is 0, the record's 240 bytes in `memory`.
+// Strict reading: where the number is 0, the record's 248 bytes in `memory`.
 #[no_mangle]
 pub extern "C" fn khamdoriem_read_strict(
     line: &[u8],
@@ -134,7 +142,7 @@ fn unheld(len: usize, kind: u32) -> OutputAnswer
     record::output_answer_of(Written::Refused(first))
 }
 
-// Printing of the record that the 208 bytes hold: number and length.
+// Printing of the record that the 216 bytes hold: number and length.
 #[no_mangle]
 pub extern "C" fn khamdoriem_print(
     line: &[u8],

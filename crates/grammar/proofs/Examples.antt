@@ -25,7 +25,7 @@ use Rattle.record.specs.declared.Refusal.the-variants.{LineTooLong}
 use Rattle.grammar.specs.Line.{Param, Element, Offset, Timestamp, Division, Each, Derives}
 use Rattle.grammar.specs.Parse.{Parsed, choose, closed, only, manyFrom, _next_, into, repeat, fixed, stop, untilQuote, allLeft, atEnd, pri, version, priVersion, date, clock, secfrac, zone, offset, full, timestamp, names, value, param, element, listed, structured, message, header, parse}
 use Rattle.grammar.specs.Parse.Parsed.{failed, found}
-use Rattle.grammar.specs.Reading.{dataAt, placeOf, offsetOf, nanosOf, recordOf, elementRows, paramRows, StrictReads}
+use Rattle.grammar.specs.Reading.{dataAt, placeOf, offsetOf, nanosOf, digitsOf, recordOf, elementRows, paramRows, StrictReads}
 use Rattle.grammar.specs.Reading.StrictReads.{too-long, accepted}
 use Rattle.grammar.proofs.Lines.{parse-sound, none-derived}
 
@@ -346,7 +346,7 @@ first-record : recordOf first ≡ record {
     protocol = Rfc5424 1;
     facility = Set 4;
     severity = Set 2;
-    timestamp = Stamped (record { seconds = pos 1065910455; nanos = 3000000; offset = pos 0 });
+    timestamp = Stamped (record { seconds = pos 1065910455; nanos = 3000000; digits = 3; offset = pos 0 });
     host = place 31 21;
     app = place 53 2;
     procid = absent;
@@ -359,7 +359,7 @@ first-record : recordOf first ≡ record {
 unfolding recordOf decimalFrom secondsOf localSeconds dayNumber daysBeforeYear daysOfMonths yearDays monthDays leap first october mark
 first-record = refl
 
-second-stamp : recordOf second .common .timestamp ≡ Stamped (record { seconds = pos 1061727255; nanos = 3000; offset = negℤ (pos 420) })
+second-stamp : recordOf second .common .timestamp ≡ Stamped (record { seconds = pos 1061727255; nanos = 3000; digits = 6; offset = negℤ (pos 420) })
 unfolding recordOf decimalFrom secondsOf localSeconds dayNumber daysBeforeYear daysOfMonths yearDays monthDays leap second august
 second-stamp = refl
 
@@ -401,14 +401,16 @@ offsets : map offsetOf (Offset.utc ∷ Offset.east (bytes "00") (bytes "01") ∷
 unfolding decimalFrom
 offsets = refl
 
-fractions : map nanosOf (none ∷ some (bytes "9") ∷ some (bytes "000001") ∷ some (bytes "999999") ∷ []) ≡ 0 ∷ 900000000 ∷ 1000 ∷ 999999000 ∷ []
+-- the digits of a fraction are counted, its zeros too
+fractions : (map nanosOf (none ∷ some (bytes "9") ∷ some (bytes "900") ∷ some (bytes "000001") ∷ some (bytes "999999") ∷ []) ≡ 0 ∷ 900000000 ∷ 900000000 ∷ 1000 ∷ 999999000 ∷ [])
+    × (map digitsOf (none ∷ some (bytes "9") ∷ some (bytes "900") ∷ some (bytes "000") ∷ some (bytes "999999") ∷ []) ≡ 0 ∷ 1 ∷ 3 ∷ 3 ∷ 6 ∷ [])
 unfolding decimalFrom
-fractions = refl
+fractions = (refl, refl)
 
 -- RFC 5424 section 6.2.3.1: Examples 1 and 2 are one instant
 instants : map (λ t. recordWith "1" t .timestamp)
     (clockAt "1985" "04" "12" "23" "20" "50" (some (bytes "52")) Offset.utc ∷ clockAt "1985" "04" "12" "19" "20" "50" (some (bytes "52")) (Offset.west (bytes "04") (bytes "00")) ∷ [])
-    ≡ Stamped (record { seconds = pos 482196050; nanos = 520000000; offset = pos 0 }) ∷ Stamped (record { seconds = pos 482196050; nanos = 520000000; offset = negℤ (pos 240) }) ∷ []
+    ≡ Stamped (record { seconds = pos 482196050; nanos = 520000000; digits = 2; offset = pos 0 }) ∷ Stamped (record { seconds = pos 482196050; nanos = 520000000; digits = 2; offset = negℤ (pos 240) }) ∷ []
 unfolding recordOf decimalFrom secondsOf localSeconds dayNumber daysBeforeYear daysOfMonths yearDays monthDays leap
 instants = refl
 

@@ -68,6 +68,11 @@ abbrev pub nanosOf : Option (List ℕ) → ℕ
 nanosOf none = 0
 nanosOf (some f) = decimal f * 10 ^ (9 - length f)
 
+-- how many digits the fraction has
+abbrev pub digitsOf : Option (List ℕ) → ℕ
+digitsOf none = 0
+digitsOf (some f) = length f
+
 abbrev pub stampOf : Option Timestamp → Stamp
 stampOf none = Unstamped
 stampOf (some t) =
@@ -81,6 +86,7 @@ stampOf (some t) =
         second = decimal (t .second);
       }) (offsetOf (t .offset));
       nanos = nanosOf (t .secfrac);
+      digits = digitsOf (t .secfrac);
       offset = offsetOf (t .offset);
     })
 

@@ -21,7 +21,7 @@ use Rattle.record.specs.declared.Stamp.{Stamp}
 use Rattle.record.specs.declared.Stamp.the-variants.{Unstamped, Stamped}
 use Rattle.record.specs.declared.Place.{Place}
 use Rattle.record.specs.declared.Record.{Record}
-use Rattle.layout.specs.Layout.{protocolWord, versionWord, facilityWord, severityWord, timestampWord, secondsWord, nanosWord, offsetWord, hostWord, appWord, procidWord, msgidWord, messageWord, elementsWord, paramsWord, wordCount, recordSize, little, wordsBytes, bits, mark, protocolWords, levelWords, stampWords, recordWords, recordBytes}
+use Rattle.layout.specs.Layout.{protocolWord, versionWord, facilityWord, severityWord, timestampWord, secondsWord, nanosWord, digitsWord, offsetWord, hostWord, appWord, procidWord, msgidWord, messageWord, elementsWord, paramsWord, wordCount, recordSize, little, wordsBytes, bits, mark, protocolWords, levelWords, stampWords, recordWords, recordBytes}
 use Rattle.layout.specs.Incoming.{number, wordAt, signed, marked, narrow, stamped, frontHeld, marksHeld, holdsRecord, protocolAt, levelAt, stampAt, placeAt, recordAt, elementCountAt, paramCountAt}
 use Rattle.layout.proofs.Words.{length-little, words-length}
 use Rattle.layout.proofs.Fields.{record-length}
@@ -89,6 +89,10 @@ abbrev nanos : Stamp → ℕ
 nanos Unstamped = 0
 nanos (Stamped t) = t .nanos
 
+abbrev digits : Stamp → ℕ
+digits Unstamped = 0
+digits (Stamped t) = t .digits
+
 abbrev offset : Stamp → ℕ
 offset Unstamped = 0
 offset (Stamped t) = bits (t .offset)
@@ -104,7 +108,7 @@ LevelIn (Set n) = n < 256
 
 abbrev pub StampIn : Stamp → Type 0
 StampIn Unstamped = Unit {0}
-StampIn (Stamped t) = SFits w64 (t .seconds) × (t .nanos < 4294967296) × SFits w32 (t .offset)
+StampIn (Stamped t) = SFits w64 (t .seconds) × (t .nanos < 4294967296) × (t .digits < 4294967296) × SFits w32 (t .offset)
 
 abbrev PlaceIn : ℕ → ℕ → Type 0
 PlaceIn start len = (start < 18446744073709551616) × (len < 18446744073709551616)
@@ -160,25 +164,27 @@ bits-narrow (negsuc n) h =
     rw (le-ltb (18446744073709551615 - n) 2147483648 (omega (arith, h .sfits)), lt-ltb 18446744071562067967 (18446744073709551615 - n) (omega (arith, h .sfits)))
 
 record StampBack (s : Stamp) : Type 0 where
-  words : stampWords s ≡ stampMark s ∷ seconds s ∷ nanos s ∷ offset s ∷ []
+  words : stampWords s ≡ stampMark s ∷ seconds s ∷ nanos s ∷ digits s ∷ offset s ∷ []
   mark-fits : stampMark s < 18446744073709551616
   seconds-fit : seconds s < 18446744073709551616
   nanos-fit : nanos s < 18446744073709551616
+  digits-fit : digits s < 18446744073709551616
   offset-fits : offset s < 18446744073709551616
-  held : stamped (stampMark s) (seconds s) (nanos s) (offset s) ≡ true
-  back : stampAt (stampMark s) (seconds s) (nanos s) (offset s) ≡ s
+  held : stamped (stampMark s) (seconds s) (nanos s) (digits s) (offset s) ≡ true
+  back : stampAt (stampMark s) (seconds s) (nanos s) (digits s) (offset s) ≡ s
 
 stamp-back : (s : Stamp) → StampIn s → StampBack s
 stamp-back Unstamped h =
-    record { words = refl; mark-fits = omega arith; seconds-fit = omega arith; nanos-fit = omega arith; offset-fits = omega arith; held = refl; back = refl }
-stamp-back (Stamped t) (a, b, c) =
+    record { words = refl; mark-fits = omega arith; seconds-fit = omega arith; nanos-fit = omega arith; digits-fit = omega arith; offset-fits = omega arith; held = refl; back = refl }
+stamp-back (Stamped t) (a, b, d, c) =
     record {
       words = refl;
       mark-fits = omega arith;
       seconds-fit = bits-fit (t .seconds) a;
       nanos-fit = omega arith;
+      digits-fit = omega arith;
       offset-fits = bits-fit (t .offset) (wider (t .offset) c);
-      held = rw (lt-ltb (t .nanos) 4294967296 b, bits-narrow (t .offset) c);
+      held = rw (lt-ltb (t .nanos) 4294967296 b, lt-ltb (t .digits) 4294967296 d, bits-narrow (t .offset) c);
       back = rw (bits-back (t .seconds) a, bits-back (t .offset) (wider (t .offset) c));
     }
 
@@ -201,7 +207,7 @@ listed r e p =
     protocolMark (r .protocol) ∷ version (r .protocol)
     ∷ levelMark (r .facility) ∷ level (r .facility)
     ∷ levelMark (r .severity) ∷ level (r .severity)
-    ∷ stampMark (r .timestamp) ∷ seconds (r .timestamp) ∷ nanos (r .timestamp) ∷ offset (r .timestamp)
+    ∷ stampMark (r .timestamp) ∷ seconds (r .timestamp) ∷ nanos (r .timestamp) ∷ digits (r .timestamp) ∷ offset (r .timestamp)
     ∷ mark (r .host .present) ∷ r .host .start ∷ r .host .len
     ∷ mark (r .app .present) ∷ r .app .start ∷ r .app .len
     ∷ mark (r .procid .present) ∷ r .procid .start ∷ r .procid .len
@@ -245,32 +251,35 @@ module _ (r : Record) (e p : ℕ) (h : InTypes r e p) (rest : List ℕ) where
                   (
                     of-timestamp .nanos-fit,
                     (
-                      of-timestamp .offset-fits,
+                      of-timestamp .digits-fit,
                       (
-                        mark-fits (r .host .present),
+                        of-timestamp .offset-fits,
                         (
-                          h .host-in .0,
+                          mark-fits (r .host .present),
                           (
-                            h .host-in .1,
+                            h .host-in .0,
                             (
-                              mark-fits (r .app .present),
+                              h .host-in .1,
                               (
-                                h .app-in .0,
+                                mark-fits (r .app .present),
                                 (
-                                  h .app-in .1,
+                                  h .app-in .0,
                                   (
-                                    mark-fits (r .procid .present),
+                                    h .app-in .1,
                                     (
-                                      h .procid-in .0,
+                                      mark-fits (r .procid .present),
                                       (
-                                        h .procid-in .1,
+                                        h .procid-in .0,
                                         (
-                                          mark-fits (r .msgid .present),
+                                          h .procid-in .1,
                                           (
-                                            h .msgid-in .0,
+                                            mark-fits (r .msgid .present),
                                             (
-                                              h .msgid-in .1,
-                                              (h .message-in .0, (h .message-in .1, (h .counts-in .0, (h .counts-in .1, tt)))),
+                                              h .msgid-in .0,
+                                              (
+                                                h .msgid-in .1,
+                                                (h .message-in .0, (h .message-in .1, (h .counts-in .0, (h .counts-in .1, tt)))),
+                                              ),
                                             ),
                                           ),
                                         ),
@@ -316,6 +325,7 @@ module _ (r : Record) (e p : ℕ) (h : InTypes r e p) (rest : List ℕ) where
         at timestampWord (omega arith),
         at secondsWord (omega arith),
         at nanosWord (omega arith),
+        at digitsWord (omega arith),
         at offsetWord (omega arith),
         of-protocol .held,
         of-facility .held,
@@ -364,6 +374,7 @@ module _ (r : Record) (e p : ℕ) (h : InTypes r e p) (rest : List ℕ) where
         at timestampWord (omega arith),
         at secondsWord (omega arith),
         at nanosWord (omega arith),
+        at digitsWord (omega arith),
         at offsetWord (omega arith),
         at messageWord (omega arith),
         at (messageWord + 1) (omega arith),

@@ -41,13 +41,13 @@ module _ (l : Level) where
   level-set n e = rw e
 
 module _ (s : Stamp) where
-  pub unstamped-words : s ≡ Unstamped → 0 ∷ 0 ∷ 0 ∷ 0 ∷ [] ≡ stampWords s
+  pub unstamped-words : s ≡ Unstamped → 0 ∷ 0 ∷ 0 ∷ 0 ∷ 0 ∷ [] ≡ stampWords s
   unstamped-words e = rw e
 
   pub stamped-words : (t : Timestamp) → s ≡ Stamped t → SFits w64 (t .seconds) → SFits w32 (t .offset)
       → (a : ℕ) → a ≡ bits (toZ w64 (ofZ w64 (t .seconds)))
       → (o : ℤ) → SFits w64 o → o ≡ toZ w32 (ofZ w32 (t .offset)) → (b : ℕ) → b ≡ bits (toZ w64 (ofZ w64 o))
-      → 1 ∷ a ∷ t .nanos ∷ b ∷ [] ≡ stampWords s
+      → 1 ∷ a ∷ t .nanos ∷ t .digits ∷ b ∷ [] ≡ stampWords s
   stamped-words t e fs fo a ea o ho eo b eb =
       let qa : a ≡ bits (t .seconds) = ea ∙ ap bits (toZ-ofZ w64 (t .seconds) fs) in
       let qb : b ≡ bits (t .offset) = eb ∙ ap bits (toZ-ofZ w64 o ho ∙ eo ∙ toZ-ofZ w32 (t .offset) fo) in
@@ -68,7 +68,7 @@ level-length : (l : Level) → length (levelWords l) ≡ 2
 level-length Unset = refl
 level-length (Set n) = refl
 
-stamp-length : (s : Stamp) → length (stampWords s) ≡ 4
+stamp-length : (s : Stamp) → length (stampWords s) ≡ 5
 stamp-length Unstamped = refl
 stamp-length (Stamped t) = refl
 

@@ -17,7 +17,7 @@ use borrow.Author.Tests.{lt-leb, le-leb, leb-true, ltb-true, ne-eqb}
 use Rattle.base.specs.Texts.{textAt}
 use Rattle.base.proofs.Parts.{step}
 use Rattle.base.proofs.Tests.{both}
-use Rattle.layout.specs.Layout.{protocolWord, versionWord, facilityWord, severityWord, timestampWord, secondsWord, nanosWord, offsetWord, wordCount, recordSize}
+use Rattle.layout.specs.Layout.{protocolWord, versionWord, facilityWord, severityWord, timestampWord, secondsWord, nanosWord, digitsWord, offsetWord, wordCount, recordSize}
 use Rattle.layout.specs.Incoming.{number, wordAt, marked, signed, narrow, stamped, frontHeld, marksHeld, holdsRecord, protocolAt, levelAt, stampAt, Holds}
 use Rattle.record.specs.declared.Protocol.the-variants.{Rfc3164, Rfc5424}
 use Rattle.record.specs.declared.Level.the-variants.{Unset, Set}
@@ -65,15 +65,17 @@ marked-below limit m n h z =
     ltb-true n limit (both (eqb m 1) (ltb n limit) k .1)
 
 -- the words of a timestamp that is there
-pub record TimeHeld (n o : ℕ) : Type 0 where
+pub record TimeHeld (n d o : ℕ) : Type 0 where
   pub nanos : n < 4294967296
+  pub digits : d < 4294967296
   pub offset : narrow o ≡ true
 
-pub stamped-held : (m s n o : ℕ) → stamped m s n o ≡ true → (m ≡ 0 → ⊥) → TimeHeld n o
-stamped-held m s n o h z =
-    let k : (eqb m 1 && ltb n 4294967296 && narrow o) ≡ true = rw (ne-eqb m 0 z) at h in
-    let t = both (eqb m 1 && ltb n 4294967296) (narrow o) k in
-    record { nanos = ltb-true n 4294967296 (both (eqb m 1) (ltb n 4294967296) (t .0) .1); offset = t .1 }
+pub stamped-held : (m s n d o : ℕ) → stamped m s n d o ≡ true → (m ≡ 0 → ⊥) → TimeHeld n d o
+stamped-held m s n d o h z =
+    let k : (eqb m 1 && ltb n 4294967296 && ltb d 4294967296 && narrow o) ≡ true = rw (ne-eqb m 0 z) at h in
+    let t = both (eqb m 1 && ltb n 4294967296 && ltb d 4294967296) (narrow o) k in
+    let c = both (eqb m 1 && ltb n 4294967296) (ltb d 4294967296) (t .0) in
+    record { nanos = ltb-true n 4294967296 (both (eqb m 1) (ltb n 4294967296) (c .0) .1); digits = ltb-true d 4294967296 (c .1); offset = t .1 }
 
 -- the answers, from the words as they were read
 module _ (m n x y : ℕ) (em : x ≡ m) where
@@ -100,23 +102,26 @@ pub ruleset protocol-laws = (protocol-first, version-fits, protocol-second)
 
 pub ruleset level-laws = (level-none, level-fits, level-some)
 
-pub time-is : (s n o : ℕ) (a : ℤ) (b : ℤ) → SFits w64 a → SFits w32 b → a ≡ signed s → b ≡ signed o
-    → Stamped (record { seconds = toZ w64 (ofZ w64 a); nanos = n; offset = toZ w32 (ofZ w32 b) }) ≡ stampAt 1 s n o
-time-is s n o a b fa fb ea eb = rw (toZ-ofZ w64 a fa, toZ-ofZ w32 b fb, ea, eb)
+pub time-is : (s n d o : ℕ) (a : ℤ) (b : ℤ) → SFits w64 a → SFits w32 b → a ≡ signed s → b ≡ signed o
+    → Stamped (record { seconds = toZ w64 (ofZ w64 a); nanos = n; digits = d; offset = toZ w32 (ofZ w32 b) }) ≡ stampAt 1 s n d o
+time-is s n d o a b fa fb ea eb = rw (toZ-ofZ w64 a fa, toZ-ofZ w32 b fb, ea, eb)
 
-module _ (m s n o : ℕ) (x : ℕ) (em : x ≡ m) where
-  pub stamp-none : x ≡ 0 → Unstamped ≡ stampAt m s n o
+module _ (m s n d o : ℕ) (x : ℕ) (em : x ≡ m) where
+  pub stamp-none : x ≡ 0 → Unstamped ≡ stampAt m s n d o
   stamp-none z = rw (← em, z)
 
   module _ (z : x ≡ 0 → ⊥) where
-    pub nanos-held : stamped m s n o ≡ true → (y : ℕ) → y ≡ n → y < 4294967296
-    nanos-held h y e = rw e (stamped-held m s n o h (rw em at z) .nanos)
+    pub nanos-held : stamped m s n d o ≡ true → (y : ℕ) → y ≡ n → y < 4294967296
+    nanos-held h y e = rw e (stamped-held m s n d o h (rw em at z) .nanos)
 
-    pub offset-held : stamped m s n o ≡ true → (w : ℕ) → w ≡ o → narrow w ≡ true
-    offset-held h w e = rw e (stamped-held m s n o h (rw em at z) .offset)
+    pub digits-held : stamped m s n d o ≡ true → (y : ℕ) → y ≡ d → y < 4294967296
+    digits-held h y e = rw e (stamped-held m s n d o h (rw em at z) .digits)
 
-    pub stamp-some : (v y w : ℕ) → v ≡ s → y ≡ n → w ≡ o → (r : Stamp) → r ≡ stampAt 1 v y w → r ≡ stampAt m s n o
-    stamp-some v y w ev ey ew r e = e ∙ rw (← em, ne-eqb x 0 z, ev, ey, ew)
+    pub offset-held : stamped m s n d o ≡ true → (w : ℕ) → w ≡ o → narrow w ≡ true
+    offset-held h w e = rw e (stamped-held m s n d o h (rw em at z) .offset)
+
+    pub stamp-some : (v y u w : ℕ) → v ≡ s → y ≡ n → u ≡ d → w ≡ o → (r : Stamp) → r ≡ stampAt 1 v y u w → r ≡ stampAt m s n d o
+    stamp-some v y u w ev ey eu ew r e = e ∙ rw (← em, ne-eqb x 0 z, ev, ey, eu, ew)
 
 -- bytes that hold a record
 pub record Held (s : List ℕ) : Type 0 where
@@ -124,14 +129,14 @@ pub record Held (s : List ℕ) : Type 0 where
   pub protocol : marked 4294967296 (wordAt s protocolWord) (wordAt s versionWord) ≡ true
   pub facility : marked 256 (wordAt s facilityWord) (wordAt s (facilityWord + 1)) ≡ true
   pub severity : marked 256 (wordAt s severityWord) (wordAt s (severityWord + 1)) ≡ true
-  pub timestamp : stamped (wordAt s timestampWord) (wordAt s secondsWord) (wordAt s nanosWord) (wordAt s offsetWord) ≡ true
+  pub timestamp : stamped (wordAt s timestampWord) (wordAt s secondsWord) (wordAt s nanosWord) (wordAt s digitsWord) (wordAt s offsetWord) ≡ true
 
 pub held : (s : List ℕ) → holdsRecord s ≡ true → Held s
 unfolding holdsRecord frontHeld
 held s h =
     let places = both _ (marksHeld s) h in
     let front = both (leb recordSize (length s)) _ (places .0) in
-    let stamp = both _ (stamped (wordAt s timestampWord) (wordAt s secondsWord) (wordAt s nanosWord) (wordAt s offsetWord)) (front .1) in
+    let stamp = both _ (stamped (wordAt s timestampWord) (wordAt s secondsWord) (wordAt s nanosWord) (wordAt s digitsWord) (wordAt s offsetWord)) (front .1) in
     let severity = both _ (marked 256 (wordAt s severityWord) (wordAt s (severityWord + 1))) (stamp .0) in
     let levels = both (marked 4294967296 (wordAt s protocolWord) (wordAt s versionWord)) (marked 256 (wordAt s facilityWord) (wordAt s (facilityWord + 1))) (severity .0) in
     record { long = leb-true recordSize (length s) (front .0); protocol = levels .0; facility = levels .1; severity = severity .1; timestamp = stamp .1 }

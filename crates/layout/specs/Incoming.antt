@@ -8,7 +8,7 @@ use lib.IntN.{ℤ, pos, negsuc}
 use lib.ListN.{length}
 use Rattle.base.specs.Choose.{if_then_else_}
 use Rattle.base.specs.Texts.{textAt}
-use Rattle.layout.specs.Layout.{protocolWord, versionWord, facilityWord, severityWord, timestampWord, secondsWord, nanosWord, offsetWord, hostWord, appWord, procidWord, msgidWord, messageWord, elementsWord, paramsWord, recordSize}
+use Rattle.layout.specs.Layout.{protocolWord, versionWord, facilityWord, severityWord, timestampWord, secondsWord, nanosWord, digitsWord, offsetWord, hostWord, appWord, procidWord, msgidWord, messageWord, elementsWord, paramsWord, recordSize}
 use Rattle.record.specs.declared.Protocol.{Protocol}
 use Rattle.record.specs.declared.Protocol.the-variants.{Rfc3164, Rfc5424}
 use Rattle.record.specs.declared.Level.{Level}
@@ -40,9 +40,9 @@ marked limit m n = (eqb m 0 && eqb n 0) || (eqb m 1 && ltb n limit)
 abbrev pub narrow : ℕ → Bool
 narrow n = ltb n 2147483648 || ltb 18446744071562067967 n
 
--- a timestamp's mark, seconds, nanoseconds and offset
-abbrev pub stamped : ℕ → ℕ → ℕ → ℕ → Bool
-stamped m s n o = (eqb m 0 && eqb s 0 && eqb n 0 && eqb o 0) || (eqb m 1 && ltb n 4294967296 && narrow o)
+-- a timestamp's mark, seconds, nanoseconds, digits and offset
+abbrev pub stamped : ℕ → ℕ → ℕ → ℕ → ℕ → Bool
+stamped m s n d o = (eqb m 0 && eqb s 0 && eqb n 0 && eqb d 0 && eqb o 0) || (eqb m 1 && ltb n 4294967296 && ltb d 4294967296 && narrow o)
 
 -- the words of the protocol, the levels and the timestamp
 unfoldable pub frontHeld : List ℕ → Bool
@@ -50,7 +50,7 @@ frontHeld bytes =
     marked 4294967296 (wordAt bytes protocolWord) (wordAt bytes versionWord)
     && marked 256 (wordAt bytes facilityWord) (wordAt bytes (facilityWord + 1))
     && marked 256 (wordAt bytes severityWord) (wordAt bytes (severityWord + 1))
-    && stamped (wordAt bytes timestampWord) (wordAt bytes secondsWord) (wordAt bytes nanosWord) (wordAt bytes offsetWord)
+    && stamped (wordAt bytes timestampWord) (wordAt bytes secondsWord) (wordAt bytes nanosWord) (wordAt bytes digitsWord) (wordAt bytes offsetWord)
 
 -- the marks of the places
 unfoldable pub marksHeld : List ℕ → Bool
@@ -66,8 +66,8 @@ protocolAt m version = if eqb m 0 then Rfc3164 else Rfc5424 version
 abbrev pub levelAt : ℕ → ℕ → Level
 levelAt m n = if eqb m 0 then Unset else Set n
 
-abbrev pub stampAt : ℕ → ℕ → ℕ → ℕ → Stamp
-stampAt m s n o = if eqb m 0 then Unstamped else Stamped (record { seconds = signed s; nanos = n; offset = signed o })
+abbrev pub stampAt : ℕ → ℕ → ℕ → ℕ → ℕ → Stamp
+stampAt m s n d o = if eqb m 0 then Unstamped else Stamped (record { seconds = signed s; nanos = n; digits = d; offset = signed o })
 
 -- the place whose mark is word `i`
 abbrev pub placeAt : List ℕ → ℕ → Place
@@ -83,7 +83,7 @@ recordAt bytes =
       protocol = protocolAt (wordAt bytes protocolWord) (wordAt bytes versionWord);
       facility = levelAt (wordAt bytes facilityWord) (wordAt bytes (facilityWord + 1));
       severity = levelAt (wordAt bytes severityWord) (wordAt bytes (severityWord + 1));
-      timestamp = stampAt (wordAt bytes timestampWord) (wordAt bytes secondsWord) (wordAt bytes nanosWord) (wordAt bytes offsetWord);
+      timestamp = stampAt (wordAt bytes timestampWord) (wordAt bytes secondsWord) (wordAt bytes nanosWord) (wordAt bytes digitsWord) (wordAt bytes offsetWord);
       host = placeAt bytes hostWord;
       app = placeAt bytes appWord;
       procid = placeAt bytes procidWord;

@@ -38,8 +38,11 @@ secondsWord = timestampWord + 1
 abbrev pub nanosWord : ℕ
 nanosWord = secondsWord + 1
 
+abbrev pub digitsWord : ℕ
+digitsWord = nanosWord + 1
+
 abbrev pub offsetWord : ℕ
-offsetWord = nanosWord + 1
+offsetWord = digitsWord + 1
 
 abbrev pub hostWord : ℕ
 hostWord = offsetWord + 1
@@ -105,8 +108,8 @@ levelWords Unset = 0 ∷ 0 ∷ []
 levelWords (Set n) = 1 ∷ n ∷ []
 
 abbrev pub stampWords : Stamp → List ℕ
-stampWords Unstamped = 0 ∷ 0 ∷ 0 ∷ 0 ∷ []
-stampWords (Stamped t) = 1 ∷ bits (t .seconds) ∷ t .nanos ∷ bits (t .offset) ∷ []
+stampWords Unstamped = 0 ∷ 0 ∷ 0 ∷ 0 ∷ 0 ∷ []
+stampWords (Stamped t) = 1 ∷ bits (t .seconds) ∷ t .nanos ∷ t .digits ∷ bits (t .offset) ∷ []
 
 abbrev pub placeWords : Place → List ℕ
 placeWords p = mark (p .present) ∷ p .start ∷ p .len ∷ []

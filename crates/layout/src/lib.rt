@@ -13,7 +13,7 @@ ghost use mathlib.Core.List.{[], _∷_, _++_};
 ghost use Prim.Native.Nat.{_+_, _*_, _≤_, _<_};
 ghost use lib.ListN.{length};
 ghost use Rattle.base.specs.Fills.{filled};
-ghost use Rattle.layout.specs.Layout.{protocolWord, versionWord, facilityWord, severityWord, timestampWord, secondsWord, nanosWord, offsetWord, messageWord, wordCount, recordSize, strictSize, bits, mark, protocolWords, levelWords, stampWords, placeWords, frontWords, nameWords, endWords, recordWords, recordBytes, strictBytes, Room, Puts};
+ghost use Rattle.layout.specs.Layout.{protocolWord, versionWord, facilityWord, severityWord, timestampWord, secondsWord, nanosWord, digitsWord, offsetWord, messageWord, wordCount, recordSize, strictSize, bits, mark, protocolWords, levelWords, stampWords, placeWords, frontWords, nameWords, endWords, recordWords, recordBytes, strictBytes, Room, Puts};
 ghost use Rattle.layout.specs.Incoming.{wordAt, signed, marked, narrow, stamped, frontHeld, marksHeld, holdsRecord, protocolAt, levelAt, stampAt, placeAt, spanAt, recordAt, elementCountAt, paramCountAt, Holds};
 
 // The number of each field's first word: a field ends where the next one starts.
@@ -31,7 +31,9 @@ pub const SECONDS_WORD: usize = TIMESTAMP_WORD + 1;
 
 pub const NANOS_WORD: usize = SECONDS_WORD + 1;
 
-pub const OFFSET_WORD: usize = NANOS_WORD + 1;
+pub const DIGITS_WORD: usize = NANOS_WORD + 1;
+
+pub const OFFSET_WORD: usize = DIGITS_WORD + 1;
 
 pub const HOST_WORD: usize = OFFSET_WORD + 1;
 
@@ -100,6 +102,14 @@ fn put_four(out: &mut [u8], at: usize, a: u64, b: u64, c: u64, d: u64) -> usize
     put_two(out, next, c, d)
 }
 
+fn put_five(out: &mut [u8], at: usize, a: u64, b: u64, c: u64, d: u64, e: u64) -> usize
+    requires { ⌜ Room (now out) at (a ∷ b ∷ c ∷ d ∷ e ∷ []) ⌝ }
+    ensures { λ r. ⌜ Puts (now (out .entry)) at (a ∷ b ∷ c ∷ d ∷ e ∷ []) r (now (out .exit)) ⌝ }
+{
+    let next = put_two(out, at, a, b);
+    put_three(out, next, c, d, e)
+}
+
 fn mark_of(b: bool) -> u64
     ensures { λ r. ⌜ r ≡ mark b ⌝ }
 {
@@ -144,13 +154,14 @@ fn put_stamp(out: &mut [u8], at: usize, stamp: Stamp) -> usize
     ensures { λ r. ⌜ Puts (now (out .entry)) at (stampWords stamp) r (now (out .exit)) ⌝ }
 {
     match stamp {
-        Stamp::Unstamped => put_four(out, at, 0, 0, 0, 0),
-        Stamp::Stamped(t) => put_four(
+        Stamp::Unstamped => put_five(out, at, 0, 0, 0, 0, 0),
+        Stamp::Stamped(t) => put_five(
             out,
             at,
             1,
             to_bits(t.seconds),
             t.nanos as u64,
+            t.digits as u64,
             to_bits(base::widen(t.offset)),
         ),
     }
@@ -301,11 +312,14 @@ fn is_marked(limit: u64, m: u64, n: u64) -> bool
     ((m == 0) & (n == 0)) | ((m == 1) & (n < limit))
 }
 
-fn is_stamped(m: u64, s: u64, n: u64, o: u64) -> bool
-    ensures { λ r. ⌜ r ≡ stamped m s n o ⌝ }
+fn is_stamped(m: u64, s: u64, n: u64, d: u64, o: u64) -> bool
+    ensures { λ r. ⌜ r ≡ stamped m s n d o ⌝ }
 {
-    ((m == 0) & (s == 0) & (n == 0) & (o == 0))
-        | ((m == 1) & (n < 4294967296) & ((o < 2147483648) | (18446744071562067967 < o)))
+    ((m == 0) & (s == 0) & (n == 0) & (d == 0) & (o == 0))
+        | ((m == 1)
+            & (n < 4294967296)
+            & (d < 4294967296)
+            & ((o < 2147483648) | (18446744071562067967 < o)))
 }
 
 fn front_held(s: &[u8]) -> bool
@@ -331,6 +345,7 @@ fn front_held(s: &[u8]) -> bool
             word_at(s, TIMESTAMP_WORD),
             word_at(s, SECONDS_WORD),
             word_at(s, NANOS_WORD),
+            word_at(s, DIGITS_WORD),
             word_at(s, OFFSET_WORD),
         )
 }
@@ -396,22 +411,24 @@ pub fn offset_of(n: u64) -> i32
     base::narrow(from_bits(n))
 }
 
-fn time_of(s: u64, n: u64, o: u64) -> Stamp
+fn time_of(s: u64, n: u64, d: u64, o: u64) -> Stamp
     requires { ⌜ n < 4294967296 ⌝ }
+    requires { ⌜ d < 4294967296 ⌝ }
     requires { ⌜ narrow o ≡ true ⌝ }
-    ensures { λ r. ⌜ r ≡ stampAt 1 s n o ⌝ }
+    ensures { λ r. ⌜ r ≡ stampAt 1 s n d o ⌝ }
 {
     Stamp::Stamped(Timestamp {
         seconds: from_bits(s),
         nanos: n as u32,
+        digits: d as u32,
         offset: offset_of(o),
     })
 }
 
 fn stamp_at(s: &[u8]) -> Stamp
     requires { ⌜ recordSize ≤ length (now s) ⌝ }
-    requires { ⌜ stamped (wordAt (now s) timestampWord) (wordAt (now s) secondsWord) (wordAt (now s) nanosWord) (wordAt (now s) offsetWord) ≡ true ⌝ }
-    ensures { λ r. ⌜ r ≡ stampAt (wordAt (now (s .entry)) timestampWord) (wordAt (now (s .entry)) secondsWord) (wordAt (now (s .entry)) nanosWord) (wordAt (now (s .entry)) offsetWord) ⌝ }
+    requires { ⌜ stamped (wordAt (now s) timestampWord) (wordAt (now s) secondsWord) (wordAt (now s) nanosWord) (wordAt (now s) digitsWord) (wordAt (now s) offsetWord) ≡ true ⌝ }
+    ensures { λ r. ⌜ r ≡ stampAt (wordAt (now (s .entry)) timestampWord) (wordAt (now (s .entry)) secondsWord) (wordAt (now (s .entry)) nanosWord) (wordAt (now (s .entry)) digitsWord) (wordAt (now (s .entry)) offsetWord) ⌝ }
 {
     if word_at(s, TIMESTAMP_WORD) == 0 {
         return Stamp::Unstamped;
@@ -419,6 +436,7 @@ fn stamp_at(s: &[u8]) -> Stamp
     time_of(
         word_at(s, SECONDS_WORD),
         word_at(s, NANOS_WORD),
+        word_at(s, DIGITS_WORD),
         word_at(s, OFFSET_WORD),
     )
 }

@@ -61,7 +61,7 @@ reading protocol facility severity stamp host app procid msgid start len at elem
 
 -- at +60
 abbrev stamped : ℕ → Stamp
-stamped seconds = Stamped (record { seconds = pos seconds; nanos = 0; offset = pos 60 })
+stamped seconds = Stamped (record { seconds = pos seconds; nanos = 0; digits = 0; offset = pos 60 })
 
 -- a line by a variant, in 2023 at +60
 abbrev read : ℕ × List ℕ → Outcome

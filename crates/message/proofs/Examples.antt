@@ -31,7 +31,7 @@ tap =
       protocol = Rfc3164;
       facility = Set 1;
       severity = Set 5;
-      timestamp = Stamped (record { seconds = pos 1675587662; nanos = 0; offset = pos 60 });
+      timestamp = Stamped (record { seconds = pos 1675587662; nanos = 0; digits = 0; offset = pos 60 });
       host = place 20 5;
       app = place 26 6;
       procid = place 33 2;

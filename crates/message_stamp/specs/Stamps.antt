@@ -1,5 +1,5 @@
--- message.rs, the timestamp: fraction of 0, 3, 6 or 9 digits, the fewest that are exact, offset always as sign `hh:mm`, `+` for 0.
-use Prim.Native.Nat.{ℕ, _/_, _%_}
+-- message.rs, the timestamp: fraction of as many digits as it was read with, offset always as sign `hh:mm`, `+` for 0.
+use Prim.Native.Nat.{ℕ, _-_, _/_, _%_, _^_}
 use mathlib.Core.List.{List, [], _∷_, _++_}
 use lib.Dec.{eqb}
 use lib.IntN.{ℤ, pos, negsuc, natAbs}
@@ -24,12 +24,9 @@ timeText t = (84 ∷ fixed 2 (t .hour)) ++ (58 ∷ fixed 2 (t .minute)) ++ (58 �
 unfoldable pub clockText : DateTime → List ℕ
 clockText t = dateText t ++ timeText t
 
-unfoldable pub fractionText : ℕ → List ℕ
-fractionText nanos =
-    if eqb nanos 0 then []
-    else if eqb (nanos % 1000000) 0 then 46 ∷ fixed 3 (nanos / 1000000)
-    else if eqb (nanos % 1000) 0 then 46 ∷ fixed 6 (nanos / 1000)
-    else 46 ∷ fixed 9 nanos
+-- so many digits of the nanoseconds; no digit, no point
+unfoldable pub fractionText : ℕ → ℕ → List ℕ
+fractionText digits nanos = if eqb digits 0 then [] else 46 ∷ fixed digits (nanos / 10 ^ (9 - digits))
 
 abbrev pub signOf : ℤ → ℕ
 signOf (pos n) = 43
@@ -40,7 +37,7 @@ offsetText offset = signOf offset ∷ fixed 2 (natAbs offset / 60) ++ (58 ∷ fi
 
 abbrev pub shownText : Timestamp → Shown → List ℕ
 shownText t Outside = []
-shownText t (At clock) = clockText clock ++ fractionText (t .nanos) ++ offsetText (t .offset)
+shownText t (At clock) = clockText clock ++ fractionText (t .digits) (t .nanos) ++ offsetText (t .offset)
 
 -- the timestamp, or `-`
 abbrev pub stampText : Stamp → List ℕ

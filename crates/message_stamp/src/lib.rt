@@ -52,36 +52,25 @@ fn put_clock(out: &mut [u8], at: usize, t: DateTime) -> usize
     put_time(out, a, t)
 }
 
-fn put_fraction(out: &mut [u8], at: usize, nanos: u32) -> usize
-    requires { ⌜ Fits (now out) at (fractionText nanos) ⌝ }
-    ensures { λ r. ⌜ Wrote (now (out .entry)) at (fractionText nanos) r (now (out .exit)) ⌝ }
+fn put_fraction(out: &mut [u8], at: usize, digits: u32, nanos: u32) -> usize
+    requires { ⌜ Fits (now out) at (fractionText digits nanos) ⌝ }
+    ensures { λ r. ⌜ Wrote (now (out .entry)) at (fractionText digits nanos) r (now (out .exit)) ⌝ }
 {
-    if nanos == 0 {
+    if digits == 0 {
         return at;
     }
-    if nanos % 1000000 == 0 {
-        return put_marked(out, at, b'.', 3, nanos / 1000000);
-    }
-    if nanos % 1000 == 0 {
-        return put_marked(out, at, b'.', 6, nanos / 1000);
-    }
-    put_marked(out, at, b'.', 9, nanos)
+    let k = digits as usize;
+    put_marked(out, at, b'.', k, nanos / digits::unit(k))
 }
 
 // How many bytes the fraction takes.
-fn fraction_len(nanos: u32) -> usize
-    ensures { λ r. ⌜ r ≡ length (fractionText nanos) ⌝ }
+fn fraction_len(t: Timestamp) -> usize
+    ensures { λ r. ⌜ r ≡ length (fractionText (t .digits) (t .nanos)) ⌝ }
 {
-    if nanos == 0 {
+    if t.digits == 0 {
         return 0;
     }
-    if nanos % 1000000 == 0 {
-        return 4;
-    }
-    if nanos % 1000 == 0 {
-        return 7;
-    }
-    10
+    t.digits as usize + 1
 }
 
 fn sign_of(t: Timestamp) -> u8
@@ -117,7 +106,7 @@ fn put_shown(out: &mut [u8], at: usize, clock: DateTime, t: Timestamp) -> usize
     ensures { λ r. ⌜ Wrote (now (out .entry)) at (shownText t (At clock)) r (now (out .exit)) ⌝ }
 {
     let a = put_clock(out, at, clock);
-    let b = put_fraction(out, a, t.nanos);
+    let b = put_fraction(out, a, t.digits, t.nanos);
     put_offset(out, b, t)
 }
 
@@ -143,5 +132,5 @@ pub fn stamp_len(stamp: Stamp) -> usize
     let Stamp::Stamped(t) = stamp else {
         return 1;
     };
-    25 + fraction_len(t.nanos)
+    25 + fraction_len(t)
 }

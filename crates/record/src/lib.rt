@@ -33,10 +33,12 @@ pub enum Level {
     Set(u8),
 }
 
-// An instant, in seconds since 1970-01-01T00:00:00Z and nanoseconds, and the offset in minutes at which it is shown.
+// An instant, in seconds since 1970-01-01T00:00:00Z and nanoseconds; how many digits its fraction had, 0 to 9; and the offset in minutes at which it is
+// shown.
 pub struct Timestamp {
     pub seconds: i64,
     pub nanos: u32,
+    pub digits: u32,
     pub offset: i32,
 }
 

@@ -63,7 +63,7 @@ bare = read Unset Unset Unstamped
 
 -- 10:01:02 on 5 February 2023 at +60
 abbrev morning : Stamp
-morning = Stamped (record { seconds = pos 1675587662; nanos = 0; offset = pos 60 })
+morning = Stamped (record { seconds = pos 1675587662; nanos = 0; digits = 0; offset = pos 60 })
 
 abbrev reading : ℕ → String → Outcome
 reading start line = rfc3164 2023 (pos 60) (bytes line) start

@@ -72,7 +72,7 @@ lines : map (λ t. rfc5424 t 0)
     ((14 ∷ 1 ∷ []) ∷ (30 ∷ 1 ∷ []) ∷ [])
     ((0 ∷ 16 ∷ 1 ∷ 19 ∷ 1 ∷ []) ∷ (0 ∷ 22 ∷ 1 ∷ 26 ∷ 1 ∷ []) ∷ (1 ∷ 32 ∷ 1 ∷ 35 ∷ 0 ∷ []) ∷ [])
     37 37 1
-    ∷ reading Unset Unset 1 (Stamped (record { seconds = pos 1709202662; nanos = 500000000; offset = negsuc 29 })) (place 30 1) (place 32 1) (place 34 1) (place 36 1) 38 [] [] 39 40 1
+    ∷ reading Unset Unset 1 (Stamped (record { seconds = pos 1709202662; nanos = 500000000; digits = 1; offset = negsuc 29 })) (place 30 1) (place 32 1) (place 34 1) (place 36 1) 38 [] [] 39 40 1
     ∷ noReading
     ∷ noReading
     ∷ noReading

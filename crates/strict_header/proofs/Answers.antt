@@ -13,7 +13,7 @@ use Rattle.digits.specs.declared.Number.the-variants.{Nothing, Value}
 use Rattle.grammar.specs.Parse.{Parsed, Reader, Three, Names}
 use Rattle.grammar.specs.Parse.Parsed.{failed, found}
 use Rattle.grammar.specs.Line.{Offset, Timestamp}
-use Rattle.grammar.specs.Reading.{placeOf, offsetOf, nanosOf, stampOf}
+use Rattle.grammar.specs.Reading.{placeOf, offsetOf, nanosOf, digitsOf, stampOf}
 use Rattle.record.specs.declared.Place.{Place}
 use Rattle.record.specs.declared.Stamp.{Stamp}
 use Rattle.strict_header.specs.Pieces.{valueOf, pairOf, tripleOf, offsetAt, endingAt, stampAt, fieldAt, idsAt, namesAt}
@@ -108,19 +108,19 @@ module _ {p : Reader Offset} {s : List ℕ} where
     pub offset-some : {z : ℤ} {n : ℕ} → r ≡ IsOffset z n → Finds (λ o. offsetOf o ≡ z) n p s
     offset-some h = some-found offsetAt e (λ q. let z : true ≡ false = cc in clash z) (λ a k q. (cc, cc))
 
-abbrev pub Ending : ℕ → ℤ → Option (List ℕ) × Offset → Type 0
-Ending v z t = (nanosOf (t .0) ≡ v) × (offsetOf (t .1) ≡ z)
+abbrev pub Ending : ℕ → ℕ → ℤ → Option (List ℕ) × Offset → Type 0
+Ending v d z t = ((nanosOf (t .0) ≡ v) × (digitsOf (t .0) ≡ d)) × (offsetOf (t .1) ≡ z)
 
 module _ {p : Reader (Option (List ℕ) × Offset)} {s : List ℕ} where
-  pub ending-found : {v n : ℕ} {z : ℤ} → Finds (Ending v z) n p s → IsEnding v z n ≡ endingAt (p s)
-  ending-found w = found-answer endingAt w (λ a h. rw (h .0, h .1))
+  pub ending-found : {v d n : ℕ} {z : ℤ} → Finds (Ending v d z) n p s → IsEnding v d z n ≡ endingAt (p s)
+  ending-found w = found-answer endingAt w (λ a h. rw (h .0 .0, h .0 .1, h .1))
 
   module _ {r : EndingAt} (e : r ≡ endingAt (p s)) where
     pub ending-none : r ≡ NoEnding → Fails p s
     ending-none h = none-found endingAt e (λ a n q. let z : true ≡ false = cc in clash z)
 
-    pub ending-some : {v n : ℕ} {z : ℤ} → r ≡ IsEnding v z n → Finds (Ending v z) n p s
-    ending-some h = some-found endingAt e (λ q. let z : true ≡ false = cc in clash z) (λ a k q. (cc, (cc, cc)))
+    pub ending-some : {v d n : ℕ} {z : ℤ} → r ≡ IsEnding v d z n → Finds (Ending v d z) n p s
+    ending-some h = some-found endingAt e (λ q. let z : true ≡ false = cc in clash z) (λ a k q. (cc, ((cc, cc), cc)))
 
 module _ {p : Reader (Option Timestamp)} {s : List ℕ} where
   pub stamp-found : {x : Stamp} {n : ℕ} → Finds (λ t. stampOf t ≡ x) n p s → IsStamp x n ≡ stampAt (p s)

@@ -1,13 +1,13 @@
 -- Timestamps.
-use Prim.Native.Nat.{ℕ, _+_, _^_, _≤_}
+use Prim.Native.Nat.{ℕ, _+_, _-_, _^_, _≤_}
 use mathlib.Core.Path.{_≡_, refl, sym, _∙_}
 use mathlib.Core.Bool.{Bool, true, false, not}
-use mathlib.Core.List.{List}
-use mathlib.Core.Option.{none, some}
+use mathlib.Core.List.{List, []}
+use mathlib.Core.Option.{Option, none, some}
 use native.Mathlib.Nat.{pow-le-pow-right}
 use native.Mathlib.Omega.{arith}
 use lib.IntN.{ℤ}
-use lib.ListN.{length, drop}
+use lib.ListN.{length, drop, length-append}
 use mir.Syntax.{w32, w64}
 use mir.Val.{SFits, toZ, ofZ}
 use mir.ValLaws.{toZ-ofZ}
@@ -22,8 +22,9 @@ use Rattle.digits.specs.declared.Number.{Number}
 use Rattle.digits.specs.declared.Number.the-variants.{Nothing, Value}
 use Rattle.digits.proofs.Decimals.{decimal-lt}
 use Rattle.grammar.specs.Abnf.{Repeat}
+use Rattle.grammar.specs.Line.{secfracThen, SecfracOk}
 use Rattle.grammar.specs.Parse.{always, choose, _next_, into, date, clock, secfrac, offset, timestampOf, full, timestamp}
-use Rattle.grammar.specs.Reading.{nanosOf, stampOf}
+use Rattle.grammar.specs.Reading.{nanosOf, digitsOf, stampOf}
 use Rattle.grammar.proofs.Header.{date-reads, clock-reads, secfrac-reads, offset-reads}
 use Rattle.record.specs.declared.Stamp.{Stamp}
 use Rattle.record.specs.declared.Stamp.the-variants.{Unstamped, Stamped}
@@ -36,7 +37,7 @@ use Rattle.strict_header.specs.declared.EndingAt.{EndingAt}
 use Rattle.strict_header.specs.declared.EndingAt.the-variants.{NoEnding, IsEnding}
 use Rattle.strict_header.specs.declared.StampAt.{StampAt}
 use Rattle.strict_header.specs.declared.StampAt.the-variants.{NoStamp, IsStamp}
-use Rattle.strict_header.proofs.Steps.{untold, byte-laws, sum-fits, sums-fit, Finds, finds-within, finds-ok, next-within, closed-failed, closed-open, closed-found, into-failed, into-found, next-failed, next-not, next-found, first-found, other-failed, other-found}
+use Rattle.strict_header.proofs.Steps.{untold, byte-laws, sum-fits, sums-fit, Finds, finds-so, finds-within, finds-ok, next-within, closed-failed, closed-open, closed-found, into-failed, into-found, next-failed, next-not, next-found, first-found, other-failed, other-found}
 use Rattle.strict_header.proofs.Answers.{failed-answer, value-none, value-some, triple-none, triple-some, offset-none, offset-some, ending-found, ending-none, ending-some, stamp-found, stamp-none, stamp-some}
 
 -- ---- the fraction and the offset
@@ -48,18 +49,35 @@ module _ (s : List ℕ) where
   pub offset-within : (f : OffsetAt) (z : ℤ) (n : ℕ) → f ≡ offsetAt (offset s) → f ≡ IsOffset z n → n ≤ length s
   offset-within f z n e h = finds-within (offset-some e h) offset-reads
 
+-- a fraction is its point and its digits
+counted : (o : Option (List ℕ)) (m : ℕ) → m ≡ length (secfracThen o []) → digitsOf o ≡ m - 1
+counted none m e = omega arith
+counted (some f) m e = omega (arith, length-append f [])
+
+few : (o : Option (List ℕ)) (m : ℕ) → SecfracOk o → m ≡ length (secfracThen o []) → m ≤ 10
+few none m h e = omega arith
+few (some f) m h e = omega (arith, length-append f [], h .at-most)
+
 module _ (s : List ℕ) (f : Number) (ef : f ≡ valueOf nanosOf (secfrac s)) where
   pub ending-no-fraction : f ≡ Nothing → NoEnding ≡ endingAt ((secfrac next offset) s)
   ending-no-fraction e = failed-answer endingAt (next-failed (value-none nanosOf ef e) offset)
 
-  module _ (v m : ℕ) (hf : f ≡ Value v m) (r : List ℕ) (er : r ≡ drop m s) (o : OffsetAt) (eo : o ≡ offsetAt (offset r)) where
-    pub ending-no-offset : o ≡ NoOffset → NoEnding ≡ endingAt ((secfrac next offset) s)
-    ending-no-offset e = failed-answer endingAt (next-not (value-some nanosOf ef hf) er (offset-none eo e))
+  module _ (v m : ℕ) (hf : f ≡ Value v m) where
+    pub fraction-few : m ≤ 10
+    fraction-few = let w = finds-ok (value-some nanosOf ef hf) secfrac-reads in few (w .value) m (w .has .1) (w .has .2)
 
-    pub ending-is : (z : ℤ) (n : ℕ) → o ≡ IsOffset z n → IsEnding v z (m + n) ≡ endingAt ((secfrac next offset) s)
-    ending-is z n e = ending-found (next-found (value-some nanosOf ef hf) er (offset-some eo e))
+    module _ (r : List ℕ) (er : r ≡ drop m s) (o : OffsetAt) (eo : o ≡ offsetAt (offset r)) where
+      pub ending-no-offset : o ≡ NoOffset → NoEnding ≡ endingAt ((secfrac next offset) s)
+      ending-no-offset e = failed-answer endingAt (next-not (value-some nanosOf ef hf) er (offset-none eo e))
 
-pub ruleset ending-laws = (secfrac-within, offset-within, sum-fits, ending-no-fraction, ending-no-offset, ending-is)
+      module _ (d : ℕ) (ed : d ≡ m - 1) where
+        fraction : Finds (λ o. (nanosOf o ≡ v) × (digitsOf o ≡ d)) m secfrac s
+        fraction = finds-so (finds-ok (value-some nanosOf ef hf) secfrac-reads) (λ o h. (h .0, counted o m (h .2) ∙ sym ed))
+
+        pub ending-is : (z : ℤ) (n : ℕ) → o ≡ IsOffset z n → IsEnding v d z (m + n) ≡ endingAt ((secfrac next offset) s)
+        ending-is z n e = ending-found (next-found fraction er (offset-some eo e))
+
+pub ruleset ending-laws = (secfrac-within, offset-within, sum-fits, fraction-few, ending-no-fraction, ending-no-offset, ending-is)
 
 -- ---- a date, a clock, and what ends them
 
@@ -70,17 +88,17 @@ module _ (s : List ℕ) where
   pub clock-within : (f : TripleAt) (x y z n : ℕ) → f ≡ tripleOf (clock s) → f ≡ IsTriple x y z n → n ≤ length s
   clock-within f x y z n e h = finds-within (triple-some e h) clock-reads
 
-  pub ending-within : (f : EndingAt) (v n : ℕ) (z : ℤ) → f ≡ endingAt ((secfrac next offset) s) → f ≡ IsEnding v z n → n ≤ length s
-  ending-within f v n z e h = next-within secfrac-reads offset-reads (ending-some e h)
+  pub ending-within : (f : EndingAt) (v d n : ℕ) (z : ℤ) → f ≡ endingAt ((secfrac next offset) s) → f ≡ IsEnding v d z n → n ≤ length s
+  ending-within f v d n z e h = next-within secfrac-reads offset-reads (ending-some e h)
 
 pub ruleset piece-laws = (date-within, clock-within, ending-within, sum-fits, sums-fit)
 
 abbrev at : ℕ → ℕ → ℕ → ℕ → ℕ → ℕ → DateTime
 at y m d h i k = record { year = y; month = m; day = d; hour = h; minute = i; second = k }
 
-pub stamp-is : (t : DateTime) (v : ℕ) (z x : ℤ) → SFits w32 z → SFits w64 x → x ≡ secondsOf t (toZ w32 (ofZ w32 z))
-    → Stamped (record { seconds = toZ w64 (ofZ w64 x); nanos = v; offset = toZ w32 (ofZ w32 z) }) ≡ Stamped (record { seconds = secondsOf t z; nanos = v; offset = z })
-stamp-is t v z x fz fx e = rw (toZ-ofZ w64 x fx, e, toZ-ofZ w32 z fz)
+pub stamp-is : (t : DateTime) (v d : ℕ) (z x : ℤ) → SFits w32 z → SFits w64 x → x ≡ secondsOf t (toZ w32 (ofZ w32 z))
+    → Stamped (record { seconds = toZ w64 (ofZ w64 x); nanos = v; digits = d; offset = toZ w32 (ofZ w32 z) }) ≡ Stamped (record { seconds = secondsOf t z; nanos = v; digits = d; offset = z })
+stamp-is t v d z x fz fx e = rw (toZ-ofZ w64 x fx, e, toZ-ofZ w32 z fz)
 
 pub four-digits : (t : List ℕ) (y : ℕ) → Repeat 4 4 isDigit t → decimal t ≡ y → y ≤ 9999
 four-digits t y r e =
@@ -113,13 +131,14 @@ module _ (s : List ℕ) (a : TripleAt) (ea : a ≡ tripleOf (date s)) where
         full-no-ending e =
             failed-answer stampAt (into-failed (into-failed (next-not (triple-some ea ha) e₁ (next-not (triple-some eb hb) e₂ (ending-none eo e))) timestampOf) some)
 
-        pub full-is : (v q : ℕ) (z : ℤ) → o ≡ IsEnding v z q → SFits w32 z → (x : Stamp) → x ≡ Stamped (record { seconds = secondsOf (at y m d h i k) (toZ w32 (ofZ w32 z)); nanos = v; offset = toZ w32 (ofZ w32 z) })
+        pub full-is : (v c q : ℕ) (z : ℤ) → o ≡ IsEnding v c z q → SFits w32 z
+            → (x : Stamp) → x ≡ Stamped (record { seconds = secondsOf (at y m d h i k) (toZ w32 (ofZ w32 z)); nanos = v; digits = c; offset = toZ w32 (ofZ w32 z) })
             → IsStamp x (n + (l + q)) ≡ stampAt (into some full s)
         unfolding full
-        full-is v q z ho fz x ex =
+        full-is v c q z ho fz x ex =
             let w = next-found (triple-some ea ha) e₁ (next-found (triple-some eb hb) e₂ (ending-some eo ho)) in
             rw (ex, toZ-ofZ w32 z fz)
-            (stamp-found (into-found (into-found w timestampOf (λ t g. rw (g .0 .0, g .0 .1 .0, g .0 .1 .1, g .1 .0 .0, g .1 .0 .1 .0, g .1 .0 .1 .1, g .1 .1 .0, g .1 .1 .1))) some (λ t g. g)))
+            (stamp-found (into-found (into-found w timestampOf (λ t g. rw (g .0 .0, g .0 .1 .0, g .0 .1 .1, g .1 .0 .0, g .1 .0 .1 .0, g .1 .0 .1 .1, g .1 .1 .0 .0, g .1 .1 .0 .1, g .1 .1 .1))) some (λ t g. g)))
 
 pub ruleset full-laws = (full-valid, full-no-date, full-no-clock, full-no-ending, full-is)
 

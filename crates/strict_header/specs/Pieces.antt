@@ -11,7 +11,7 @@ use Rattle.digits.specs.declared.Number.the-variants.{Nothing, Value}
 use Rattle.grammar.specs.Line.{Offset, Timestamp, zeroLed}
 use Rattle.grammar.specs.Parse.{Parsed, Three, Names}
 use Rattle.grammar.specs.Parse.Parsed.{failed, found}
-use Rattle.grammar.specs.Reading.{placeOf, offsetOf, nanosOf, stampOf}
+use Rattle.grammar.specs.Reading.{placeOf, offsetOf, nanosOf, digitsOf, stampOf}
 use Rattle.record.specs.Places.{absent, place}
 use Rattle.record.specs.declared.Place.{Place}
 use Rattle.record.specs.declared.Stamp.{Stamp}
@@ -58,10 +58,10 @@ abbrev pub offsetAt : Parsed Offset → OffsetAt
 offsetAt failed = NoOffset
 offsetAt (found o n) = IsOffset (offsetOf o) n
 
--- the nanoseconds and the minutes
+-- the nanoseconds, their digits and the minutes
 abbrev pub endingAt : Parsed (Option (List ℕ) × Offset) → EndingAt
 endingAt failed = NoEnding
-endingAt (found t n) = IsEnding (nanosOf (t .0)) (offsetOf (t .1)) n
+endingAt (found t n) = IsEnding (nanosOf (t .0)) (digitsOf (t .0)) (offsetOf (t .1)) n
 
 abbrev pub stampAt : Parsed (Option Timestamp) → StampAt
 stampAt failed = NoStamp

@@ -59,7 +59,7 @@ enum OffsetAt {
 
 enum EndingAt {
     NoEnding,
-    IsEnding(u32, i32, usize),
+    IsEnding(u32, u32, i32, usize),
 }
 
 enum StampAt {
@@ -296,7 +296,7 @@ fn offset(s: &[u8]) -> OffsetAt
     OffsetAt::IsOffset(minutes(east, value), len + 1)
 }
 
-// What ends a timestamp: the fraction in nanoseconds and the offset.
+// What ends a timestamp: the fraction in nanoseconds, the count of its digits, and the offset.
 fn ending(s: &[u8]) -> EndingAt
     ensures { λ r. ⌜ r ≡ endingAt (parse._next_ parse.secfrac parse.offset (now (s .entry))) ⌝ }
 {
@@ -310,16 +310,17 @@ fn ending(s: &[u8]) -> EndingAt
     let OffsetAt::IsOffset(minutes, n) = offset(past(s, m)) else {
         return EndingAt::NoEnding;
     };
-    EndingAt::IsEnding(nanos, minutes, m + n)
+    EndingAt::IsEnding(nanos, digits::after_point(m), minutes, m + n)
 }
 
-fn stamp(local: DateTime, nanos: u32, offset: i32) -> Stamp
+fn stamp(local: DateTime, nanos: u32, digits: u32, offset: i32) -> Stamp
     requires { ⌜ valid local ≡ true ⌝ }
-    ensures { λ r. ⌜ r ≡ Stamp.Stamped (record { seconds = secondsOf local offset; nanos = nanos; offset = offset }) ⌝ }
+    ensures { λ r. ⌜ r ≡ Stamp.Stamped (record { seconds = secondsOf local offset; nanos = nanos; digits = digits; offset = offset }) ⌝ }
 {
     Stamp::Stamped(Timestamp {
         seconds: calendar::seconds_of(local, offset),
         nanos,
+        digits,
         offset,
     })
 }
@@ -335,7 +336,7 @@ fn full(s: &[u8]) -> StampAt
     let TripleAt::IsTriple(hour, minute, second, b) = clock(t) else {
         return StampAt::NoStamp;
     };
-    let EndingAt::IsEnding(nanos, offset, c) = ending(past(t, b)) else {
+    let EndingAt::IsEnding(nanos, digits, offset, c) = ending(past(t, b)) else {
         return StampAt::NoStamp;
     };
     let local = DateTime {
@@ -346,7 +347,7 @@ fn full(s: &[u8]) -> StampAt
         minute,
         second,
     };
-    StampAt::IsStamp(stamp(local, nanos, offset), a + (b + c))
+    StampAt::IsStamp(stamp(local, nanos, digits, offset), a + (b + c))
 }
 
 // The timestamp or `-`, and its space.

@@ -7,7 +7,7 @@ use native.Mathlib.Omega.{arith}
 use lib.Dec.{leb}
 use lib.ListN.{length, take, drop, length-take}
 use lib.IntN.{ℤ, natAbs}
-use borrow.Author.Tests.{le-leb, leb-true}
+use borrow.Author.Tests.{le-leb, leb-true, eq-eqb}
 use Rattle.base.specs.Choose.{isAt}
 use Rattle.base.proofs.Tests.{both, by-if}
 use Rattle.white.specs.Trim.{trimmed}
@@ -67,7 +67,7 @@ pri-suits s = by-if PriSuits (isAt s 0 60) _ _ (λ h. after (numberAt 255 (drop 
 -- the timestamp
 pub stamp-suits : (t : Stamp) → StampIn offsetLimit t → stampSuits t ≡ true
 stamp-suits Unstamped h = refl
-stamp-suits (Stamped t) h = rw (le-leb _ _ (h .nanos-to), le-leb _ _ (h .offset-to), h .year-in)
+stamp-suits (Stamped t) h = rw (le-leb _ _ (h .nanos-to), le-leb _ _ (h .digits-to), eq-eqb _ 0 (h .digits-show), le-leb _ _ (h .offset-to), h .year-in)
 
 -- a line whose text `s`, from `start` on, is read
 module _ (line s : List ℕ) (inside : length s ≤ length line) (start : ℕ) where

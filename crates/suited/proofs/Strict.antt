@@ -1,9 +1,10 @@
 -- The division of a line: its fields and its elements lie in the line, and its timestamp can be shown.
-use Prim.Native.Nat.{ℕ, _+_, _/_, _%_, _≤_}
+use Prim.Native.Nat.{ℕ, _+_, _-_, _/_, _%_, _^_, _≤_}
 use mathlib.Core.Path.{_≡_, refl, ap}
 use mathlib.Core.Bool.{true, false, _&&_}
 use mathlib.Core.List.{List, [], _∷_, _++_}
 use mathlib.Core.Option.{Option, none, some}
+use native.Mathlib.Nat.{mul-mod-left}
 use native.Mathlib.Omega.{arith}
 use lib.Dec.{ltb, eqb}
 use lib.ListN.{length, length-append}
@@ -25,7 +26,7 @@ use Rattle.record.specs.declared.StrictReading.the-variants.{Read, Refused}
 use Rattle.record.specs.declared.Refusal.{Refusal}
 use Rattle.grammar.specs.Abnf.{isDigit}
 use Rattle.grammar.specs.Line.{Param, Element, Timestamp, Division, Each, eachThen, paramThen, elementThen, dataThen, messageText, SecfracOk, TimestampOk, ParamOk, ElementOk, Derives}
-use Rattle.grammar.specs.Reading.{hostnameAt, appNameAt, procidAt, msgidAt, dataAt, dataEnd, placeOf, nanosOf, offsetOf, stampOf, messageSpan, recordOf, paramCount, elementRows, rowsOfParams, paramRows, StrictReads}
+use Rattle.grammar.specs.Reading.{hostnameAt, appNameAt, procidAt, msgidAt, dataAt, dataEnd, placeOf, nanosOf, digitsOf, offsetOf, stampOf, messageSpan, recordOf, paramCount, elementRows, rowsOfParams, paramRows, StrictReads}
 use Rattle.grammar.specs.Reading.StrictReads.{too-long, underivable, elements-over, params-over, accepted}
 use Rattle.grammar.proofs.Readers.{text-length}
 use Rattle.grammar.proofs.Header.{header-reads}
@@ -50,6 +51,14 @@ nanos-to (some f) h =
     let e = fraction-text 9 f [] (h .all) (h .at-least) l (run-none isDigit) in
     omega (arith, fraction-len 9 (f ++ []) _ _ e (omega arith) .3)
 
+digits-to : (o : Option (List ℕ)) → SecfracOk o → digitsOf o ≤ 9
+digits-to none h = omega arith
+digits-to (some f) h = omega (arith, h .at-most)
+
+digits-show : (o : Option (List ℕ)) → nanosOf o % 10 ^ (9 - digitsOf o) ≡ 0
+digits-show none = refl
+digits-show (some f) = mul-mod-left (decimal f) (10 ^ (9 - length f))
+
 stamp-in : (o : Option Timestamp) → TimestampOk o → StampIn offsetLimit (stampOf o)
 unfolding valid
 stamp-in none h = tt
@@ -65,6 +74,8 @@ stamp-in (some t) h =
     let v : valid clock ≡ true = rw (le-leb _ _ (four-digits (t .year) _ (h .year-digits) refl), h .date, h .time) in
     record {
       nanos-to = nanos-to (t .secfrac) (h .secfrac-ok);
+      digits-to = digits-to (t .secfrac) (h .secfrac-ok);
+      digits-show = digits-show (t .secfrac);
       offset-to = offset-small (t .offset) (h .offset-ok);
       year-in = ap isShown (back clock (offsetOf (t .offset)) v);
     }

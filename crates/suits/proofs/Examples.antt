@@ -45,11 +45,11 @@ fields facility severity timestamp host app procid msgid message =
     }
 
 -- the last second of the year 9999 at the offset, and the first of the year 0
-abbrev last : ℕ → ℤ → Stamp
-last nanos offset = Stamped record { seconds = pos 253402300799; nanos = nanos; offset = offset }
+abbrev last : ℕ → ℕ → ℤ → Stamp
+last nanos digits offset = Stamped record { seconds = pos 253402300799; nanos = nanos; digits = digits; offset = offset }
 
 abbrev first : ℤ → Stamp
-first offset = Stamped record { seconds = negsuc 62167219199; nanos = 0; offset = offset }
+first offset = Stamped record { seconds = negsuc 62167219199; nanos = 0; digits = 0; offset = offset }
 
 abbrev whole : Place
 whole = place 0 10
@@ -61,6 +61,9 @@ lost = record { present = false; start = 11; len = 0 }
 -- with no rows
 abbrev alone : Record → Case
 alone r = record { of = r; e = 0; p = 0; elements = []; params = [] }
+
+abbrev fraction : Stamp → Bool
+fraction t = suit (alone (fields Unset Unset t absent absent absent absent 8))
 
 abbrev plain : Record
 plain = fields Unset Unset Unstamped absent absent absent absent 8
@@ -77,8 +80,8 @@ row k = k ∷ 3 ∷ 7 ∷ 10 ∷ 0 ∷ []
 
 taken : map suit
     (alone plain
-    ∷ alone (fields (Set 23) (Set 7) (last 999999999 (pos 0)) whole whole whole whole 8)
-    ∷ alone (fields (Set 0) (Set 0) (last 0 (negsuc 1438)) whole absent whole absent 8)
+    ∷ alone (fields (Set 23) (Set 7) (last 999999999 9 (pos 0)) whole whole whole whole 8)
+    ∷ alone (fields (Set 0) (Set 0) (last 0 0 (negsuc 1438)) whole absent whole absent 8)
     ∷ alone (fields Unset Unset (first (pos 1439)) absent absent absent absent 8)
     ∷ rows 3 (row 0 ∷ row 1 ∷ row 1 ∷ row 7 ∷ [])
     ∷ [])
@@ -90,15 +93,21 @@ taken = refl
 numbers : map suit
     (alone (fields (Set 24) Unset Unstamped absent absent absent absent 8)
     ∷ alone (fields Unset (Set 8) Unstamped absent absent absent absent 8)
-    ∷ alone (fields Unset Unset (last 1000000000 (pos 0)) absent absent absent absent 8)
+    ∷ alone (fields Unset Unset (last 1000000000 9 (pos 0)) absent absent absent absent 8)
     ∷ alone (fields Unset Unset (first (pos 1440)) absent absent absent absent 8)
-    ∷ alone (fields Unset Unset (last 0 (negsuc 1439)) absent absent absent absent 8)
-    ∷ alone (fields Unset Unset (last 0 (pos 1)) absent absent absent absent 8)
+    ∷ alone (fields Unset Unset (last 0 0 (negsuc 1439)) absent absent absent absent 8)
+    ∷ alone (fields Unset Unset (last 0 0 (pos 1)) absent absent absent absent 8)
     ∷ alone (fields Unset Unset (first (negsuc 0)) absent absent absent absent 8)
     ∷ [])
     ≡ replicate 7 false
 unfolding suits tablesSuit recordSuits elementsSuit paramsSuit shown
 numbers = refl
+
+-- a fraction that as many digits show, with zeros after it or alone, and one that they do not show; ten digits
+fractions : (map fraction (last 500000000 1 (pos 0) ∷ last 500000000 6 (pos 0) ∷ last 0 3 (pos 0) ∷ last 0 9 (pos 0) ∷ last 123456789 9 (pos 0) ∷ []) ≡ replicate 5 true)
+    × (map fraction (last 500000000 0 (pos 0) ∷ last 123456789 8 (pos 0) ∷ last 1 0 (pos 0) ∷ last 0 10 (pos 0) ∷ last 123456789 10 (pos 0) ∷ []) ≡ replicate 5 false)
+unfolding suits tablesSuit recordSuits elementsSuit paramsSuit shown
+fractions = (refl, refl)
 
 -- a place past the line: each text, absent too, and the message
 places : map suit

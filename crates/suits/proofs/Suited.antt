@@ -1,5 +1,5 @@
 -- What a record, counts and tables that suit a line tell a caller.
-use Prim.Native.Nat.{ℕ, zero, suc, _+_, _≤_, _<_}
+use Prim.Native.Nat.{ℕ, zero, suc, _+_, _-_, _%_, _^_, _≤_, _<_}
 use mathlib.Core.Path.{_≡_, refl, sym}
 use mathlib.Core.List.{List, [], _∷_}
 use mathlib.Core.Bool.{true}
@@ -8,7 +8,7 @@ use lib.Dec.{leb}
 use lib.IntN.{natAbs}
 use lib.ListN.{length, getD, take}
 use lib.Seq.{getD-take, length-take-le}
-use borrow.Author.Tests.{leb-true, ltb-true}
+use borrow.Author.Tests.{leb-true, ltb-true, eqb-true}
 use Rattle.base.proofs.Tests.{clash, both}
 use Rattle.calendar.specs.Calendar.{offsetLimit}
 use Rattle.calendar.specs.Instant.{shown, isShown}
@@ -23,6 +23,8 @@ use Rattle.suits.specs.Suits.{placeSuits, levelSuits, stampSuits, record
 -- a timestamp that is there
 pub record StampIn (t : Timestamp) : Type 0 where
   pub nanos-in : t .nanos ≤ 999999999
+  pub digits-in : t .digits ≤ 9
+  pub digits-show : t .nanos % 10 ^ (9 - t .digits) ≡ 0
   pub offset-in : natAbs (t .offset) ≤ offsetLimit
   pub clock : DateTime
   pub shows : shown (t .seconds) (t .offset) ≡ At clock
@@ -31,11 +33,15 @@ pub stamp-in : (t : Timestamp) → stampSuits (Stamped t) ≡ true → StampIn t
 stamp-in t h =
     let b = both _ _ h in
     let n = both _ _ (b .0) in
-    at (leb-true (t .nanos) 999999999 (n .0)) (leb-true (natAbs (t .offset)) offsetLimit (n .1)) (shown (t .seconds) (t .offset)) refl (b .1)
+    let d = both _ _ (n .0) in
+    let l = both _ _ (d .0) in
+    at (leb-true (t .nanos) 999999999 (l .0)) (leb-true (t .digits) 9 (l .1)) (eqb-true _ _ (d .1)) (leb-true (natAbs (t .offset)) offsetLimit (n .1))
+    (shown (t .seconds) (t .offset)) refl (b .1)
   where
-    at : t .nanos ≤ 999999999 → natAbs (t .offset) ≤ offsetLimit → (s : Shown) → shown (t .seconds) (t .offset) ≡ s → isShown s ≡ true → StampIn t
-    at n o Outside e i = clash (sym i)
-    at n o (At d) e i = record { nanos-in = n; offset-in = o; clock = d; shows = e }
+    at : t .nanos ≤ 999999999 → t .digits ≤ 9 → t .nanos % 10 ^ (9 - t .digits) ≡ 0 → natAbs (t .offset) ≤ offsetLimit
+        → (s : Shown) → shown (t .seconds) (t .offset) ≡ s → isShown s ≡ true → StampIn t
+    at n d w o Outside e i = clash (sym i)
+    at n d w o (At c) e i = record { nanos-in = n; digits-in = d; digits-show = w; offset-in = o; clock = c; shows = e }
 
 -- a record's fields
 pub record RecordIn (line : List ℕ) (r : Record) : Type 0 where

@@ -1,10 +1,10 @@
 -- What the tests answer, from what the code knows at each return and each turn.
-use Prim.Native.Nat.{ℕ, _+_, _-_, _≤_, _<_}
+use Prim.Native.Nat.{ℕ, _+_, _-_, _%_, _^_, _≤_, _<_}
 use mathlib.Core.Path.{_≡_, sym, ap, _∙_}
 use mathlib.Core.List.{List, []}
 use mathlib.Core.Bool.{Bool, true, false, not, _&&_}
 use native.Mathlib.Omega.{arith}
-use lib.Dec.{leb}
+use lib.Dec.{leb, eqb}
 use lib.ListN.{length, getD, take, drop}
 use mir.Syntax.{w32, w64}
 use mir.Val.{SFits, toZ, ofZ}
@@ -14,12 +14,13 @@ use Rattle.base.proofs.Tests.{by-test}
 use Rattle.calendar.specs.Calendar.{validOffset}
 use Rattle.calendar.specs.Instant.{shown, isShown}
 use Rattle.calendar.specs.declared.Shown.{Shown}
+use Rattle.digits.proofs.Fractions.{unit-some}
 use Rattle.record.specs.Params.{rowOf}
 use Rattle.record.specs.declared.Param.{Param}
 use Rattle.record.specs.declared.Record.{Record}
 use Rattle.record.specs.declared.Timestamp.{Timestamp}
 use Rattle.record.specs.declared.Stamp.the-variants.{Stamped}
-use Rattle.suits.specs.Suits.{placeSuits, stampSuits, recordSuits, elementsSuit, paramSuits}
+use Rattle.suits.specs.Suits.{placeSuits, fractionSuits, stampSuits, recordSuits, elementsSuit, paramSuits}
 use Rattle.suits.specs.Checks.{headSuits, checkAt}
 use Rattle.suits.specs.declared.Check.{Check}
 use Rattle.suits.proofs.Rows.{row-step, rows-ended}
@@ -36,24 +37,38 @@ place-from n start len h =
 
 pub ruleset place-laws = (place-past, place-from)
 
--- a timestamp's numbers
-module _ (t : Timestamp) where
-  pub time-nanos : 999999999 < t .nanos → false ≡ stampSuits (Stamped t)
-  time-nanos h = rw (lt-leb (t .nanos) 999999999 h)
+-- a fraction's numbers
+module _ (n d : ℕ) where
+  pub nanos-over : 999999999 < n → false ≡ fractionSuits n d
+  nanos-over h = rw (lt-leb n 999999999 h)
 
-  module _ (h : t .nanos ≤ 999999999) (fo : SFits w32 (t .offset)) (n : Bool) (e : n ≡ validOffset (toZ w32 (ofZ w32 (t .offset)))) where
+  module _ (h : n ≤ 999999999) where
+    pub digits-over : 9 < d → false ≡ fractionSuits n d
+    digits-over k = rw (le-leb n 999999999 h, lt-leb d 9 k)
+
+    pub digits-show : d ≤ 9 → (u : ℕ) → u ≡ 10 ^ (9 - d) → eqb (n % u) 0 ≡ fractionSuits n d
+    digits-show k u e = rw (le-leb n 999999999 h, le-leb d 9 k, e)
+
+pub ruleset fraction-laws = (nanos-over, digits-over, digits-show, unit-some)
+
+-- a timestamp's numbers
+module _ (t : Timestamp) (f : Bool) (ef : f ≡ fractionSuits (t .nanos) (t .digits)) where
+  pub time-fraction : not f ≡ true → false ≡ stampSuits (Stamped t)
+  time-fraction h = rw (← ef, not-true f h)
+
+  module _ (h : not f ≡ false) (fo : SFits w32 (t .offset)) (n : Bool) (e : n ≡ validOffset (toZ w32 (ofZ w32 (t .offset)))) where
     offset : n ≡ validOffset (t .offset)
     offset = rw (toZ-ofZ w32 (t .offset) fo) at e
 
     pub time-far : not n ≡ true → false ≡ stampSuits (Stamped t)
-    time-far f = rw (le-leb (t .nanos) 999999999 h, ← offset, not-true n f)
+    time-far k = rw (← ef, not-false f h, ← offset, not-true n k)
 
     pub time-shown : not n ≡ false → SFits w64 (t .seconds)
         → (s : Shown) → s ≡ shown (toZ w64 (ofZ w64 (t .seconds))) (toZ w32 (ofZ w32 (t .offset))) → (b : Bool) → b ≡ isShown s → b ≡ stampSuits (Stamped t)
-    time-shown f fs s es b eb =
-        rw (le-leb (t .nanos) 999999999 h, ← offset, not-false n f, eb, es, toZ-ofZ w64 (t .seconds) fs, toZ-ofZ w32 (t .offset) fo)
+    time-shown k fs s es b eb =
+        rw (← ef, not-false f h, ← offset, not-false n k, eb, es, toZ-ofZ w64 (t .seconds) fs, toZ-ofZ w32 (t .offset) fo)
 
-pub ruleset time-laws = (time-nanos, time-far, time-shown)
+pub ruleset time-laws = (time-fraction, time-far, time-shown)
 
 -- one test, and more after it
 module _ (t more : Bool) where

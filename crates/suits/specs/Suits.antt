@@ -1,8 +1,8 @@
 -- Refusal 7: whether a record, counts and tables suit a line.
-use Prim.Native.Nat.{ℕ, _+_}
+use Prim.Native.Nat.{ℕ, _+_, _-_, _%_, _^_}
 use mathlib.Core.List.{List, [], _∷_}
 use mathlib.Core.Bool.{Bool, true, _&&_}
-use lib.Dec.{leb, ltb}
+use lib.Dec.{leb, ltb, eqb}
 use lib.ListN.{length, getD, take}
 use Rattle.calendar.specs.Calendar.{validOffset}
 use Rattle.calendar.specs.Instant.{shown, isShown}
@@ -21,10 +21,14 @@ abbrev pub levelSuits : ℕ → Level → Bool
 levelSuits most Unset = true
 levelSuits most (Set n) = leb n most
 
--- nanoseconds not over 999,999,999, offset in range, the local year one of 0 to 9999
+-- nanoseconds not over 999,999,999, which so many digits, at most 9, can show
+abbrev pub fractionSuits : ℕ → ℕ → Bool
+fractionSuits nanos digits = leb nanos 999999999 && leb digits 9 && eqb (nanos % 10 ^ (9 - digits)) 0
+
+-- the fraction, offset in range, the local year one of 0 to 9999
 abbrev pub stampSuits : Stamp → Bool
 stampSuits Unstamped = true
-stampSuits (Stamped t) = leb (t .nanos) 999999999 && validOffset (t .offset) && isShown (shown (t .seconds) (t .offset))
+stampSuits (Stamped t) = fractionSuits (t .nanos) (t .digits) && validOffset (t .offset) && isShown (shown (t .seconds) (t .offset))
 
 unfoldable pub recordSuits : List ℕ → Record → Bool
 recordSuits line r =

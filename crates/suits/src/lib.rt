@@ -14,7 +14,7 @@ ghost use Rattle.record.specs.Params.{rowOf, rows};
 ghost use Rattle.record.specs.declared.Stamp.the-variants as stamp;
 ghost use Rattle.record.specs.declared.Refusal.the-variants.{Unsuitable};
 ghost use Rattle.record.specs.declared.Written.the-variants.{Refused};
-ghost use Rattle.suits.specs.Suits.{levelSuits, stampSuits, recordSuits, elementsSuit, paramSuits, suits};
+ghost use Rattle.suits.specs.Suits.{levelSuits, fractionSuits, stampSuits, recordSuits, elementsSuit, paramSuits, suits};
 ghost use Rattle.suits.specs.Checks.{headSuits, checkAt};
 
 // Whether the place ends within `n` bytes. (The sum may not fit.)
@@ -36,10 +36,24 @@ fn level_suits(most: u8, level: Level) -> bool
     }
 }
 
+// Whether the nanoseconds are less than a second and so many digits, at most nine, can show them.
+fn fraction_suits(nanos: u32, digits: u32) -> bool
+    ensures { λ b. ⌜ b ≡ fractionSuits nanos digits ⌝ }
+{
+    if 999999999 < nanos {
+        return false;
+    }
+    if 9 < digits {
+        return false;
+    }
+    let k = digits as usize;
+    nanos % digits::unit(k) == 0
+}
+
 fn time_suits(t: Timestamp) -> bool
     ensures { λ b. ⌜ b ≡ stampSuits (stamp.Stamped t) ⌝ }
 {
-    if 999999999 < t.nanos {
+    if !fraction_suits(t.nanos, t.digits) {
         return false;
     }
     if !calendar::is_offset(t.offset) {

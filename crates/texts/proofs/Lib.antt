@@ -5,4 +5,6 @@ pub mod Data
 pub mod Records
 pub mod Outcomes
 pub mod Printing
+pub mod Fractions
 pub mod Texts
+mod Examples

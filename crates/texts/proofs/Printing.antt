@@ -1,5 +1,5 @@
 -- Printing: a text that is put together of ASCII and of texts of whole characters is UTF-8.
-use Prim.Native.Nat.{ℕ, zero, suc, _+_, _*_, _/_, _%_, _<_}
+use Prim.Native.Nat.{ℕ, zero, suc, _+_, _-_, _*_, _/_, _%_, _^_, _<_}
 use mathlib.Core.Path.{_≡_, refl, _∙_}
 use mathlib.Core.List.{List, [], _∷_, _++_}
 use mathlib.Core.Bool.{Bool, true, _&&_}
@@ -75,13 +75,9 @@ time-text t =
     (join (84 ∷ fixed 2 (t .hour)) _ (ascii 84 _ (omega arith) (fixed-text 2 (t .hour))) (ascii 58 _ (omega arith) (fixed-text 2 (t .minute))))
     (ascii 58 _ (omega arith) (fixed-text 2 (t .second)))
 
-fraction-text : (n : ℕ) → IsText (fractionText n)
+fraction-text : (d n : ℕ) → IsText (fractionText d n)
 unfolding fractionText
-fraction-text n =
-    by-if IsText (eqb n 0) _ _ (λ q. empty) λ q.
-    by-if IsText (eqb (n % 1000000) 0) _ _ (λ q. ascii 46 _ (omega arith) (fixed-text 3 (n / 1000000))) λ q.
-    by-if IsText (eqb (n % 1000) 0) _ _ (λ q. ascii 46 _ (omega arith) (fixed-text 6 (n / 1000))) λ q.
-    ascii 46 _ (omega arith) (fixed-text 9 n)
+fraction-text d n = by-if IsText (eqb d 0) _ _ (λ q. empty) (λ q. ascii 46 _ (omega arith) (fixed-text d (n / 10 ^ (9 - d))))
 
 sign-small : (o : ℤ) → signOf o < 0x80
 sign-small (pos n) = omega arith
@@ -97,8 +93,8 @@ shown-text : (t : Timestamp) (s : Shown) → IsText (shownText t s)
 unfolding clockText
 shown-text t Outside = empty
 shown-text t (At clock) =
-    join ((dateText clock ++ timeText clock) ++ fractionText (t .nanos)) _
-    (join (dateText clock ++ timeText clock) _ (join (dateText clock) _ (date-text clock) (time-text clock)) (fraction-text (t .nanos)))
+    join ((dateText clock ++ timeText clock) ++ fractionText (t .digits) (t .nanos)) _
+    (join (dateText clock ++ timeText clock) _ (join (dateText clock) _ (date-text clock) (time-text clock)) (fraction-text (t .digits) (t .nanos)))
     (offset-text (t .offset))
 
 stamp-text : (t : Stamp) → IsText (stampText t)

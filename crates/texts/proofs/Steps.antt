@@ -150,8 +150,8 @@ module _ (s : List ℕ) (u : isUtf8 s ≡ true) where
   pub colon-cut : (at : ℕ) → Cut s at → Cut s (colonFrom s at)
   colon-cut at c = by-if (Cut s) (isAt s at 58) _ _ (λ h. after s u at 58 refl h) (λ h. c)
 
-  stamp-cut : (t : DateTime) (nanos : ℕ) (o : ℤ) (n : ℕ) → Cut s n → StampCut s (stampIf t nanos o n)
-  stamp-cut t nanos o n c = by-if (StampCut s) (valid t) _ _ (λ h. c) (λ h. tt)
+  stamp-cut : (t : DateTime) (nanos digits : ℕ) (o : ℤ) (n : ℕ) → Cut s n → StampCut s (stampIf t nanos digits o n)
+  stamp-cut t nanos digits o n c = by-if (StampCut s) (valid t) _ _ (λ h. c) (λ h. tt)
 
   utc-cut : (t : DateTime) (o : ℤ) (n : ℕ) → Cut s n → StampCut s (utcIf t o n)
   utc-cut t o n c = by-if (StampCut s) (valid t && isShown (shown (secondsOf t (pos 0)) o)) _ _ (λ h. c) (λ h. tt)
@@ -161,7 +161,7 @@ module _ (s : List ℕ) (u : isUtf8 s ≡ true) where
   end-cut t at =
       on-num (StampCut s) (nanosFrom s at) _ _ tt λ nanos a e1.
       on-zone (StampCut s) (zoneFrom s a) _ _ tt λ o b e2.
-      by-if (StampCut s) (isAt s b 32) _ _ (λ h. stamp-cut t nanos o b (before s u b 32 refl h)) (λ h. tt)
+      by-if (StampCut s) (isAt s b 32) _ _ (λ h. stamp-cut t nanos (a - at - 1) o b (before s u b 32 refl h)) (λ h. tt)
 
   pub rfc3339-cut : (at : ℕ) → StampCut s (rfc3339From s at)
   unfolding rfc3339From fullFrom
@@ -177,7 +177,7 @@ module _ (s : List ℕ) (u : isUtf8 s ≡ true) where
   without-cut year o at =
       on-day (StampCut s) (dayFrom s at) _ _ tt λ month day a e1.
       on-clock (StampCut s) (clockFrom s a) _ _ tt λ hour minute second b e2.
-      stamp-cut _ 0 o _ (colon-cut b (rw e2 at (clock-cut a)))
+      stamp-cut _ 0 0 o _ (colon-cut b (rw e2 at (clock-cut a)))
 
   with-cut : (o : ℤ) (at : ℕ) → StampCut s (withYear o s at)
   unfolding withYear

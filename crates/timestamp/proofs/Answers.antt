@@ -1,5 +1,6 @@
--- What an answered timestamp is: below a second, at an offset within bounds, in a year of 0 to 9999, and the position behind it in the line.
-use Prim.Native.Nat.{ℕ, _+_, _≤_}
+-- What an answered timestamp is: below a second, with digits that show it, at an offset within bounds, in a year of 0 to 9999, and the position behind it
+-- in the line.
+use Prim.Native.Nat.{ℕ, _+_, _-_, _%_, _^_, _≤_}
 use mathlib.Core.Path.{_≡_, refl, ap}
 use mathlib.Core.List.{List}
 use mathlib.Core.Bool.{true, _&&_}
@@ -29,6 +30,8 @@ use Rattle.timestamp.proofs.Within.{nanos-in, clock-within, time-within
 -- an offset of at most `most` minutes either way
 pub record InRange (most : ℕ) (t : Timestamp) : Type 0 where
   pub nanos-to : t .nanos ≤ 999999999
+  pub digits-to : t .digits ≤ 9
+  pub digits-show : t .nanos % 10 ^ (9 - t .digits) ≡ 0
   pub offset-to : natAbs (t .offset) ≤ most
   pub year-in : isShown (shown (t .seconds) (t .offset)) ≡ true
 
@@ -41,14 +44,16 @@ StampingIn most n NoStamp = Unit {0}
 StampingIn most n (IsStamp t m) = StampIn most t × (m ≤ n)
 
 module _ (most : ℕ) where
-  stamp-in : (n : ℕ) (t : DateTime) (nanos : ℕ) (o : ℤ) (next : ℕ) → nanos ≤ 999999999 → natAbs o ≤ most → next ≤ n → StampingIn most n (stampIf t nanos o next)
-  stamp-in n t nanos o next a b c =
-      by-if (StampingIn most n) (valid t) _ _ (λ v. (record { nanos-to = a; offset-to = b; year-in = ap isShown (back t o v) }, c)) (λ v. tt)
+  stamp-in : (n : ℕ) (t : DateTime) (nanos digits : ℕ) (o : ℤ) (next : ℕ) → nanos ≤ 999999999 → digits ≤ 9 → nanos % 10 ^ (9 - digits) ≡ 0 → natAbs o ≤ most → next ≤ n
+      → StampingIn most n (stampIf t nanos digits o next)
+  stamp-in n t nanos digits o next a d w b c =
+      by-if (StampingIn most n) (valid t) _ _
+      (λ v. (record { nanos-to = a; digits-to = d; digits-show = w; offset-to = b; year-in = ap isShown (back t o v) }, c)) (λ v. tt)
 
   utc-in : (n : ℕ) (t : DateTime) (o : ℤ) (next : ℕ) → natAbs o ≤ most → next ≤ n → StampingIn most n (utcIf t o next)
   utc-in n t o next b c =
       by-if (StampingIn most n) (valid t && isShown (shown (secondsOf t (pos 0)) o)) _ _
-      (λ v. (record { nanos-to = omega arith; offset-to = b; year-in = both (valid t) _ v .1 }, c))
+      (λ v. (record { nanos-to = omega arith; digits-to = omega arith; digits-show = refl; offset-to = b; year-in = both (valid t) _ v .1 }, c))
       (λ v. tt)
 
   module _ (s : List ℕ) where
@@ -63,7 +68,7 @@ module _ (most : ℕ) where
           (λ p.
           let i = rw e1 at (nanos-in s at h) in
           let j = rw e2 at (zone-in s a) in
-          stamp-in (length s) t nanos o b (omega (arith, i .0)) (omega (arith, j .0)) (j .1))
+          stamp-in (length s) t nanos (a - at - 1) o b (omega (arith, i .below)) (omega (arith, i .few)) (i .shows) (omega (arith, j .0)) (j .1))
           (λ p. tt)
 
       full-in : (at : ℕ) → StampingIn most (length s) (fullFrom s at)
@@ -85,7 +90,7 @@ module _ (most : ℕ) where
         without-in year at =
             on-day (StampingIn most (length s)) (dayFrom s at) _ _ tt λ month day a e1.
             on-clock (StampingIn most (length s)) (clockFrom s a) _ _ tt λ hour minute second b e2.
-            stamp-in (length s) _ 0 o _ (omega arith) most-o (colon-within s b (clock-within s a _ hour minute second b e2 refl))
+            stamp-in (length s) _ 0 0 o _ (omega arith) (omega arith) refl most-o (colon-within s b (clock-within s a _ hour minute second b e2 refl))
 
         with-in : (at : ℕ) → StampingIn most (length s) (withYear o s at)
         unfolding withYear

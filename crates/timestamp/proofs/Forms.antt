@@ -68,7 +68,7 @@ module _ (o : ℤ) (f : SFits w32 o) (s : List ℕ) (at : ℕ) (g1 : Day) (e1 : 
 
       module _ (hour minute second b : ℕ) (z2 : g2 ≡ IsClock hour minute second b) (n : ℕ) (en : n ≡ colonFrom s b) where
         pub without-is : (r : Stamping)
-            → r ≡ stampIf (record { year = year; month = month; day = day; hour = hour; minute = minute; second = second }) 0 (toZ w32 (ofZ w32 o)) n
+            → r ≡ stampIf (record { year = year; month = month; day = day; hour = hour; minute = minute; second = second }) 0 0 (toZ w32 (ofZ w32 o)) n
             → r ≡ withoutYear year o s at
         unfolding withoutYear
         without-is r q = q ∙ rw (toZ-ofZ w32 o f, en, ← e1, z1, ← e2, z2)

@@ -7,4 +7,5 @@ pub mod Stamps
 pub mod Forms
 pub mod Within
 pub mod Answers
+pub mod Widths
 pub mod Examples

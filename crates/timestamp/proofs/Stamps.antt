@@ -1,5 +1,5 @@
 -- The instant of a date and a clock, and form (c).
-use Prim.Native.Nat.{ℕ, _+_}
+use Prim.Native.Nat.{ℕ, _+_, _-_}
 use mathlib.Core.Path.{_≡_, sym, _∙_}
 use mathlib.Core.List.{List}
 use mathlib.Core.Bool.{Bool, true, false, not}
@@ -31,8 +31,8 @@ use Rattle.timestamp.specs.declared.Stamping.the-variants.{NoStamp, IsSt
 
 -- a valid date and clock, local or UTC's
 module _ (t : DateTime) (o : ℤ) (n : ℕ) (f : SFits w32 o) (v : Bool) (e : v ≡ valid t) where
-  pub stamp-no : (nanos : ℕ) → not v ≡ true → NoStamp ≡ stampIf t nanos o n
-  stamp-no nanos h = rw (← e, not-true v h)
+  pub stamp-no : (nanos digits : ℕ) → not v ≡ true → NoStamp ≡ stampIf t nanos digits o n
+  stamp-no nanos digits h = rw (← e, not-true v h)
 
   pub utc-no : not v ≡ true → NoStamp ≡ utcIf t o n
   utc-no h = rw (← e, not-true v h)
@@ -42,9 +42,9 @@ module _ (t : DateTime) (o : ℤ) (n : ℕ) (f : SFits w32 o) (v : Bool) (e : v 
     stamp-valid = sym e ∙ not-false v h
 
     module _ (z : ℤ) (fz : SFits w64 z) where
-      pub stamp-yes : (nanos : ℕ) → z ≡ secondsOf t (toZ w32 (ofZ w32 o))
-          → IsStamp (Stamped (record { seconds = toZ w64 (ofZ w64 z); nanos = nanos; offset = toZ w32 (ofZ w32 o) })) n ≡ stampIf t nanos o n
-      stamp-yes nanos q = rw (← e, not-false v h, toZ-ofZ w64 z fz, q, toZ-ofZ w32 o f)
+      pub stamp-yes : (nanos digits : ℕ) → z ≡ secondsOf t (toZ w32 (ofZ w32 o))
+          → IsStamp (Stamped (record { seconds = toZ w64 (ofZ w64 z); nanos = nanos; digits = digits; offset = toZ w32 (ofZ w32 o) })) n ≡ stampIf t nanos digits o n
+      stamp-yes nanos digits q = rw (← e, not-false v h, toZ-ofZ w64 z fz, q, toZ-ofZ w32 o f)
 
       module _ (q : z ≡ secondsOf t (pos 0)) (x : Shown) (ex : x ≡ shown (toZ w64 (ofZ w64 z)) (toZ w32 (ofZ w32 o))) (b : Bool) (eb : b ≡ isShown x) where
         seen : b ≡ isShown (shown (secondsOf t (pos 0)) o)
@@ -54,7 +54,7 @@ module _ (t : DateTime) (o : ℤ) (n : ℕ) (f : SFits w32 o) (v : Bool) (e : v 
         utc-outside k = rw (← e, not-false v h, ← seen, not-true b k)
 
         pub utc-yes : not b ≡ false
-            → IsStamp (Stamped (record { seconds = toZ w64 (ofZ w64 z); nanos = 0; offset = toZ w32 (ofZ w32 o) })) n ≡ utcIf t o n
+            → IsStamp (Stamped (record { seconds = toZ w64 (ofZ w64 z); nanos = 0; digits = 0; offset = toZ w32 (ofZ w32 o) })) n ≡ utcIf t o n
         utc-yes k = rw (← e, not-false v h, ← seen, not-false b k, toZ-ofZ w64 z fz, q, toZ-ofZ w32 o f)
 
 pub ruleset stamp-laws = (stamp-no, stamp-valid, stamp-yes)
@@ -77,9 +77,9 @@ module _ (s : List ℕ) (t : DateTime) (at : ℕ) (g1 : Num) (e1 : g1 ≡ nanosF
       unfolding endFrom
       end-space h = rw (← e1, z1, ← e2, z2, ← ep, not-true p h)
 
-      pub end-is : not p ≡ false → SFits w32 o → (r : Stamping) → r ≡ stampIf t nanos (toZ w32 (ofZ w32 o)) b → r ≡ endFrom s t at
+      pub end-is : not p ≡ false → SFits w32 o → (d : ℕ) → d ≡ a - at - 1 → (r : Stamping) → r ≡ stampIf t nanos d (toZ w32 (ofZ w32 o)) b → r ≡ endFrom s t at
       unfolding endFrom
-      end-is h f r e = e ∙ rw (toZ-ofZ w32 o f, ← e1, z1, ← e2, z2, ← ep, not-false p h)
+      end-is h f d k r e = e ∙ rw (toZ-ofZ w32 o f, k, ← e1, z1, ← e2, z2, ← ep, not-false p h)
 
 pub ruleset end-laws = (end-fraction, end-zone, end-space, end-is)
 

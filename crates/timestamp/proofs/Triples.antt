@@ -65,13 +65,19 @@ module _ {R : Type 0} {no : R} {yes : ℕ → ℕ → ℕ → ℕ → R} {first 
             pub third-is : (w e : ℕ) → g5 ≡ IsNum w e → yes x y w e ≡ whole s at
             third-is w e z = rw (t .is s at, ← e1, z1, ← e2, z2, ← e3, z3, ← e4, z4, ← e5, z)
 
-  -- what holds of a failure and of what ends in the line holds of the whole
-  pub triple-in : (P : R → Type 0) → P no → ((x y z e : ℕ) → e ≤ length s → P (yes x y z e)) → P (whole s at)
-  triple-in P a b =
+  -- what holds of a failure and of what the steps lead to holds of the whole
+  pub triple-by : (P : R → Type 0) → P no
+      → ((x a b y c d z e : ℕ) → first s at ≡ IsNum x a → byteFrom s a sep ≡ IsPos b → later s b ≡ IsNum y c → byteFrom s c sep ≡ IsPos d → later s d ≡ IsNum z e → P (yes x y z e))
+      → P (whole s at)
+  triple-by P n k =
       rw (t .is s at)
-      (on-num P (first s at) _ _ a λ x n1 e1.
-      on-pos P (byteFrom s n1 sep) _ _ a λ n2 e2.
-      on-num P (later s n2) _ _ a λ y n3 e3.
-      on-pos P (byteFrom s n3 sep) _ _ a λ n4 e4.
-      on-num P (later s n4) _ _ a λ z n5 e5.
-      b x y z n5 (t .ends s n4 z n5 e5))
+      (on-num P (first s at) _ _ n λ x a e1.
+      on-pos P (byteFrom s a sep) _ _ n λ b e2.
+      on-num P (later s b) _ _ n λ y c e3.
+      on-pos P (byteFrom s c sep) _ _ n λ d e4.
+      on-num P (later s d) _ _ n λ z e e5.
+      k x a b y c d z e e1 e2 e3 e4 e5)
+
+  -- and so of what ends in the line
+  pub triple-in : (P : R → Type 0) → P no → ((x y z e : ℕ) → e ≤ length s → P (yes x y z e)) → P (whole s at)
+  triple-in P n k = triple-by P n (λ x a b y c d z e e1 e2 e3 e4 e5. k x y z e (t .ends s d z e e5))

@@ -1,14 +1,15 @@
 -- The positions that the readers answer lie in the line.
-use Prim.Native.Nat.{ℕ, _+_, _^_, _≤_, _<_}
+use Prim.Native.Nat.{ℕ, _+_, _-_, _%_, _^_, _≤_, _<_}
 use mathlib.Core.Path.{_≡_, refl}
 use mathlib.Core.List.{List}
+use native.Mathlib.Nat.{zero-mod, mul-mod-left}
 use native.Mathlib.Omega.{arith}
 use lib.ListN.{length, drop, length-drop}
 use Rattle.base.specs.Choose.{isAt}
 use Rattle.digits.specs.declared.Number.{Number}
 use Rattle.digits.specs.declared.Number.the-variants.{Nothing, Value}
 use Rattle.digits.specs.Digits.{fractionAt}
-use Rattle.digits.proofs.Fractions.{fraction-len}
+use Rattle.digits.proofs.Fractions.{fraction-is, fraction-len}
 use Rattle.base.proofs.Tests.{by-if}
 use Rattle.parsers.specs.Steps.{moved, someBlanksFrom, numberFrom}
 use Rattle.parsers.specs.declared.Num.{Num}
@@ -48,18 +49,36 @@ day-in s at =
     on-pos (DayIn (length s)) (someBlanksFrom s c) _ _ tt λ n e4.
     some-within s c _ refl n e4
 
--- a fraction is below one second
-abbrev pub NanosIn : ℕ → Num → Type 0
-NanosIn n NoNum = Unit {0}
-NanosIn n (IsNum v m) = (v < 1000000000) × (m ≤ n)
+-- a fraction is below one second, and its digits show all of it
+pub record Fraction (s : List ℕ) (at v m : ℕ) : Type 0 where
+  pub below : v < 1000000000
+  pub in-line : m ≤ length s
+  pub onward : at ≤ m
+  pub few : m ≤ at + 10
+  pub shows : v % 10 ^ (9 - (m - at - 1)) ≡ 0
 
-pub nanos-in : (s : List ℕ) (at : ℕ) → at ≤ length s → NanosIn (length s) (nanosFrom s at)
+abbrev pub FractionIn : List ℕ → ℕ → Num → Type 0
+FractionIn s at NoNum = Unit {0}
+FractionIn s at (IsNum v m) = Fraction s at v m
+
+pub nanos-in : (s : List ℕ) (at : ℕ) → at ≤ length s → FractionIn s at (nanosFrom s at)
 unfolding nanosFrom
-nanos-in s at h = by-if (NanosIn (length s)) (isAt s at 46) _ _ (λ t. go (at-there s at 46 (omega arith) t) (fractionAt 9 (drop (at + 1) s)) (λ v n e. fraction-len 9 (drop (at + 1) s) v n e (omega arith))) (λ t. (omega arith, h))
+nanos-in s at h =
+    by-if (FractionIn s at) (isAt s at 46) _ _ (λ t. go (at-there s at 46 (omega arith) t) (fractionAt 9 (drop (at + 1) s)) refl)
+    (λ t. record { below = omega arith; in-line = h; onward = omega arith; few = omega arith; shows = zero-mod _ })
   where
-    go : at < length s → (r : Number) → ((v n : ℕ) → r ≡ Value v n → (1 ≤ n) × (n ≤ 9) × (n ≤ length (drop (at + 1) s)) × (v < 10 ^ 9)) → NanosIn (length s) (moved (at + 1) r)
-    go l Nothing i = tt
-    go l (Value v n) i = let j = i v n refl in (j .3, omega (arith, j .2, length-drop (at + 1) s))
+    go : at < length s → (r : Number) → fractionAt 9 (drop (at + 1) s) ≡ r → FractionIn s at (moved (at + 1) r)
+    go l Nothing e = tt
+    go l (Value v n) e =
+        let j = fraction-len 9 (drop (at + 1) s) v n e (omega arith) in
+        let k : at + 1 + n - at - 1 ≡ n = omega arith in
+        record {
+          below = j .3;
+          in-line = omega (arith, j .2, length-drop (at + 1) s);
+          onward = omega arith;
+          few = omega (arith, j .1);
+          shows = rw (k, fraction-is 9 (drop (at + 1) s) v n e .value, mul-mod-left);
+        }
 
 module _ (s : List ℕ) (at : ℕ) where
   module _ (g : Clock) (h m x n : ℕ) (z : g ≡ IsClock h m x n) where
@@ -75,5 +94,15 @@ module _ (s : List ℕ) (at : ℕ) where
   pub day-within : (g : Day) → g ≡ dayFrom s at → (m d n : ℕ) → g ≡ IsDay m d n → n ≤ length s
   day-within g e m d n z = rw (← e, z) at (day-in s at)
 
-  pub nanos-within : at ≤ length s → (g : Num) → g ≡ nanosFrom s at → (v n : ℕ) → g ≡ IsNum v n → n ≤ length s
-  nanos-within h g e v n z = (rw (← e, z) at (nanos-in s at h)) .1
+  module _ (h : at ≤ length s) (g : Num) (e : g ≡ nanosFrom s at) (v n : ℕ) (z : g ≡ IsNum v n) where
+    fraction : Fraction s at v n
+    fraction = rw (← e, z) at (nanos-in s at h)
+
+    pub nanos-within : n ≤ length s
+    nanos-within = fraction .in-line
+
+    pub nanos-onward : at ≤ n
+    nanos-onward = fraction .onward
+
+    pub nanos-few : n - at ≤ 10
+    nanos-few = omega (arith, fraction .few)

@@ -1,6 +1,6 @@
 -- Form (c): one byte `-`, or the text up to the next space, which must be there: `YYYY-MM-DD`, `T` or `t`, `hh:mm:ss`, optionally `.` and
 -- 1 to 9 digits, then `Z`, `z`, or sign `hh:mm` with hh 00-23, mm 00-59. (The form holds no space, so it ends where the space is.)
-use Prim.Native.Nat.{ℕ, _+_, _*_}
+use Prim.Native.Nat.{ℕ, _+_, _-_, _*_}
 use mathlib.Core.List.{List}
 use mathlib.Core.Bool.{_&&_, _||_}
 use lib.Dec.{leb}
@@ -92,16 +92,16 @@ onZone NoZone r k = r
 onZone (IsZone o n) r k = k o n
 
 -- a date and a clock that are valid, at an offset
-abbrev pub stampIf : DateTime → ℕ → ℤ → ℕ → Stamping
-stampIf t nanos offset next =
-    if valid t then IsStamp (Stamped (record { seconds = secondsOf t offset; nanos = nanos; offset = offset })) next else NoStamp
+abbrev pub stampIf : DateTime → ℕ → ℕ → ℤ → ℕ → Stamping
+stampIf t nanos digits offset next =
+    if valid t then IsStamp (Stamped (record { seconds = secondsOf t offset; nanos = nanos; digits = digits; offset = offset })) next else NoStamp
 
--- after the clock: fraction, zone, and the space, which is not consumed
+-- after the clock: fraction, zone, and the space, which is not consumed. The digits are what was taken after the point, none where nothing was taken.
 unfoldable pub endFrom : List ℕ → DateTime → ℕ → Stamping
 endFrom s t at =
     onNum (nanosFrom s at) NoStamp λ nanos a.
     onZone (zoneFrom s a) NoStamp λ offset b.
-    if isAt s b 32 then stampIf t nanos offset b else NoStamp
+    if isAt s b 32 then stampIf t nanos (a - at - 1) offset b else NoStamp
 
 unfoldable pub fullFrom : List ℕ → ℕ → Stamping
 fullFrom s at =

@@ -35,13 +35,13 @@ unfoldable pub withoutYear : ℕ → ℤ → List ℕ → ℕ → Stamping
 withoutYear year offset s at =
     onDay (dayFrom s at) NoStamp λ month day a.
     onClock (clockFrom s a) NoStamp λ hour minute second b.
-    stampIf (record { year = year; month = month; day = day; hour = hour; minute = minute; second = second }) 0 offset (colonFrom s b)
+    stampIf (record { year = year; month = month; day = day; hour = hour; minute = minute; second = second }) 0 0 offset (colonFrom s b)
 
 -- the clock taken as UTC, and then shown at the offset, where the year shown is one of 0 to 9999
 abbrev pub utcIf : DateTime → ℤ → ℕ → Stamping
 utcIf t offset next =
     let seconds = secondsOf t (pos 0) in
-    if valid t && isShown (shown seconds offset) then IsStamp (Stamped (record { seconds = seconds; nanos = 0; offset = offset })) next
+    if valid t && isShown (shown seconds offset) then IsStamp (Stamped (record { seconds = seconds; nanos = 0; digits = 0; offset = offset })) next
     else NoStamp
 
 -- (b) the same with blanks and a year after the day

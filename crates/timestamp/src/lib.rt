@@ -286,8 +286,8 @@ pub fn zone_from(s: &[u8], at: usize) -> Zone
 }
 
 // The instant of a local date and clock, where they are valid.
-fn stamp_if(t: DateTime, nanos: u32, offset: i32, next: usize) -> Stamping
-    ensures { λ r. ⌜ r ≡ stampIf t nanos offset next ⌝ }
+fn stamp_if(t: DateTime, nanos: u32, digits: u32, offset: i32, next: usize) -> Stamping
+    ensures { λ r. ⌜ r ≡ stampIf t nanos digits offset next ⌝ }
 {
     if !calendar::is_valid(t) {
         return Stamping::NoStamp;
@@ -297,6 +297,7 @@ fn stamp_if(t: DateTime, nanos: u32, offset: i32, next: usize) -> Stamping
         Stamp::Stamped(Timestamp {
             seconds,
             nanos,
+            digits,
             offset,
         }),
         next,
@@ -317,7 +318,7 @@ pub fn end_from(s: &[u8], t: DateTime, at: usize) -> Stamping
     if !base::is_at(s, b, b' ') {
         return Stamping::NoStamp;
     }
-    stamp_if(t, nanos, offset, b)
+    stamp_if(t, nanos, digits::after_point(a - at), offset, b)
 }
 
 pub fn full_from(s: &[u8], at: usize) -> Stamping
@@ -421,7 +422,7 @@ pub fn without_year(s: &[u8], at: usize, year: u32, offset: i32) -> Stamping
         minute,
         second,
     };
-    stamp_if(t, 0, offset, parsers::colon_from(s, b))
+    stamp_if(t, 0, 0, offset, parsers::colon_from(s, b))
 }
 
 // The instant of a date and a clock in UTC, shown at the offset, where they are valid and the year shown is one of 0 to 9999.
@@ -439,6 +440,7 @@ fn utc_if(t: DateTime, offset: i32, next: usize) -> Stamping
         Stamp::Stamped(Timestamp {
             seconds,
             nanos: 0,
+            digits: 0,
             offset,
         }),
         next,

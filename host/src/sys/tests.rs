@@ -42,7 +42,7 @@ fn refused(number: u32) -> ReadAnswer {
 
 /// `LINE` as the strict reader leaves it.
 fn read() -> Memory {
-    let mut memory = Memory::new(2, 2, 240);
+    let mut memory = Memory::new(2, 2, 248);
     assert_eq!(memory.read_strict(LINE), READ);
     memory
 }
@@ -57,10 +57,10 @@ fn settings_out_of_range_are_refused_with_2() {
         Numbers { offset: -1440, ..SETTINGS },
     ];
     for settings in wrong {
-        let mut memory = Memory::new(2, 2, 240);
+        let mut memory = Memory::new(2, 2, 248);
         assert_eq!(memory.read_loose(LINE, settings), refused(2));
         assert_eq!(memory.read_loose(b"no line", settings), refused(2));
-        assert_eq!(memory, Memory::new(2, 2, 240));
+        assert_eq!(memory, Memory::new(2, 2, 248));
     }
 }
 
@@ -78,7 +78,7 @@ fn a_kind_out_of_range_is_refused_with_2() {
 fn a_lone_backslash_at_the_end_of_a_value_goes_or_stays_by_kind() {
     // No reader leaves such a value: backslash takes the next character with it. Here the place ends a byte early.
     let line = br#"<13>1 - gate7 reader 42 TAP [a@1 x="1\\"]"#;
-    let mut memory = Memory::new(1, 1, 240);
+    let mut memory = Memory::new(1, 1, 248);
     assert_eq!(memory.read_strict(line), READ);
     memory.params[0][4] -= 1;
     let mut output = [b'.'; 2];
@@ -90,16 +90,16 @@ fn a_lone_backslash_at_the_end_of_a_value_goes_or_stays_by_kind() {
 
 #[test]
 fn refused_readers_change_nothing() {
-    for (elements, params, record, number) in [(1, 2, 240, 5), (2, 1, 240, 6), (2, 2, 207, 8)] {
+    for (elements, params, record, number) in [(1, 2, 248, 5), (2, 1, 248, 6), (2, 2, 215, 8)] {
         let untouched = Memory::new(elements, params, record);
         let mut memory = untouched.clone();
         assert_eq!(memory.read_loose(LINE, SETTINGS), refused(number));
         assert_eq!(memory.read_strict(LINE), refused(number));
         assert_eq!(memory, untouched);
     }
-    let mut memory = Memory::new(2, 2, 240);
+    let mut memory = Memory::new(2, 2, 248);
     assert_eq!(memory.read_strict(b"no line"), refused(4));
-    assert_eq!(memory, Memory::new(2, 2, 240));
+    assert_eq!(memory, Memory::new(2, 2, 248));
 }
 
 #[test]
@@ -115,39 +115,39 @@ fn the_loose_reader_refuses_with_the_first_number_that_applies() {
         (LINE, SETTINGS, 2, 1, 6),
         (LINE, SETTINGS, 2, 2, 8),
     ] {
-        assert_eq!(Memory::new(elements, params, 207).read_loose(line, settings), refused(number));
+        assert_eq!(Memory::new(elements, params, 215).read_loose(line, settings), refused(number));
     }
 }
 
 #[test]
 fn a_whole_line_is_laid_out_like_a_reading() {
-    let mut memory = Memory::new(1, 1, 250);
+    let mut memory = Memory::new(1, 1, 260);
     assert_eq!(memory.read_loose(b"no line", SETTINGS), WHOLE);
-    let mut expected = Memory::new(1, 1, 250);
-    expected.record[..208].fill(0);
-    expected.record[176 + 8] = 7;
+    let mut expected = Memory::new(1, 1, 260);
+    expected.record[..216].fill(0);
+    expected.record[184 + 8] = 7;
     assert_eq!(memory, expected);
     let mut output = [b'.'; 18];
     assert_eq!(print(memory.lent(b"no line"), &mut output), Written { number: 0, len: 18 });
     assert_eq!(&output, b"<47> - - : no line");
 
     // Where the record's memory is short it is refused, and says nothing of the line.
-    let mut short = Memory::new(0, 0, 207);
+    let mut short = Memory::new(0, 0, 215);
     assert_eq!(short.read_loose(b"no line", SETTINGS), refused(8));
-    assert_eq!(short, Memory::new(0, 0, 207));
+    assert_eq!(short, Memory::new(0, 0, 215));
 }
 
 #[test]
 fn readers_keep_what_lies_past_the_counts_and_the_layout() {
-    let mut memory = Memory::new(3, 4, 250);
+    let mut memory = Memory::new(3, 4, 260);
     assert_eq!(memory.read_loose(LINE, SETTINGS), READ);
     assert_eq!(memory.elements[2..], [[77_777; 2]]);
     assert_eq!(memory.params[2..], [[88_888; 5]; 2]);
-    assert_eq!(memory.record[208..], [99; 42]);
+    assert_eq!(memory.record[216..], [99; 44]);
     assert_eq!(memory.read_strict(LINE), READ);
     assert_eq!(memory.elements[2..], [[77_777; 2]]);
     assert_eq!(memory.params[2..], [[88_888; 5]; 2]);
-    assert_eq!(memory.record[240..], [99; 10]);
+    assert_eq!(memory.record[248..], [99; 12]);
 }
 
 #[test]
@@ -157,10 +157,10 @@ fn records_and_tables_that_do_not_suit_the_line_are_refused_with_7() {
         |m| m.record[16] = 2,
         |m| m.record[24] = 24,
         |m| m.record[40] = 8,
-        |m| m.record[80 + 16] = 200,
-        |m| m.record[192] = 3,
+        |m| m.record[88 + 16] = 200,
         |m| m.record[200] = 3,
-        |m| m.record.truncate(207),
+        |m| m.record[208] = 3,
+        |m| m.record.truncate(215),
         |m| m.elements[1] = [LINE.len(), 1],
         |m| m.params[1][0] = 2,
     ];
@@ -175,6 +175,85 @@ fn records_and_tables_that_do_not_suit_the_line_are_refused_with_7() {
         assert_eq!(lookup(memory.lent(LINE), b"b@1", b"y", 0, &mut output), refused, "{which}");
         assert_eq!(output, [b'.'; 64], "{which}");
     }
+}
+
+/// A record with this fraction: its digits, and its nanoseconds.
+fn with_fraction(digits: u64, nanoseconds: u64) -> (&'static [u8], Memory) {
+    let line = b"<13>1 2026-01-05T10:01:02.003Z gate7 reader 42 TAP - ok";
+    let mut memory = Memory::new(0, 0, 248);
+    assert_eq!(memory.read_strict(line), READ);
+    assert_eq!(memory.record[72..80], 3u64.to_le_bytes());
+    memory.record[64..72].copy_from_slice(&nanoseconds.to_le_bytes());
+    memory.record[72..80].copy_from_slice(&digits.to_le_bytes());
+    (line, memory)
+}
+
+#[test]
+fn a_fraction_that_its_digits_show_is_printed_with_as_many() {
+    for (digits, nanoseconds, text) in [
+        (0, 0, ""),
+        (1, 0, ".0"),
+        (1, 500_000_000, ".5"),
+        (3, 0, ".000"),
+        (6, 500_000_000, ".500000"),
+        (8, 123_456_780, ".12345678"),
+        (9, 123_456_789, ".123456789"),
+        (9, 999_999_999, ".999999999"),
+    ] {
+        let (line, memory) = with_fraction(digits, nanoseconds);
+        let printed = format!("<13>1 2026-01-05T10:01:02{text}+00:00 gate7 reader 42 TAP - ok");
+        let mut output = [b'.'; 80];
+        assert_eq!(print(memory.lent(line), &mut output), Written { number: 0, len: printed.len() });
+        assert_eq!(&output[..printed.len()], printed.as_bytes());
+    }
+}
+
+#[test]
+fn a_fraction_that_its_digits_do_not_show_is_refused_with_7() {
+    for (digits, nanoseconds) in [
+        (10, 0),
+        (10, 500_000_000),
+        (1 << 32, 0),
+        (u64::MAX, 0),
+        (0, 500_000_000),
+        (1, 10_000_000),
+        (3, 1_000),
+        (6, 1),
+        (8, 123_456_789),
+        (9, 1_000_000_000),
+    ] {
+        let (line, memory) = with_fraction(digits, nanoseconds);
+        let mut output = [b'.'; 80];
+        let refused = Written { number: 7, len: 0 };
+        assert_eq!(print(memory.lent(line), &mut output), refused, "{digits} digits, {nanoseconds} nanoseconds");
+        assert_eq!(lookup(memory.lent(line), b"a@1", b"x", 0, &mut output), refused);
+        assert_eq!(output, [b'.'; 80]);
+    }
+}
+
+#[test]
+fn a_timestamp_that_is_absent_has_no_digits() {
+    let mut memory = read();
+    assert_eq!(memory.record[48..88], [0; 40]);
+    memory.record[72] = 1;
+    assert_eq!(print(memory.lent(LINE), &mut [b'.'; 64]), Written { number: 7, len: 0 });
+}
+
+#[test]
+fn the_archive_has_this_interface() {
+    check_interface();
+}
+
+#[test]
+#[should_panic(expected = "has interface 3, and this crate is written for interface 2")]
+fn a_newer_interface_is_not_taken() {
+    same_interface(3);
+}
+
+#[test]
+#[should_panic(expected = "has interface 1, and this crate is written for interface 2")]
+fn an_older_interface_is_not_taken() {
+    same_interface(1);
 }
 
 #[test]

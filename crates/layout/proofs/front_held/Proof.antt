@@ -48,6 +48,9 @@ word-at-requires-9 c κs = search needs
 word-at-requires-10 : tie.Need-word-at-requires-10
 word-at-requires-10 c κs = search needs
 
+word-at-requires-11 : tie.Need-word-at-requires-11
+word-at-requires-11 c κs = search needs
+
 is-stamped-requires : tie.Need-is-stamped-requires
 is-stamped-requires c κs = search needs
 
@@ -74,5 +77,6 @@ front-held-spec =
     word-at-requires-8
     word-at-requires-9
     word-at-requires-10
+    word-at-requires-11
     is-stamped-requires
     returns)

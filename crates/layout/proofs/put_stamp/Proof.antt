@@ -7,8 +7,8 @@ use Rattle.layout.proofs.put_stamp.Tie as tie
 enum-told : tie.Need-enum-told
 enum-told c = search needs
 
-put-four-requires : tie.Need-put-four-requires
-put-four-requires c κs = search (named, field-words, needs)
+put-five-requires : tie.Need-put-five-requires
+put-five-requires c κs = search (named, field-words, needs)
 
 enum-known-stamp : tie.Need-enum-known-stamp
 enum-known-stamp c = search needs
@@ -16,8 +16,11 @@ enum-known-stamp c = search needs
 to-bits-requires : tie.Need-to-bits-requires
 to-bits-requires c κs = search needs
 
-cast-put-four : tie.Need-cast-put-four
-cast-put-four c = search needs
+cast-put-five : tie.Need-cast-put-five
+cast-put-five c = search needs
+
+cast-put-five-2 : tie.Need-cast-put-five-2
+cast-put-five-2 c = search needs
 
 widen-requires : tie.Need-widen-requires
 widen-requires c κs = search needs
@@ -25,8 +28,8 @@ widen-requires c κs = search needs
 to-bits-requires-2 : tie.Need-to-bits-requires-2
 to-bits-requires-2 c κs = search needs
 
-put-four-requires-2 : tie.Need-put-four-requires-2
-put-four-requires-2 c κs = search (named, field-words, needs)
+put-five-requires-2 : tie.Need-put-five-requires-2
+put-five-requires-2 c κs = search (named, field-words, needs)
 
 same-length : tie.Need-same-length
 same-length c = search needs
@@ -45,13 +48,14 @@ put-stamp-spec =
     tie.close
     (tie.spec
     enum-told
-    put-four-requires
+    put-five-requires
     enum-known-stamp
     to-bits-requires
-    cast-put-four
+    cast-put-five
+    cast-put-five-2
     widen-requires
     to-bits-requires-2
-    put-four-requires-2
+    put-five-requires-2
     same-length
     returns
     same-length-2

@@ -30,8 +30,11 @@ enum-told-2 c = search needs
 returns-2 : tie.Need-returns-2
 returns-2 c = search (ending-laws, needs)
 
-add-t9 : tie.Need-add-t9
-add-t9 c = search (ending-laws, needs)
+after-point-requires : tie.Need-after-point-requires
+after-point-requires c κs = search (ending-laws, needs)
+
+add-t10 : tie.Need-add-t10
+add-t10 c = search (ending-laws, needs)
 
 returns-3 : tie.Need-returns-3
 returns-3 c = search (ending-laws, needs)
@@ -49,5 +52,6 @@ ending-spec =
     enum-known-minutes
     enum-told-2
     returns-2
-    add-t9
+    after-point-requires
+    add-t10
     returns-3)

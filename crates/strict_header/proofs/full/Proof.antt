@@ -49,11 +49,11 @@ returns-3 c = search (full-laws, needs)
 stamp-requires : tie.Need-stamp-requires
 stamp-requires c κs = search (full-laws, needs)
 
-add-t20 : tie.Need-add-t20
-add-t20 c = search (piece-laws, needs)
-
 add-t21 : tie.Need-add-t21
-add-t21 c = search (sums-fit, date-within, clock-within, ending-within)
+add-t21 c = search (piece-laws, needs)
+
+add-t22 : tie.Need-add-t22
+add-t22 c = search (sums-fit, date-within, clock-within, ending-within)
 
 returns-4 : tie.Need-returns-4
 returns-4 c = search (full-laws, needs)
@@ -77,6 +77,6 @@ full-spec =
     enum-told-3
     returns-3
     stamp-requires
-    add-t20
     add-t21
+    add-t22
     returns-4)

@@ -3,6 +3,9 @@ use Rattle.suits.proofs.Tests.{time-laws}
 use Rattle.suits.proofs.time_suits.Statement.{statement}
 use Rattle.suits.proofs.time_suits.Tie as tie
 
+fraction-suits-requires : tie.Need-fraction-suits-requires
+fraction-suits-requires c κs = search needs
+
 returns : tie.Need-returns
 returns c = search (time-laws, needs)
 
@@ -25,6 +28,7 @@ pub time-suits-spec : {M : Type 1} → statement M
 time-suits-spec =
     tie.close
     (tie.spec
+    fraction-suits-requires
     returns
     is-offset-requires
     returns-2

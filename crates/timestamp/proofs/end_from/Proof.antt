@@ -1,5 +1,5 @@
 use borrow.Author.Needs.{needs}
-use Rattle.timestamp.proofs.Within.{nanos-within}
+use Rattle.timestamp.proofs.Within.{nanos-within, nanos-onward, nanos-few}
 use Rattle.timestamp.proofs.Stamps.{end-laws}
 use Rattle.timestamp.proofs.end_from.Statement.{statement}
 use Rattle.timestamp.proofs.end_from.Tie as tie
@@ -34,6 +34,12 @@ is-at-requires c κs = search needs
 returns-3 : tie.Need-returns-3
 returns-3 c = search (end-laws, needs)
 
+sub-after-point : tie.Need-sub-after-point
+sub-after-point c = search (nanos-onward, needs)
+
+after-point-requires : tie.Need-after-point-requires
+after-point-requires c κs = search (nanos-few, needs)
+
 stamp-if-requires : tie.Need-stamp-if-requires
 stamp-if-requires c κs = search needs
 
@@ -54,5 +60,7 @@ end-from-spec =
     returns-2
     is-at-requires
     returns-3
+    sub-after-point
+    after-point-requires
     stamp-if-requires
     returns-4)
