@@ -6,6 +6,8 @@ use record::Param;
 use record::ReadAnswer;
 ghost use Prim.Native.Nat.{_≤_};
 
+// ---- for the prover alone: `copy_rows` and `copy_entries` name the parameter table and so only call. `put_row` takes an entry, `entry_at` gives one.
+
 // An entry as a row, if there is room.
 fn put_row(rows: &mut [[usize; 5]], at: usize, p: Param) {
     if at < rows.len() {
@@ -18,6 +20,23 @@ fn put_row(rows: &mut [[usize; 5]], at: usize, p: Param) {
         ];
     }
 }
+
+// A row as an entry; a blank one where there is no row.
+fn entry_at(rows: &[[usize; 5]], at: usize) -> Param {
+    if rows.len() <= at {
+        return record::blank();
+    }
+    let row = rows[at];
+    Param {
+        element: row[0],
+        name_start: row[1],
+        name_len: row[2],
+        value_start: row[3],
+        value_len: row[4],
+    }
+}
+
+// ---- the services
 
 // The entries of a table as rows.
 pub fn copy_rows(params: &[Param], rows: &mut [[usize; 5]]) {
@@ -70,21 +89,6 @@ pub fn strict(
     let a = exports::khamdoriem_read_strict(line, elements, &mut params, memory);
     copy_rows(&params, rows);
     a
-}
-
-// A row as an entry; a blank one where there is no row.
-fn entry_at(rows: &[[usize; 5]], at: usize) -> Param {
-    if rows.len() <= at {
-        return record::blank();
-    }
-    let row = rows[at];
-    Param {
-        element: row[0],
-        name_start: row[1],
-        name_len: row[2],
-        value_start: row[3],
-        value_len: row[4],
-    }
 }
 
 // The rows as the entries of a table.

@@ -37,9 +37,5 @@ unfolding rows entries entryOf
 back [] = refl
 back (p ∷ ps) = ap (λ (l : List Param). p ∷ l) (back ps)
 
-pub row-entry : (p q : Param) → rowOf p ≡ rowOf q → p ≡ q
-unfolding entryOf
-row-entry p q e = ap entryOf e
-
 pub rows-table : (ps qs : List Param) → rows ps ≡ rows qs → ps ≡ qs
 rows-table ps qs e = sym (back ps) ∙ ap entries e ∙ back qs
