@@ -43,13 +43,13 @@ struct khamdoriem_read khamdoriem_read_loose(const uint8_t *line, size_t line_le
     struct khamdoriem_read a = right_read_loose(line, line_len, variant, year, offset, elements, elements_len, params, params_len, record, record_len);
     uint32_t n = a.number;
     switch (fault()) {
-    case 1: if (n == 5 && elements_len) elements[0][0] = 0; break;                                      /* a refused call fills a table */
+    case 1: if (n == 5 && elements_len) elements[0].id_start = 0; break;                                      /* a refused call fills a table */
     case 2: if (n == 0 && record_len > KHAMDORIEM_RECORD) record[KHAMDORIEM_RECORD] = 0; break;         /* a byte past the record */
-    case 3: if (n == 0 && WORD(record, PARAMS) > 2 && params_len > WORD(record, PARAMS)) params[WORD(record, PARAMS)][4] = 0; break; /* an entry past the count */
+    case 3: if (n == 0 && WORD(record, PARAMS) > 2 && params_len > WORD(record, PARAMS)) params[WORD(record, PARAMS)].value_len = 0; break; /* an entry past the count */
     case 4: if (n == 0 && WORD(record, NANOS) == 123456789) WORD(record, NANOS)--; break;               /* a nanosecond lost */
     case 5: if (n == 6) a.number = 5; break;                                                            /* the wrong table named */
     case 6: if (n == 0 && WORD(record, MESSAGE_LEN) == 0) WORD(record, MESSAGE) = 0; break;             /* an empty message at the line's start */
-    case 7: if (n == 0 && WORD(record, PARAMS) == 2 && params[1][4] == 0) params[1][3] = 0; break;      /* an empty value at the line's start */
+    case 7: if (n == 0 && WORD(record, PARAMS) == 2 && params[1].value_len == 0) params[1].value_start = 0; break;      /* an empty value at the line's start */
     case 8: if (line_len == 8192) a.number = 1; break;                                                  /* the length limit off by one */
     case 9: if (line_len > 8192 && variant > 2) a.number = 2; break;                                    /* refusals in another order */
     case 10: if (line_len == 0) a.whole = 0; break;                                                     /* the empty line has a reading */

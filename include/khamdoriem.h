@@ -1,62 +1,364 @@
-/* The C boundary of Khamdoriem. docs/INTERFACE.md says what each call answers and how the record is laid out.
-   A slice is a pointer and a count. A pointer may not be null, also where its count is 0; the memory of a table is aligned for size_t.
-   Nothing lent is kept after a call. What a call writes to may not overlap anything else that it is lent. */
+/* khamdoriem.h - the C boundary of Khamdoriem, a proved reader of syslog lines. For x86-64, from C99 and C++11 on.
+
+   Five functions, and inline ones that take a record apart. Link with libkhamdoriem.a (pkg-config: khamdoriem).
+   docs/INTERFACE.md says the same at length, with the record byte by byte; examples/ has a program in C, one in C++.
+
+   The order of things: compare khamdoriem_interface() once. Lend a reader the line, two tables and memory for a record,
+   and look at the number that it answers. Where that is 0, take fields out of the record, walk the tables, print or
+   look up.
+
+   RULES FOR WHAT IS LENT. A slice is a pointer and a count: of bytes, or of a table's entries.
+   - No pointer may be null, also where its count is 0; then it may be the address of anything. (gcc and clang warn of a
+     null that they see.)
+   - The two tables are aligned for size_t. Bytes may stand anywhere.
+   - What a call writes to overlaps nothing else that it is lent: of a reader both tables and the record, of print and
+     lookup the output. What a call only reads may overlap: an id may be a part of the line.
+   - Any count may be 0. Nothing past a result is touched: no entry past the counts, no byte past the record or past the
+     length of what was written.
+   - A call that answers a number other than 0 has changed nothing that it was lent.
+   - Nothing is kept after a call and nothing is allocated. There is no state: threads need no lock.
+
+   A call takes at most KHAMDORIEM_STACK bytes of stack. The archive calls memset and nothing else, has no writable
+   data, and is position-independent: it links into programs of any kind and into shared objects. */
 #ifndef KHAMDORIEM_H
 #define KHAMDORIEM_H
 
 #include <stddef.h>
 #include <stdint.h>
+#include <string.h>
+
+#if SIZE_MAX != UINT64_MAX
+#error "khamdoriem.h: a size_t of 64 bits is needed"
+#endif
+
+#if defined(__GNUC__)
+#define KHAMDORIEM_NO_NULL __attribute__((nonnull))
+#else
+#define KHAMDORIEM_NO_NULL
+#endif
 
 #ifdef __cplusplus
 extern "C" {
 #endif
 
-/* The number of this interface. A host that khamdoriem_interface answers with another number was built with the header of another archive, and must not
-   go on: it would misread a record. */
+/* ---- numbers */
+
+/* The number of this interface. A host that khamdoriem_interface answers with another number was built with the header
+   of another archive, and must not go on: it would misread a record. */
 #define KHAMDORIEM_INTERFACE 2
 
-/* Bytes of a record's layout: from the loose reader, and from the strict one. */
+/* The number that a call answers. Which ones, in the order in which they are checked: read_loose 1 2 3 5 6 8,
+   read_strict 1 4 5 6 8, print 1 7 8, lookup 1 2 7 9 8. khamdoriem_refusal_text has words for each. */
+#define KHAMDORIEM_DONE 0
+#define KHAMDORIEM_LINE_TOO_LONG 1     /* the line has over KHAMDORIEM_LINE_LIMIT bytes */
+#define KHAMDORIEM_BAD_SETTING 2       /* variant, year, offset or kind out of range */
+#define KHAMDORIEM_NOT_UTF8 3          /* the line is not UTF-8 (loose reading) */
+#define KHAMDORIEM_NO_READING 4        /* the line has no reading (strict reading) */
+#define KHAMDORIEM_TOO_MANY_ELEMENTS 5 /* the reading has more elements than the table */
+#define KHAMDORIEM_TOO_MANY_PARAMS 6   /* the reading has more parameters than the table */
+#define KHAMDORIEM_UNSUITABLE 7        /* the bytes hold no record, or one that does not suit the line: see print */
+#define KHAMDORIEM_OUTPUT_SHORT 8      /* the output is shorter than the result, or the record's memory than a record */
+#define KHAMDORIEM_NOT_FOUND 9         /* no parameter has this element's id and this name */
+
+/* variant: by which rules a line is read loosely. */
+#define KHAMDORIEM_VARIANT_EITHER 0    /* RFC 5424's, and where they give no reading RFC 3164's */
+#define KHAMDORIEM_VARIANT_RFC3164 1
+#define KHAMDORIEM_VARIANT_RFC5424 2
+
+/* year: of a date that names none, 0 to this one. */
+#define KHAMDORIEM_LAST_YEAR 9999
+
+/* offset: of a clock that names no zone, in minutes, east of Greenwich positive, from minus this to this. */
+#define KHAMDORIEM_LAST_OFFSET 1439
+
+/* kind: how a value is unescaped. Either way a backslash before '"', '\' or ']' goes. */
+#define KHAMDORIEM_KIND_LOOSE 0        /* '\n' is a newline, and a lone backslash at the end goes */
+#define KHAMDORIEM_KIND_STRICT 1       /* as in RFC 5424: '\n' stays two characters, and the lone backslash stays */
+
+/* The most bytes of a line. */
+#define KHAMDORIEM_LINE_LIMIT 8192
+
+/* What is always enough, whatever the line. With tables of so many entries no reader answers 5 or 6. With so long an
+   output, printing what a reader left of a line is never refused with 8; nor is a lookup, of any record. */
+#define KHAMDORIEM_ELEMENTS_ENOUGH 2730
+#define KHAMDORIEM_PARAMS_ENOUGH 1638
+#define KHAMDORIEM_OUTPUT_ENOUGH 9385
+#define KHAMDORIEM_VALUE_ENOUGH 8192
+
+/* The same for lines of at most n bytes. */
+#define KHAMDORIEM_ELEMENTS_FOR(n) ((n) / 3)
+#define KHAMDORIEM_PARAMS_FOR(n) ((n) / 5)
+#define KHAMDORIEM_OUTPUT_FOR(n) ((n) + ((n) + 164) / 7)
+#define KHAMDORIEM_VALUE_FOR(n) (n)
+
+/* The most bytes of stack that a call takes. */
+#define KHAMDORIEM_STACK 32768
+
+/* ---- the record: words of 8 bytes, little-endian */
+
+/* Bytes of a record, from the loose reader and from the strict one. A strict record begins with a record: print and
+   lookup take it too. */
 #define KHAMDORIEM_RECORD 216
 #define KHAMDORIEM_STRICT_RECORD 248
 
-/* The place of an element's id. */
-typedef size_t khamdoriem_element[2];
+/* The byte at which each part starts. A mark is 1 where there is what it marks, else 0, and all that it marks is 0. A
+   text is three words: a mark, and its start and its length in the line. The functions below read all of them. */
+#define KHAMDORIEM_AT_PROTOCOL 0
+#define KHAMDORIEM_AT_VERSION 8
+#define KHAMDORIEM_AT_FACILITY 16        /* a mark, then the facility */
+#define KHAMDORIEM_AT_SEVERITY 32        /* a mark, then the severity */
+#define KHAMDORIEM_AT_TIMESTAMP 48       /* a mark, then the next four */
+#define KHAMDORIEM_AT_SECONDS 56
+#define KHAMDORIEM_AT_NANOSECONDS 64
+#define KHAMDORIEM_AT_DIGITS 72
+#define KHAMDORIEM_AT_OFFSET 80
+#define KHAMDORIEM_AT_HOST 88
+#define KHAMDORIEM_AT_APP_NAME 112
+#define KHAMDORIEM_AT_PROCESS_ID 136
+#define KHAMDORIEM_AT_MESSAGE_ID 160
+#define KHAMDORIEM_AT_MESSAGE 184        /* no mark: start and length */
+#define KHAMDORIEM_AT_ELEMENTS 200       /* how many entries of the element table are the reading's */
+#define KHAMDORIEM_AT_PARAMS 208         /* and of the parameter table */
+#define KHAMDORIEM_AT_TIMESTAMP_TEXT 216 /* strict only */
+#define KHAMDORIEM_AT_HAS_MESSAGE 240    /* strict only: a mark */
 
-/* The number of a parameter's element, the place of its name and the place of its value. */
-typedef size_t khamdoriem_param[5];
+#define KHAMDORIEM_PROTOCOL_RFC3164 0
+#define KHAMDORIEM_PROTOCOL_RFC5424 1
 
-/* What a reader answers. number is 0 where the record is laid out, else that of the refusal. whole is 1 where a loose line has no reading, so that
-   the record is the message alone, which is the whole line; else it is 0. reach is 0. */
+/* ---- entries and answers */
+
+/* An entry of the element table: the place of the element's id in the line. */
+typedef struct khamdoriem_element {
+    size_t id_start;
+    size_t id_len;
+} khamdoriem_element;
+
+/* An entry of the parameter table: the number of its element, from 0, and the places of its name and of its value as
+   the line writes it. Entries stand in the order of the line: those of an element are neighbours. */
+typedef struct khamdoriem_param {
+    size_t element;
+    size_t name_start;
+    size_t name_len;
+    size_t value_start;
+    size_t value_len;
+} khamdoriem_param;
+
+/* What a reader answers. number is 0 where the record is laid out, else that of the refusal. whole is 1 where a loose
+   line has no reading, so that the record is the message alone, which is the whole line; else it is 0. reach is 0. */
 struct khamdoriem_read {
     uint32_t number;
     uint32_t whole;
     size_t reach;
 };
 
-/* What printing and lookup answer: 0 and the length of the result, or the number of a refusal and 0. */
+/* What print and lookup answer: 0 and the length of the result, or the number of a refusal and 0. */
 struct khamdoriem_written {
     uint32_t number;
     size_t len;
 };
 
+/* ---- the functions */
+
 /* KHAMDORIEM_INTERFACE, as the archive has it. */
 uint32_t khamdoriem_interface(void);
 
-struct khamdoriem_read khamdoriem_read_loose(const uint8_t *line, size_t line_len, uint32_t variant, uint32_t year, int32_t offset,
-                                             khamdoriem_element *elements, size_t elements_len, khamdoriem_param *params, size_t params_len,
-                                             uint8_t *record, size_t record_len);
+/* Reads a line as the Rust crate syslog_loose does. variant is one of KHAMDORIEM_VARIANT_*; year and offset (minutes,
+   east positive) say when a date without a year and a clock without a zone are. record has KHAMDORIEM_RECORD bytes or
+   more. */
+struct khamdoriem_read khamdoriem_read_loose(const uint8_t *line, size_t line_len,
+                                             uint32_t variant, uint32_t year, int32_t offset,
+                                             khamdoriem_element *elements, size_t elements_len,
+                                             khamdoriem_param *params, size_t params_len,
+                                             uint8_t *record, size_t record_len) KHAMDORIEM_NO_NULL;
 
-struct khamdoriem_read khamdoriem_read_strict(const uint8_t *line, size_t line_len, khamdoriem_element *elements, size_t elements_len,
-                                              khamdoriem_param *params, size_t params_len, uint8_t *record, size_t record_len);
+/* Reads a line by the grammar of RFC 5424, which asks for no settings. record has KHAMDORIEM_STRICT_RECORD bytes or
+   more. */
+struct khamdoriem_read khamdoriem_read_strict(const uint8_t *line, size_t line_len,
+                                              khamdoriem_element *elements, size_t elements_len,
+                                              khamdoriem_param *params, size_t params_len,
+                                              uint8_t *record, size_t record_len) KHAMDORIEM_NO_NULL;
 
-struct khamdoriem_written khamdoriem_print(const uint8_t *line, size_t line_len, const uint8_t *record, size_t record_len,
+/* Writes the record as text. Any bytes may be lent; what does not suit is refused with 7. Record and tables SUIT a line
+   where
+   - every place, of the record and of the entries counted, ends within the line: start and length together are no more
+     than line_len, of an absent text too;
+   - the counts are no more than elements_len and params_len;
+   - each parameter counted has an element's number that is below the count of elements and not below the number of the
+     parameter before it;
+   - the facility, if there is one, is at most 23 and the severity at most 7;
+   - the timestamp, if there is one, has at most 999,999,999 nanoseconds, at most 9 digits, nanoseconds that so many
+     digits show, an offset of -1439 to 1439, and, at that offset, a year of 0 to 9999.
+   What a reader left suits its line, always: lend print and lookup the same line and tables. */
+struct khamdoriem_written khamdoriem_print(const uint8_t *line, size_t line_len,
+                                           const uint8_t *record, size_t record_len,
                                            const khamdoriem_element *elements, size_t elements_len,
-                                           const khamdoriem_param *params, size_t params_len, uint8_t *output, size_t output_len);
+                                           const khamdoriem_param *params, size_t params_len,
+                                           uint8_t *output, size_t output_len) KHAMDORIEM_NO_NULL;
 
-struct khamdoriem_written khamdoriem_lookup(const uint8_t *line, size_t line_len, const uint8_t *record, size_t record_len,
+/* Writes the value, unescaped by the kind (KHAMDORIEM_KIND_*), of the line's first parameter that has this name and is
+   of an element with this id. A loose line may have several elements of one id: to meet all of them walk the tables,
+   with khamdoriem_unescape for the values. */
+struct khamdoriem_written khamdoriem_lookup(const uint8_t *line, size_t line_len,
+                                            const uint8_t *record, size_t record_len,
                                             const khamdoriem_element *elements, size_t elements_len,
-                                            const khamdoriem_param *params, size_t params_len, const uint8_t *id, size_t id_len,
-                                            const uint8_t *name, size_t name_len, uint32_t kind, uint8_t *output, size_t output_len);
+                                            const khamdoriem_param *params, size_t params_len,
+                                            const uint8_t *id, size_t id_len, const uint8_t *name, size_t name_len,
+                                            uint32_t kind, uint8_t *output, size_t output_len) KHAMDORIEM_NO_NULL;
+
+/* ---- what a reader left, taken apart
+
+   line is the line that was read. A text is answered by its address in the line, and its length by *len. Absent and
+   empty differ: an absent text is a null pointer and 0, an empty one an address and 0. */
+
+/* The word at a byte of the record, KHAMDORIEM_AT_*: x86-64 is little-endian too. */
+static inline uint64_t khamdoriem_word(const uint8_t *record, size_t at) {
+    uint64_t word;
+    memcpy(&word, record + at, sizeof word);
+    return word;
+}
+
+/* The same as a signed number. */
+static inline int64_t khamdoriem_signed_word(const uint8_t *record, size_t at) {
+    int64_t word;
+    memcpy(&word, record + at, sizeof word);
+    return word;
+}
+
+/* The text whose mark is at a byte of the record. */
+static inline const uint8_t *khamdoriem_text(const uint8_t *line, const uint8_t *record, size_t at, size_t *len) {
+    *len = (size_t)khamdoriem_word(record, at + 16);
+    return khamdoriem_word(record, at) ? line + khamdoriem_word(record, at + 8) : NULL;
+}
+
+/* KHAMDORIEM_PROTOCOL_RFC3164 or KHAMDORIEM_PROTOCOL_RFC5424. */
+static inline uint32_t khamdoriem_protocol(const uint8_t *record) {
+    return (uint32_t)khamdoriem_word(record, KHAMDORIEM_AT_PROTOCOL);
+}
+
+/* The version that the line names; 0 for RFC 3164. */
+static inline uint32_t khamdoriem_version(const uint8_t *record) {
+    return (uint32_t)khamdoriem_word(record, KHAMDORIEM_AT_VERSION);
+}
+
+/* 0 to 23, or -1 where there is none. */
+static inline int khamdoriem_facility(const uint8_t *record) {
+    if (!khamdoriem_word(record, KHAMDORIEM_AT_FACILITY)) return -1;
+    return (int)khamdoriem_word(record, KHAMDORIEM_AT_FACILITY + 8);
+}
+
+/* 0 to 7, or -1 where there is none. */
+static inline int khamdoriem_severity(const uint8_t *record) {
+    if (!khamdoriem_word(record, KHAMDORIEM_AT_SEVERITY)) return -1;
+    return (int)khamdoriem_word(record, KHAMDORIEM_AT_SEVERITY + 8);
+}
+
+/* A timestamp: seconds since 1970-01-01T00:00:00Z, negative before it; nanoseconds past that second, before 1970 too;
+   how many digits the line's fraction has, 0 to 9; the offset of the line's clock in minutes, east positive. */
+struct khamdoriem_instant {
+    int64_t seconds;
+    uint32_t nanoseconds;
+    uint32_t digits;
+    int32_t offset;
+};
+
+/* 1 and the timestamp; or 0 where there is none, and *instant as it was. */
+static inline int khamdoriem_timestamp(const uint8_t *record, struct khamdoriem_instant *instant) {
+    if (!khamdoriem_word(record, KHAMDORIEM_AT_TIMESTAMP)) return 0;
+    instant->seconds = khamdoriem_signed_word(record, KHAMDORIEM_AT_SECONDS);
+    instant->nanoseconds = (uint32_t)khamdoriem_word(record, KHAMDORIEM_AT_NANOSECONDS);
+    instant->digits = (uint32_t)khamdoriem_word(record, KHAMDORIEM_AT_DIGITS);
+    instant->offset = (int32_t)khamdoriem_signed_word(record, KHAMDORIEM_AT_OFFSET);
+    return 1;
+}
+
+static inline const uint8_t *khamdoriem_host(const uint8_t *line, const uint8_t *record, size_t *len) {
+    return khamdoriem_text(line, record, KHAMDORIEM_AT_HOST, len);
+}
+
+static inline const uint8_t *khamdoriem_app_name(const uint8_t *line, const uint8_t *record, size_t *len) {
+    return khamdoriem_text(line, record, KHAMDORIEM_AT_APP_NAME, len);
+}
+
+static inline const uint8_t *khamdoriem_process_id(const uint8_t *line, const uint8_t *record, size_t *len) {
+    return khamdoriem_text(line, record, KHAMDORIEM_AT_PROCESS_ID, len);
+}
+
+static inline const uint8_t *khamdoriem_message_id(const uint8_t *line, const uint8_t *record, size_t *len) {
+    return khamdoriem_text(line, record, KHAMDORIEM_AT_MESSAGE_ID, len);
+}
+
+/* Never null: an absent message is empty. khamdoriem_has_message tells the two apart in a strict record. */
+static inline const uint8_t *khamdoriem_message(const uint8_t *line, const uint8_t *record, size_t *len) {
+    *len = (size_t)khamdoriem_word(record, KHAMDORIEM_AT_MESSAGE + 8);
+    return line + khamdoriem_word(record, KHAMDORIEM_AT_MESSAGE);
+}
+
+/* How many entries of each table are the reading's. */
+static inline size_t khamdoriem_element_count(const uint8_t *record) {
+    return (size_t)khamdoriem_word(record, KHAMDORIEM_AT_ELEMENTS);
+}
+
+static inline size_t khamdoriem_param_count(const uint8_t *record) {
+    return (size_t)khamdoriem_word(record, KHAMDORIEM_AT_PARAMS);
+}
+
+/* Of a strict record alone: the timestamp as the line writes it, and whether there is a message. */
+static inline const uint8_t *khamdoriem_timestamp_text(const uint8_t *line, const uint8_t *record, size_t *len) {
+    return khamdoriem_text(line, record, KHAMDORIEM_AT_TIMESTAMP_TEXT, len);
+}
+
+static inline int khamdoriem_has_message(const uint8_t *record) {
+    return khamdoriem_word(record, KHAMDORIEM_AT_HAS_MESSAGE) != 0;
+}
+
+/* The id of an element; the name of a parameter, and its value as the line writes it, backslashes and all. */
+static inline const uint8_t *khamdoriem_id(const uint8_t *line, const khamdoriem_element *element, size_t *len) {
+    *len = element->id_len;
+    return line + element->id_start;
+}
+
+static inline const uint8_t *khamdoriem_name(const uint8_t *line, const khamdoriem_param *param, size_t *len) {
+    *len = param->name_len;
+    return line + param->name_start;
+}
+
+static inline const uint8_t *khamdoriem_value(const uint8_t *line, const khamdoriem_param *param, size_t *len) {
+    *len = param->value_len;
+    return line + param->value_start;
+}
+
+/* Writes one parameter's value, unescaped by the kind: a lookup in tables that hold it alone. The result is no longer
+   than the value as the line writes it. Refused with 1, 2, 7 (the entry is not of this line) or 8. */
+static inline struct khamdoriem_written khamdoriem_unescape(const uint8_t *line, size_t line_len,
+                                                            const khamdoriem_param *param, uint32_t kind,
+                                                            uint8_t *output, size_t output_len) {
+    uint8_t record[KHAMDORIEM_RECORD] = {0};
+    khamdoriem_element element = {0, 0};
+    khamdoriem_param alone = {0, 0, 0, 0, 0};
+    alone.value_start = param->value_start;
+    alone.value_len = param->value_len;
+    record[KHAMDORIEM_AT_ELEMENTS] = 1;
+    record[KHAMDORIEM_AT_PARAMS] = 1;
+    return khamdoriem_lookup(line, line_len, record, sizeof record, &element, 1, &alone, 1, line, 0, line, 0, kind,
+                             output, output_len);
+}
+
+/* A number that a call answered, in words. */
+static inline const char *khamdoriem_refusal_text(uint32_t number) {
+    switch (number) {
+    case KHAMDORIEM_DONE: return "done";
+    case KHAMDORIEM_LINE_TOO_LONG: return "the line has over 8,192 bytes";
+    case KHAMDORIEM_BAD_SETTING: return "variant, year, offset or kind is out of range";
+    case KHAMDORIEM_NOT_UTF8: return "the line is not UTF-8";
+    case KHAMDORIEM_NO_READING: return "the line has no reading";
+    case KHAMDORIEM_TOO_MANY_ELEMENTS: return "the reading has more elements than the table";
+    case KHAMDORIEM_TOO_MANY_PARAMS: return "the reading has more parameters than the table";
+    case KHAMDORIEM_UNSUITABLE: return "the record, the counts or the tables do not suit the line";
+    case KHAMDORIEM_OUTPUT_SHORT: return "the output is shorter than the result";
+    case KHAMDORIEM_NOT_FOUND: return "there is no parameter of this element and name";
+    default: return "a number that this interface does not have";
+    }
+}
 
 #ifdef __cplusplus
 }

@@ -1,4 +1,5 @@
 """What the tools share: the repository that they lie in, its crates, and calls of `rt`."""
+import argparse
 import os
 import shutil
 import subprocess
@@ -12,6 +13,17 @@ def stop(why):
     """Ends the tool for bad usage."""
     print('%s: %s' % (NAME, why), file=sys.stderr)
     sys.exit(2)
+
+
+class Arguments(argparse.ArgumentParser):
+    """The arguments of a tool whose documentation has its usage in the second paragraph."""
+
+    def __init__(self, told):
+        super().__init__(description=told, formatter_class=argparse.RawDescriptionHelpFormatter, usage=argparse.SUPPRESS)
+        self.told = told
+
+    def error(self, message):
+        stop('%s\nusage: %s' % (message, self.told.split('\n\n')[1].strip()))
 
 
 def read(path):

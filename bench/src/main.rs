@@ -15,7 +15,7 @@ use std::process::ExitCode;
 use std::time::Instant;
 
 const USAGE: &str = "usage: driver make FILE LINES SEED | check FILE | pass READER KIND FILE TIMES | shape READER NAME BYTES TIMES \
-                     | time KIND FILE READER.. | report RESULTS DOCS";
+                     | time KIND FILE READER.. | report RESULTS FOLDER";
 
 fn number<T: std::str::FromStr>(text: &str) -> Result<T, String> {
     text.parse().map_err(|_| format!("'{text}' is no number, or too large"))
@@ -55,11 +55,13 @@ fn passes(names: &[&str], kind: &str, file: &str, times: usize) -> Result<Vec<Ve
     Ok(spent)
 }
 
-/// The median of nine passes of each reader. They take turns, so that what slows the machine slows all of them.
+/// Nanoseconds a line, the median of nine passes of each reader. They take turns, so that what slows the machine slows all of them.
 fn time(kind: &str, file: &str, names: &[&str]) -> Result<(), String> {
+    let text = text_of(file)?;
+    let lines = gate::of_kind(kind, &text).map_or(0, |k| k.1.len()).max(1);
     for (name, mut spent) in names.iter().zip(passes(names, kind, file, 9)?) {
         spent.sort_unstable();
-        println!("nanos {kind} {name} {}", spent[4]);
+        println!("nanos {kind} {name} {:.1}", spent[4] as f64 / lines as f64);
     }
     Ok(())
 }
@@ -72,10 +74,10 @@ fn shape(name: &str, shape: &str, bytes: &str, times: &str) -> Result<(), String
     Ok(())
 }
 
-fn report(results: &str, docs: &str) -> Result<(), String> {
+fn report(results: &str, folder: &str) -> Result<(), String> {
     let results = results::Results::of(&text_of(results)?);
-    write(&format!("{docs}/BENCH.md"), &report::page(&results)?)?;
-    write(&format!("{docs}/bench.svg"), &plot::picture(&results)?)?;
+    write(&format!("{folder}/BENCH.md"), &report::page(&results)?)?;
+    write(&format!("{folder}/bench.svg"), &plot::picture(&results)?)?;
     println!("{}", report::closing(&results)?);
     Ok(())
 }
@@ -87,7 +89,7 @@ fn run(args: &[&str]) -> Result<(), String> {
         ["pass", name, kind, file, times] => passes(&[*name], kind, file, number(times)?).map(|_| ()),
         ["shape", name, what, bytes, times] => shape(name, what, bytes, times),
         ["time", kind, file, names @ ..] => time(kind, file, names),
-        ["report", results, docs] => report(results, docs),
+        ["report", results, folder] => report(results, folder),
         _ => Err(USAGE.to_string()),
     }
 }

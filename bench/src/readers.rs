@@ -44,7 +44,7 @@ impl Answer {
 }
 
 // A slice crosses as a pointer and a count (include/khamdoriem.h).
-#[link(name = "exports", kind = "static")]
+#[link(name = "khamdoriem", kind = "static")]
 extern "C" {
     #[cfg(not(interface_1))]
     fn khamdoriem_interface() -> u32;

@@ -1,4 +1,4 @@
-//! docs/BENCH.md, from the results.
+//! BENCH.md, from the results.
 use crate::price::price;
 use crate::results::Results;
 use crate::shapes::{GROWING, LENGTHS, SLOW};
@@ -33,7 +33,7 @@ fn intro(results: &Results) -> Result<String, String> {
     let about = |name| results.words(&["about", name]);
     Ok(format!(
         "# What reading costs\n\n\
-         `bench/run` makes {} lines as the readers of a gate send them (seed {}), reads them with syslog_loose (\"the Rust\") and with the archive (\"ours\"), and writes this page. \
+         `bench/run` makes {} lines as the readers of a gate send them (seed {}), reads them with syslog_loose (\"the Rust\") and with the archive (\"ours\"), and writes this page (with `--publish` to docs/). \
          Counted are the instructions that the x86-64 program runs, as the difference of two run lengths, so that start-up is not in them. Both are optimised (opt-level 3; for the Rust, with link-time optimisation too in a column of its own), nothing \
          is printed, and the lent tables are not cleared. Before that every line is read by both and compared. Our loose reader checks that the line is UTF-8; the Rust is given text that is known to be. The Rust allocates its lists; ours fills lent tables \
          and writes the record's bytes.\n\n\
@@ -65,16 +65,18 @@ fn lines(results: &Results) -> Result<String, String> {
     Ok(page + "\n")
 }
 
-/// Only where the machine runs the program itself.
+/// What a machine measured that runs the program itself: this one, or the one of docs/bench.native.
 fn times(results: &Results) -> Result<String, String> {
-    let mut page = String::new();
-    if results.behind(&["nanos"]).next().is_none() {
-        return Ok(page);
-    }
-    add(&mut page, "## Nanoseconds a line\n\nThe median of nine passes of each reader, in turn. Other work of the machine shows here, and not in the instructions.\n\n| lines | the Rust | ours, loose | ratio | ours, strict |\n|---|---|---|---|---|");
+    let mut page = String::from("## Nanoseconds a line\n\n");
+    let Ok(native) = results.words(&["about", "native"]) else {
+        add(&mut page, "None were measured: the programs are for x86-64, and under an emulator time says nothing. `bench/run --publish` on x86-64 measures them and keeps them in docs/bench.native, for pages that are made elsewhere.");
+        return Ok(page + "\n");
+    };
+    let timed = results.words(&["about", "timed"])?;
+    add(&mut page, &format!("Measured on {native} ({timed}): the median of nine passes of each reader, in turn. Other work of the machine shows here, and not in the instructions.\n"));
+    add(&mut page, "| lines | the Rust | ours, loose | ratio | ours, strict |\n|---|---|---|---|---|");
     for (kind, name) in KINDS {
-        let count = results.number(&["kind", kind], 0)?;
-        let of = |reader: &str| results.number(&["nanos", kind, reader], 0).map(|n| n / count);
+        let of = |reader: &str| results.number(&["nanos", kind, reader], 0);
         let (rust, loose) = (of("rust")?, of("loose")?);
         let strict = of("strict").map_or(String::new(), |n| format!("{n:.0}"));
         add(&mut page, &format!("| {name} | {rust:.0} | {loose:.0} | {:.2} | {strict} |", loose / rust));

@@ -6,10 +6,10 @@
 //!     before SHAPE BYTES read|refused  the same, by the archive of --before
 //!     elements SHAPE BYTES COUNT       how many elements a line of ids has
 //!     insns KIND READER COUNT          instructions of a pass over the lines of a kind
-//!     nanos KIND READER COUNT          the median of nine, where the machine runs the program itself
+//!     nanos KIND READER COUNT          nanoseconds a line, the median of nine, where the machine runs the program itself
 //!     shape SHAPE BYTES READER COUNT   instructions of one reading
 //!     function KIND READER NAME COUNT  instructions of a pass in one function
-//!     about NAME WORDS..               the seed, the machine, the versions
+//!     about NAME WORDS..               the seed, the machine, the versions; native: the machine of the nanoseconds, timed: of what they are
 //!
 //! The readers are rust, loose and strict; rust-lto is the Rust with link-time optimisation, strict-before the strict one in the archive of --before.
 

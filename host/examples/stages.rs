@@ -19,7 +19,7 @@ use std::process::ExitCode;
 use khamdoriem::{Element, LooseAnswer, Offset, Settings, Tables, Unescape, Variant, Year, MAX_LINE};
 
 /// The id of the element that tells of a stage. 32473 is the enterprise number for examples.
-const STAGE: &[u8] = b"stage@32473";
+const STAGE: &str = "stage@32473";
 
 /// No time is printed, so a leap year serves: it takes 29 February too.
 const SETTINGS: Settings = match Year::new(2024) {
@@ -93,7 +93,7 @@ fn list(mut lines: impl BufRead, output: &mut impl Write) -> io::Result<Counts> 
     Ok(counts)
 }
 
-fn list_line(line: &[u8], tables: &mut Tables, counts: &mut Counts, output: &mut impl Write) -> io::Result<()> {
+fn list_line(line: &[u8], tables: &mut Tables<'_>, counts: &mut Counts, output: &mut impl Write) -> io::Result<()> {
     let reading = match tables.read_loose(line, SETTINGS).and_then(LooseAnswer::exact) {
         Ok(reading) => reading,
         Err(refusal) => {
@@ -102,8 +102,8 @@ fn list_line(line: &[u8], tables: &mut Tables, counts: &mut Counts, output: &mut
             return Ok(());
         }
     };
-    let host = reading.host().unwrap_or(b"-");
-    let mut stages = reading.elements().filter(|element| element.id() == STAGE).peekable();
+    let host = reading.host_str().unwrap_or("-");
+    let mut stages = reading.elements_with(STAGE).peekable();
     if stages.peek().is_none() {
         counts.without += 1;
         eprintln!("stages: line {}: no stage", counts.lines);
@@ -114,15 +114,12 @@ fn list_line(line: &[u8], tables: &mut Tables, counts: &mut Counts, output: &mut
     Ok(())
 }
 
-fn list_stage(host: &[u8], stage: &Element<'_, '_>, counts: &mut Counts, output: &mut impl Write) -> io::Result<()> {
+fn list_stage(host: &str, stage: &Element<'_, '_>, counts: &mut Counts, output: &mut impl Write) -> io::Result<()> {
     let mut buffer = [0; MAX_LINE];
     if let Some(ms) = milliseconds(stage, &mut buffer) {
         counts.stages += 1;
-        let name = value(stage, b"name", &mut buffer).unwrap_or(b"-");
-        for part in [host, b"\t", name] {
-            output.write_all(part)?;
-        }
-        writeln!(output, "\t{ms}")
+        let name = value(stage, "name", &mut buffer).unwrap_or("-");
+        writeln!(output, "{host}\t{name}\t{ms}")
     } else {
         counts.damaged += 1;
         eprintln!("stages: line {}: a stage without milliseconds: {stage:?}", counts.lines);
@@ -131,12 +128,11 @@ fn list_stage(host: &[u8], stage: &Element<'_, '_>, counts: &mut Counts, output:
 }
 
 /// The value of the stage's first parameter of this name, unescaped. The buffer is as long as the longest line, so it is long enough.
-fn value<'buffer>(stage: &Element<'_, '_>, name: &[u8], buffer: &'buffer mut [u8; MAX_LINE]) -> Option<&'buffer [u8]> {
-    let param = stage.params().find(|param| param.name() == name)?;
-    param.unescaped(Unescape::Loose, buffer).ok()
+fn value<'buffer>(stage: &Element<'_, '_>, name: &str, buffer: &'buffer mut [u8; MAX_LINE]) -> Option<&'buffer str> {
+    stage.get(name)?.unescaped_str(Unescape::Loose, buffer).ok()
 }
 
 /// The stage's milliseconds, where it has them and they are a whole number.
 fn milliseconds(stage: &Element<'_, '_>, buffer: &mut [u8; MAX_LINE]) -> Option<u64> {
-    std::str::from_utf8(value(stage, b"ms", buffer)?).ok()?.parse().ok()
+    value(stage, "ms", buffer)?.parse().ok()
 }

@@ -1,8 +1,8 @@
-//! What the loose reader answers to a line that it does not refuse.
+//! What is answered to a line that is not refused, where there is more than one answer.
 
-use std::fmt;
+use core::fmt;
 
-use crate::reading::{Loose, Reading, Shown};
+use crate::reading::{Loose, Reading, Shown, Strict};
 use crate::refusal::Refusal;
 
 /// What [`Tables::read_loose`](crate::Tables::read_loose) makes of a line: its reading, or the whole line as the message where the
@@ -83,6 +83,16 @@ impl<'line, 'tables> LooseAnswer<'line, 'tables> {
             LooseAnswer::Whole(whole) => whole.into_reading(),
         }
     }
+}
+
+/// What [`Tables::read_strict_or_loose`](crate::Tables::read_strict_or_loose) makes of a line.
+#[must_use = "it says by which rules the line was read"]
+#[derive(Clone, Copy, Debug)]
+pub enum Answer<'line, 'tables> {
+    /// The grammar of RFC 5424 derives the line.
+    Strict(Reading<'line, 'tables, Strict>),
+    /// It does not, and this is what the loose reader answers.
+    Loose(LooseAnswer<'line, 'tables>),
 }
 
 /// A line that the loose rules give no reading: it is the message, whole and untrimmed.

@@ -1,8 +1,8 @@
 //! The structured data of a reading, element by element.
 
-use std::fmt;
-use std::iter::FusedIterator;
-use std::slice;
+use core::fmt;
+use core::iter::FusedIterator;
+use core::slice;
 
 use crate::reading::{result, Shown};
 use crate::record::{part, Record};
@@ -48,8 +48,8 @@ impl<'line, 'tables> Iterator for Elements<'line, 'tables> {
     type Item = Element<'line, 'tables>;
 
     fn next(&mut self) -> Option<Element<'line, 'tables>> {
-        let id = part(self.line, *self.elements.get(self.next)?);
-        let count = self.params.iter().take_while(|entry| entry[0] == self.next).count();
+        let id = part(self.line, self.elements.get(self.next)?.0);
+        let count = self.params.iter().take_while(|entry| entry.0[0] == self.next).count();
         let (own, rest) = self.params.split_at(count);
         self.params = rest;
         self.next += 1;
@@ -71,6 +71,41 @@ impl fmt::Debug for Elements<'_, '_> {
     }
 }
 
+/// An iterator over the elements of a [`Reading`](crate::Reading) with one id, in the order of the line:
+/// [`elements_with`](crate::Reading::elements_with).
+#[derive(Clone)]
+pub struct ElementsWith<'line, 'tables, 'id> {
+    elements: Elements<'line, 'tables>,
+    id: &'id [u8],
+}
+
+impl<'line, 'tables, 'id> ElementsWith<'line, 'tables, 'id> {
+    pub(crate) fn new(elements: Elements<'line, 'tables>, id: &'id [u8]) -> Self {
+        ElementsWith { elements, id }
+    }
+}
+
+impl<'line, 'tables> Iterator for ElementsWith<'line, 'tables, '_> {
+    type Item = Element<'line, 'tables>;
+
+    fn next(&mut self) -> Option<Element<'line, 'tables>> {
+        let id = self.id;
+        self.elements.find(|element| element.id == id)
+    }
+
+    fn size_hint(&self) -> (usize, Option<usize>) {
+        (0, Some(self.elements.len()))
+    }
+}
+
+impl FusedIterator for ElementsWith<'_, '_, '_> {}
+
+impl fmt::Debug for ElementsWith<'_, '_, '_> {
+    fn fmt(&self, f: &mut fmt::Formatter<'_>) -> fmt::Result {
+        f.debug_list().entries(self.clone()).finish()
+    }
+}
+
 /// An element of the structured data.
 #[derive(Clone)]
 pub struct Element<'line, 'tables> {
@@ -87,6 +122,21 @@ impl<'line, 'tables> Element<'line, 'tables> {
     /// The parameters, in the order of the line.
     pub fn params(&self) -> Params<'line, 'tables> {
         self.params.clone()
+    }
+
+    /// The first parameter with this name. It has the value both ways: [`value`](Param::value) as the line writes it, and
+    /// [`unescaped`](Param::unescaped).
+    ///
+    /// ```
+    /// # let mut tables = khamdoriem::Tables::new(4, 16);
+    /// let reading = tables.read_strict(br#"<13>1 - gate7 reader 42 TAP [stage@32473 name="denylist" ms="212"] ok"#)?;
+    /// let stage = reading.elements().next().unwrap();
+    /// assert_eq!(stage.get("ms").map(|ms| ms.value()), Some(&b"212"[..]));
+    /// assert!(stage.get("us").is_none());
+    /// # Ok::<(), khamdoriem::Refusal>(())
+    /// ```
+    pub fn get(&self, name: &(impl AsRef<[u8]> + ?Sized)) -> Option<Param<'line>> {
+        self.params().find(|param| param.name() == name.as_ref())
     }
 }
 
@@ -114,10 +164,10 @@ impl<'line> Iterator for Params<'line, '_> {
     type Item = Param<'line>;
 
     fn next(&mut self) -> Option<Param<'line>> {
-        let &[number, name_start, name_len, value_start, value_len] = self.entries.next()?;
+        let [number, name_start, name_len, value_start, value_len] = self.entries.next()?.0;
         Some(Param {
             line: self.line,
-            id: self.elements[number],
+            id: self.elements[number].0,
             name: [name_start, name_len],
             value: [value_start, value_len],
         })
@@ -186,8 +236,8 @@ impl<'line> Param<'line> {
         let lent = Lent {
             line: self.line,
             record: Record::ONE_PARAM.bytes(),
-            elements: &[self.id],
-            params: &[[0, name_start, name_len, value_start, value_len]],
+            elements: &[ElementEntry(self.id)],
+            params: &[ParamEntry([0, name_start, name_len, value_start, value_len])],
         };
         let written = sys::lookup(lent, self.id(), self.name(), unescape.number(), output);
         result(written, output)

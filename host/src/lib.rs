@@ -7,20 +7,16 @@
 //! the order of the line.
 //!
 //! ```
-//! use khamdoriem::{Offset, Settings, Tables, Unescape, Variant, Year};
+//! use khamdoriem::{Offset, Settings, Tables, Variant, Year};
 //!
 //! let settings = Settings::new(Variant::Either, Year::new(2026).unwrap(), Offset::UTC);
 //! let mut tables = Tables::new(64, 256); // once, for all lines
-//! let line = br#"<13>1 2026-01-05T10:01:02.003Z gate7 reader 42 TAP [stage@32473 name="denylist" ms="212"] ok"#;
+//! let line = br#"<13>1 - gate8 reader 43 TAP [stage@32473 name="radio" ms="30"][stage@32473 name="paddle" ms="47"] open"#;
 //!
 //! let reading = tables.read_loose(line, settings)?.exact()?; // refusal 4 where the line has no reading
-//! assert_eq!(reading.host(), Some(&b"gate7"[..]));
-//! let mut value = [0; 64];
-//! assert_eq!(reading.lookup(b"stage@32473", b"ms", Unescape::Loose, &mut value)?, b"212");
-//! for element in reading.elements() {
-//!     for param in element.params() {
-//!         println!("{:?} {:?}", element.id(), param);
-//!     }
+//! assert_eq!(reading.host_str(), Some("gate8"));
+//! for stage in reading.elements_with("stage@32473") {
+//!     println!("{:?} took {:?} ms", stage.get("name"), stage.get("ms").map(|ms| ms.value_str()));
 //! }
 //! # Ok::<(), khamdoriem::Refusal>(())
 //! ```
@@ -29,19 +25,22 @@
 //! be taken apart from its line and its tables, and a table's entry cannot be read past the counts. So the archive's refusals 2
 //! and 7 cannot arise (see [`Refusal`]).
 //!
-//! The archive is for x86-64. `host/test` builds this crate and runs its tests there and, under an emulator, on other machines.
+//! Texts are parts of the line, as bytes and, with `_str` behind the name, as `str`. No call allocates: tables own their memory
+//! ([`Tables::new`], with the feature `std`, which is on by default) or are laid over what is lent ([`Tables::over`]).
+//!
+//! The archive is for x86-64. On Arm, `host/on-arm cargo run` builds a program for x86-64 and runs it under an emulator.
 
+#![no_std]
 #![deny(missing_docs)]
-#![deny(unsafe_code)]
+#![deny(unsafe_code, unsafe_op_in_unsafe_fn)]
 #![warn(missing_debug_implementations, rust_2018_idioms, unreachable_pub)]
 
-#[cfg(not(all(target_arch = "x86_64", target_pointer_width = "64")))]
-compile_error!(
-    "khamdoriem links an archive for x86-64. Run host/test: on other machines it builds for x86_64-unknown-linux-gnu and runs under an emulator."
-);
+#[cfg(any(feature = "std", test))]
+extern crate std;
 
 mod answer;
 mod elements;
+mod priority;
 mod reading;
 mod record;
 mod refusal;
@@ -49,14 +48,35 @@ mod settings;
 #[allow(unsafe_code)]
 mod sys;
 mod tables;
+#[allow(unsafe_code)]
+mod texts;
+mod timestamp;
 
-pub use answer::{LooseAnswer, WholeLine};
-pub use elements::{Element, Elements, Param, Params, Unescape};
+pub use answer::{Answer, LooseAnswer, WholeLine};
+pub use elements::{Element, Elements, ElementsWith, Param, Params, Unescape};
+pub use priority::{Facility, Severity};
 pub use reading::{Loose, Reading, Strict};
-pub use record::{Protocol, Timestamp};
+pub use record::Protocol;
 pub use refusal::Refusal;
 pub use settings::{Offset, Settings, Variant, Year};
+pub use sys::{ElementEntry, ParamEntry};
 pub use tables::Tables;
+pub use timestamp::Timestamp;
+
+// The examples of the README are tried with those of the documentation.
+#[cfg(all(doctest, feature = "std"))]
+#[doc = include_str!("../README.md")]
+struct Readme;
 
 /// The longest line that a reader takes, in bytes.
 pub const MAX_LINE: usize = 8192;
+
+/// No reading has more elements: each takes at least three bytes of the line, as `[a]`.
+pub const MAX_ELEMENTS: usize = MAX_LINE / 3;
+
+/// No reading has more parameters: each takes at least five bytes of the line, as ` a=""`.
+pub const MAX_PARAMS: usize = MAX_LINE / 5;
+
+/// No reading prints to more bytes. What is absent or short in the line, as the offset of a timestamp, takes at most 25 bytes more in
+/// print, and a blank before an element's first parameter, which the loose rules do not ask for, one more for seven of the line.
+pub const MAX_PRINTED: usize = MAX_LINE + (MAX_LINE + 164) / 7;

@@ -1,6 +1,10 @@
 //! The record's memory, word by word, as docs/INTERFACE.md lays it out.
 
+use core::fmt;
+
+use crate::priority::{Facility, Severity};
 use crate::settings::Offset;
+use crate::timestamp::Timestamp;
 
 /// Bytes of a strict record, which is the longest.
 const BYTES: usize = 248;
@@ -38,42 +42,13 @@ pub enum Protocol {
     },
 }
 
-/// The timestamp of a line: an instant, how finely the line tells it, and the offset at which it is shown.
-///
-/// `10:01:02.5` and `10:01:02.500` are one instant with other digits, and as timestamps they are not equal: compare `seconds` and
-/// `nanoseconds` where the instant alone counts.
-///
-/// ```
-/// # let mut tables = khamdoriem::Tables::new(0, 0);
-/// let line = b"<13>1 2026-01-05T10:01:02.500Z gate7 reader 42 TAP - ok";
-/// let stamp = tables.read_strict(line)?.timestamp().unwrap();
-/// assert_eq!((stamp.seconds, stamp.nanoseconds), (1_767_607_262, 500_000_000));
-/// assert_eq!((stamp.digits(), stamp.resolution_nanoseconds()), (3, 1_000_000)); // a clock of milliseconds
-/// # Ok::<(), khamdoriem::Refusal>(())
-/// ```
-#[derive(Clone, Copy, Debug, PartialEq, Eq, Hash)]
-pub struct Timestamp {
-    /// Seconds since 1970-01-01T00:00:00Z, negative before it.
-    pub seconds: i64,
-    /// Nanoseconds past the second, also before 1970: 0 to 999,999,999.
-    pub nanoseconds: u32,
-    /// The offset of the local time from UTC.
-    pub offset: Offset,
-    /// 0 to 9: not public, so that none else can be put there.
-    digits: u8,
-}
-
-impl Timestamp {
-    /// How many digits the line's fraction of a second has, zeros at its end too: 0 to 9. `10:01:02.000` has three, `10:01:02` has
-    /// none, and RFC 3164's own forms of the clock never have one. Printing writes exactly so many.
-    pub const fn digits(&self) -> u8 {
-        self.digits
-    }
-
-    /// How many nanoseconds a one in the last digit is: the step of the clock as the line tells it, 1,000,000,000 where it has whole
-    /// seconds and 1 where it has nine digits. `nanoseconds` is a multiple of it.
-    pub const fn resolution_nanoseconds(&self) -> u32 {
-        10u32.pow(9 - self.digits as u32)
+impl fmt::Display for Protocol {
+    /// Writes `RFC 3164`, or `RFC 5424 version 1`.
+    fn fmt(&self, f: &mut fmt::Formatter<'_>) -> fmt::Result {
+        match self {
+            Protocol::Rfc3164 => f.pad("RFC 3164"),
+            Protocol::Rfc5424 { version } => write!(f, "RFC 5424 version {version}"),
+        }
     }
 }
 
@@ -126,16 +101,16 @@ impl Record {
         }
     }
 
-    fn level(&self, at: usize) -> Option<u8> {
-        self.marked(at).then(|| self.word(at + 8) as u8)
+    fn level<Level>(&self, at: usize, from_number: fn(u8) -> Option<Level>) -> Option<Level> {
+        self.marked(at).then(|| from_number(self.word(at + 8) as u8).expect("a reader leaves a level in range"))
     }
 
-    pub(crate) fn facility(&self) -> Option<u8> {
-        self.level(FACILITY)
+    pub(crate) fn facility(&self) -> Option<Facility> {
+        self.level(FACILITY, Facility::from_number)
     }
 
-    pub(crate) fn severity(&self) -> Option<u8> {
-        self.level(SEVERITY)
+    pub(crate) fn severity(&self) -> Option<Severity> {
+        self.level(SEVERITY, Severity::from_number)
     }
 
     pub(crate) fn timestamp(&self) -> Option<Timestamp> {

@@ -1,5 +1,7 @@
 //! What the loose reader is told beside the line, in types that hold no value out of range.
 
+use core::fmt;
+
 use crate::sys::Numbers;
 
 /// Which protocols the loose reader tries.
@@ -62,6 +64,7 @@ impl Year {
 ///
 /// assert_eq!(Offset::from_minutes(60).map(Offset::minutes), Some(60));
 /// assert_eq!(Offset::from_minutes(-1440), None);
+/// assert_eq!(Offset::MIN.to_string(), "-23:59");
 /// ```
 #[derive(Clone, Copy, Debug, PartialEq, Eq, PartialOrd, Ord, Hash)]
 pub struct Offset(i32);
@@ -86,6 +89,15 @@ impl Offset {
     /// The offset in minutes, positive to the east.
     pub const fn minutes(self) -> i32 {
         self.0
+    }
+}
+
+impl fmt::Display for Offset {
+    /// Writes sign, hours and minutes: `+01:00`.
+    fn fmt(&self, f: &mut fmt::Formatter<'_>) -> fmt::Result {
+        let sign = if self.0 < 0 { '-' } else { '+' };
+        let minutes = self.0.abs();
+        write!(f, "{sign}{:02}:{:02}", minutes / 60, minutes % 60)
     }
 }
 

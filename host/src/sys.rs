@@ -1,6 +1,6 @@
 //! The five functions of the archive, each behind a safe function over slices and numbers.
 //!
-//! This is the only module with `unsafe`. What makes each call safe is the same: the archive's functions are total, whatever
+//! This and `texts` are the only modules with `unsafe`. What makes each call safe is the same: the archive's functions are total, whatever
 //! the bytes, numbers and lengths. They read and write within the counts that they are given and keep nothing after the call.
 //! A Rust slice gives what they ask of a pointer: it is never null (an empty slice's is dangling), it is aligned for its type,
 //! and what is behind a `&mut` overlaps nothing else of the call. Whatever numbers they store are values of `usize` and `u8`.
@@ -10,11 +10,27 @@
 /// stands, and what each answer means.
 const INTERFACE: u32 = 2;
 
-/// The place of an element's id: start and length.
-pub(crate) type ElementEntry = [usize; 2];
+/// The memory of one element in [`Tables`](crate::Tables): 16 bytes. What it holds is a reader's.
+// The place of the element's id: start and length.
+#[repr(transparent)]
+#[derive(Clone, Copy, Debug, Default, PartialEq, Eq)]
+pub struct ElementEntry(pub(crate) [usize; 2]);
 
-/// The number of a parameter's element, start and length of its name, start and length of its value.
-pub(crate) type ParamEntry = [usize; 5];
+impl ElementEntry {
+    /// The entry that holds nothing, to make an array of.
+    pub const EMPTY: ElementEntry = ElementEntry([0; 2]);
+}
+
+/// The memory of one parameter in [`Tables`](crate::Tables): 40 bytes. What it holds is a reader's.
+// The number of the parameter's element, start and length of its name, start and length of its value.
+#[repr(transparent)]
+#[derive(Clone, Copy, Debug, Default, PartialEq, Eq)]
+pub struct ParamEntry(pub(crate) [usize; 5]);
+
+impl ParamEntry {
+    /// The entry that holds nothing, to make an array of.
+    pub const EMPTY: ParamEntry = ParamEntry([0; 5]);
+}
 
 /// What a reader answers. `number` is 0 where it left a record, else that of the refusal. `whole` is 1 where a loose line has no
 /// reading, so that the record is the whole line as the message; else it is 0. `reach` is 0.

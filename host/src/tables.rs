@@ -1,14 +1,14 @@
 //! The memory that a reading is written into.
 
-use std::fmt;
+use core::fmt;
+use core::ops::{Deref, DerefMut};
 
-use crate::answer::{LooseAnswer, WholeLine};
+use crate::answer::{Answer, LooseAnswer, WholeLine};
 use crate::reading::{Reading, Strict};
 use crate::record::Record;
 use crate::refusal::Refusal;
 use crate::settings::Settings;
 use crate::sys::{self, ElementEntry, ParamEntry};
-use crate::MAX_LINE;
 
 /// The tables that a reader fills: one of elements, one of parameters, and the record beside them.
 ///
@@ -36,33 +36,61 @@ use crate::MAX_LINE;
 /// assert_eq!((first, second), (Some(&b"gate7"[..]), Some(&b"gate8"[..])));
 /// # Ok::<(), khamdoriem::Refusal>(())
 /// ```
-pub struct Tables {
-    elements: Box<[ElementEntry]>,
-    params: Box<[ParamEntry]>,
+///
+/// Their memory is their own (`new`, with the feature `std`) or lent (`over`). In the first case they are `Tables<'static>`, as in a
+/// struct of yours that keeps them. A function that takes `&mut Tables<'_>` takes both.
+pub struct Tables<'memory> {
+    elements: Memory<'memory, ElementEntry>,
+    params: Memory<'memory, ParamEntry>,
     record: Record,
 }
 
-impl Tables {
+#[cfg(feature = "std")]
+impl Tables<'static> {
     /// Tables for readings of at most so many elements and so many parameters. Either may be 0.
+    ///
+    /// # Panics
+    ///
+    /// As [`over`](Tables::over).
+    pub fn new(elements: usize, params: usize) -> Tables<'static> {
+        let elements = std::vec![ElementEntry::EMPTY; elements].into_boxed_slice();
+        let params = std::vec![ParamEntry::EMPTY; params].into_boxed_slice();
+        Tables::of(Memory::Owned(elements), Memory::Owned(params))
+    }
+
+    /// Tables that are long enough for every line, some 110,000 bytes: [`MAX_ELEMENTS`](crate::MAX_ELEMENTS) and
+    /// [`MAX_PARAMS`](crate::MAX_PARAMS). No reader that is given them refuses a line with [`Refusal::TooManyElements`] or
+    /// [`Refusal::TooManyParams`].
+    pub fn for_any_line() -> Tables<'static> {
+        Tables::new(crate::MAX_ELEMENTS, crate::MAX_PARAMS)
+    }
+}
+
+impl<'memory> Tables<'memory> {
+    /// Tables over memory that is lent, for readings of at most as many elements and parameters as there are entries. Either may be
+    /// empty. What the entries hold is overwritten by the next reading, and nothing is cleared.
     ///
     /// # Panics
     ///
     /// Where the archive that is linked has another interface than this crate was written for (docs/INTERFACE.md), so that what it
     /// leaves would be misread. Nothing reaches the archive without tables, so no call goes to such a one.
-    pub fn new(elements: usize, params: usize) -> Tables {
-        sys::check_interface();
-        Tables {
-            elements: vec![[0; 2]; elements].into_boxed_slice(),
-            params: vec![[0; 5]; params].into_boxed_slice(),
-            record: Record::EMPTY,
-        }
+    ///
+    /// ```
+    /// use khamdoriem::{ElementEntry, ParamEntry, Tables};
+    ///
+    /// let (mut elements, mut params) = ([ElementEntry::EMPTY; 8], [ParamEntry::EMPTY; 32]);
+    /// let mut tables = Tables::over(&mut elements, &mut params);
+    /// let reading = tables.read_strict(br#"<13>1 - gate7 reader 42 TAP [stage@32473 ms="212"] ok"#)?;
+    /// assert_eq!(reading.elements().len(), 1);
+    /// # Ok::<(), khamdoriem::Refusal>(())
+    /// ```
+    pub fn over(elements: &'memory mut [ElementEntry], params: &'memory mut [ParamEntry]) -> Tables<'memory> {
+        Tables::of(Memory::Lent(elements), Memory::Lent(params))
     }
 
-    /// Tables that are long enough for every line, some 126,000 bytes: no reader that is given them refuses a line with
-    /// [`Refusal::TooManyElements`] or [`Refusal::TooManyParams`]. An element has at least three bytes, as `[a]`,
-    /// and a parameter at least four, as `a=""`.
-    pub fn for_any_line() -> Tables {
-        Tables::new(MAX_LINE / 3, MAX_LINE / 4)
+    fn of(elements: Memory<'memory, ElementEntry>, params: Memory<'memory, ParamEntry>) -> Tables<'memory> {
+        sys::check_interface();
+        Tables { elements, params, record: Record::EMPTY }
     }
 
     /// How many elements a reading may have.
@@ -90,7 +118,7 @@ impl Tables {
     /// let mut tables = Tables::new(4, 16);
     /// let reading = tables.read_loose(b"<13>Feb  5 10:01:02 gate7 reader[42]: tap ok", settings)?.exact()?;
     /// assert_eq!(reading.process_id(), Some(&b"42"[..]));
-    /// assert_eq!(reading.timestamp().unwrap().seconds, 1_675_587_662);
+    /// assert_eq!(reading.timestamp().unwrap().seconds(), 1_675_587_662);
     ///
     /// assert!(matches!(tables.read_loose(b"tap ok", settings)?, LooseAnswer::Whole(_)));
     /// # Ok::<(), Refusal>(())
@@ -123,6 +151,58 @@ impl Tables {
         self.reading(line, answer.number)
     }
 
+    /// Reads a line strictly where the grammar of RFC 5424 derives it, and else by the loose rules.
+    ///
+    /// # Errors
+    ///
+    /// The strict reader's but [`NoReading`](Refusal::NoReading), and then the loose reader's.
+    ///
+    /// ```
+    /// use khamdoriem::{Answer, Offset, Reading, Refusal, Settings, Tables, Variant, Year};
+    ///
+    /// const SETTINGS: Settings = Settings::new(Variant::Either, Year::MIN, Offset::UTC);
+    ///
+    /// fn read<'line, 'tables>(
+    ///     line: &'line [u8],
+    ///     tables: &'tables mut Tables<'_>,
+    /// ) -> Result<Reading<'line, 'tables>, Refusal> {
+    ///     match tables.read_strict_or_loose(line, SETTINGS)? {
+    ///         Answer::Strict(reading) => reading.into_loose(),
+    ///         Answer::Loose(answer) => answer.exact(),
+    ///     }
+    /// }
+    ///
+    /// let mut tables = Tables::new(4, 16);
+    /// assert_eq!(read(b"<13>1 - gate7 reader 42 TAP - ok", &mut tables)?.host_str(), Some("gate7"));
+    /// assert_eq!(read(b"<13>- gate7 reader[42]: ok", &mut tables)?.host_str(), Some("gate7"));
+    /// # Ok::<(), Refusal>(())
+    /// ```
+    ///
+    /// Of two calls the borrow checker would not have it: the first one's tables are lent until the function returns.
+    ///
+    /// ```compile_fail,E0499
+    /// # use khamdoriem::{Offset, Reading, Refusal, Settings, Tables, Variant, Year};
+    /// # const SETTINGS: Settings = Settings::new(Variant::Either, Year::MIN, Offset::UTC);
+    /// # fn read<'line, 'tables>(line: &'line [u8], tables: &'tables mut Tables<'_>) -> Result<Reading<'line, 'tables>, Refusal> {
+    /// match tables.read_strict(line) {
+    ///     Ok(reading) => reading.into_loose(),
+    ///     Err(_) => tables.read_loose(line, SETTINGS)?.exact(),
+    /// }
+    /// # }
+    /// ```
+    pub fn read_strict_or_loose<'line, 'tables>(
+        &'tables mut self,
+        line: &'line [u8],
+        settings: Settings,
+    ) -> Result<Answer<'line, 'tables>, Refusal> {
+        let answer = sys::read_strict(line, &mut self.elements, &mut self.params, self.record.memory());
+        if answer.number == Refusal::NoReading.number() {
+            self.read_loose(line, settings).map(Answer::Loose)
+        } else {
+            self.reading(line, answer.number).map(Answer::Strict)
+        }
+    }
+
     /// The reading that a reader of this kind has left here, or its refusal.
     fn reading<'line, Kind>(&self, line: &'line [u8], number: u32) -> Result<Reading<'line, '_, Kind>, Refusal> {
         Refusal::check(number)?;
@@ -132,12 +212,41 @@ impl Tables {
     }
 }
 
-impl fmt::Debug for Tables {
+impl fmt::Debug for Tables<'_> {
     /// Says how long the tables are: what they hold belongs to a reading.
     fn fmt(&self, f: &mut fmt::Formatter<'_>) -> fmt::Result {
         f.debug_struct("Tables")
             .field("element_capacity", &self.element_capacity())
             .field("param_capacity", &self.param_capacity())
             .finish_non_exhaustive()
+    }
+}
+
+/// The memory of a table: lent, or its own.
+enum Memory<'memory, Entry> {
+    Lent(&'memory mut [Entry]),
+    #[cfg(feature = "std")]
+    Owned(std::boxed::Box<[Entry]>),
+}
+
+impl<Entry> Deref for Memory<'_, Entry> {
+    type Target = [Entry];
+
+    fn deref(&self) -> &[Entry] {
+        match self {
+            Memory::Lent(entries) => entries,
+            #[cfg(feature = "std")]
+            Memory::Owned(entries) => entries,
+        }
+    }
+}
+
+impl<Entry> DerefMut for Memory<'_, Entry> {
+    fn deref_mut(&mut self) -> &mut [Entry] {
+        match self {
+            Memory::Lent(entries) => entries,
+            #[cfg(feature = "std")]
+            Memory::Owned(entries) => entries,
+        }
     }
 }

@@ -1,6 +1,10 @@
 //! The loose reader: the rules line by line, the fields of both protocols, absent and empty.
 
-use khamdoriem::{LooseAnswer, Offset, Protocol, Reading, Refusal, Settings, Tables, Variant, WholeLine, Year};
+#![cfg(feature = "std")]
+
+use khamdoriem::{
+    Facility, LooseAnswer, Offset, Protocol, Reading, Refusal, Settings, Severity, Tables, Variant, WholeLine, Year,
+};
 
 fn settings(variant: Variant, year: u32, minutes: i32) -> Settings {
     Settings::new(variant, Year::new(year).unwrap(), Offset::from_minutes(minutes).unwrap())
@@ -27,7 +31,7 @@ fn some(text: &str) -> Option<String> {
 
 /// Seconds, nanoseconds, digits and minutes of the offset.
 fn stamp(line: &str) -> Result<Option<(i64, u32, u8, i32)>, Refusal> {
-    at_60(line, |r| r.timestamp().map(|t| (t.seconds, t.nanoseconds, t.digits(), t.offset.minutes())))
+    at_60(line, |r| r.timestamp().map(|t| (t.seconds(), t.nanoseconds(), t.digits(), t.offset().minutes())))
 }
 
 fn message(line: &str) -> Result<String, Refusal> {
@@ -43,7 +47,7 @@ fn printed(line: &str) -> Result<String, Refusal> {
 
 #[test]
 fn priority() {
-    let levels = |line: &str| at_60(line, |r| (r.facility(), r.severity()));
+    let levels = |line: &str| at_60(line, |r| (r.facility().map(Facility::number), r.severity().map(Severity::number)));
     assert_eq!(levels("<191>1 - h a p m - x"), Ok((Some(23), Some(7))));
     assert_eq!(levels("<192>1 - h a p m - x"), Ok((None, Some(0))));
     assert_eq!(levels("<0>1 - h a p m - x"), Ok((Some(0), Some(0))));
@@ -85,7 +89,7 @@ fn a_tag_that_is_a_dash_takes_the_host_with_it() {
 fn a_timestamp_with_a_year_is_utc_shown_at_the_offset() {
     let line = "<13>Feb 5 2023 10:01:02 gate7 reader[42]: tap ok";
     assert_eq!(printed(line), Ok("<13> 2023-02-05T11:01:02+01:00 gate7 reader[42]: tap ok".to_string()));
-    assert_eq!(at_60(line, |r| r.timestamp().unwrap().seconds), Ok(1_675_591_262));
+    assert_eq!(at_60(line, |r| r.timestamp().unwrap().seconds()), Ok(1_675_591_262));
 }
 
 #[test]
@@ -97,14 +101,14 @@ fn a_timestamp_without_a_year_is_local() {
 
 #[test]
 fn days_by_month_and_year() {
-    let seconds = |line: &str| at_60(line, |r| r.timestamp().unwrap().seconds);
+    let seconds = |line: &str| at_60(line, |r| r.timestamp().unwrap().seconds());
     assert_eq!(seconds("<13>1 2023-02-29T00:00:00Z h a p m - x"), Err(Refusal::NoReading));
     assert_eq!(seconds("<13>1 2024-02-29T00:00:00Z h a p m - x"), Ok(1_709_164_800));
     // The year of RFC 3164 is the setting's.
     let line = "<13>Feb 29 00:00:00 h t: m";
     assert_eq!(seconds(line), Err(Refusal::NoReading));
     let leap = settings(Variant::Either, 2024, 0);
-    assert_eq!(read(line, leap, |r| r.timestamp().unwrap().seconds), Ok(1_709_164_800));
+    assert_eq!(read(line, leap, |r| r.timestamp().unwrap().seconds()), Ok(1_709_164_800));
 }
 
 #[test]
@@ -127,7 +131,7 @@ fn a_host_that_ends_in_a_colon_has_no_reading_in_rfc5424() {
 fn fields_of_rfc3164() {
     let read = at_60("<13>Feb  5 10:01:02 gate7 reader[42]: tap ok", |r| {
         assert_eq!(r.protocol(), Protocol::Rfc3164);
-        assert_eq!((r.facility(), r.severity()), (Some(1), Some(5)));
+        assert_eq!((r.facility(), r.severity()), (Some(Facility::User), Some(Severity::Notice)));
         assert_eq!(text(r.host()), some("gate7"));
         assert_eq!(text(r.app_name()), some("reader"));
         assert_eq!(text(r.process_id()), some("42"));
@@ -144,7 +148,7 @@ fn fields_of_rfc5424() {
     let read = at_60(line, |r| {
         assert_eq!(r.line(), line.as_bytes());
         assert_eq!(r.protocol(), Protocol::Rfc5424 { version: 1 });
-        assert_eq!((r.facility(), r.severity()), (Some(1), Some(5)));
+        assert_eq!((r.facility(), r.severity()), (Some(Facility::User), Some(Severity::Notice)));
         assert_eq!(stamp(line), Ok(Some((1_767_607_262, 3_000_000, 3, 0))));
         assert_eq!(text(r.host()), some("gate7"));
         assert_eq!(text(r.app_name()), some("reader"));
@@ -225,7 +229,7 @@ fn a_fraction_keeps_its_digits() {
 #[test]
 fn the_clocks_of_rfc3164_have_whole_seconds() {
     for line in ["<13>Feb  5 10:01:02 gate7 reader[42]: ok", "<13>Feb  5 2023 10:01:02 gate7 reader[42]: ok"] {
-        let read = at_60(line, |r| r.timestamp().map(|t| (t.nanoseconds, t.digits(), t.resolution_nanoseconds())));
+        let read = at_60(line, |r| r.timestamp().map(|t| (t.nanoseconds(), t.digits(), t.resolution_nanoseconds())));
         assert_eq!(read, Ok(Some((0, 0, 1_000_000_000))));
     }
     assert_eq!(stamp("<13>- gate7 reader[42]: ok"), Ok(None));
@@ -239,7 +243,7 @@ fn timestamps_of_one_instant_differ_in_their_digits() {
     };
     assert_eq!(at(".50"), at(".50"));
     assert_ne!(at(".50"), at(".5"));
-    assert_eq!((at(".50").seconds, at(".50").nanoseconds), (at(".5").seconds, at(".5").nanoseconds));
+    assert_eq!((at(".50").seconds(), at(".50").nanoseconds()), (at(".5").seconds(), at(".5").nanoseconds()));
 }
 
 #[test]
@@ -261,7 +265,7 @@ fn a_line_with_a_reading_is_trimmed() {
 
 /// The line that is answered whole, if it is.
 fn whole<'line, 'tables>(
-    tables: &'tables mut Tables,
+    tables: &'tables mut Tables<'_>,
     line: &'line str,
     settings: Settings,
 ) -> Option<WholeLine<'line, 'tables>> {

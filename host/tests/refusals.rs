@@ -1,5 +1,7 @@
 //! Each refusal by its number, that it leaves what it was lent, and that 2 and 7 do not arise.
 
+#![cfg(feature = "std")]
+
 use std::thread;
 
 use khamdoriem::{LooseAnswer, Offset, Reading, Refusal, Settings, Tables, Unescape, Variant, Year, MAX_LINE};
@@ -193,7 +195,7 @@ fn number_7_does_not_arise_from_damaged_lines() {
     assert!(taken > 1000, "only {taken} readings");
 }
 
-fn strict_and_loose(tables: &mut Tables, line: &[u8]) -> usize {
+fn strict_and_loose(tables: &mut Tables<'_>, line: &[u8]) -> usize {
     let loose = tables.read_loose(line, SETTINGS).map(|answer| use_all(answer.or_whole())).is_ok();
     let strict = tables.read_strict(line).map(use_all).is_ok();
     usize::from(loose) + usize::from(strict)

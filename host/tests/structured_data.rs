@@ -1,5 +1,7 @@
 //! Elements and parameters, lookup and unescaping.
 
+#![cfg(feature = "std")]
+
 use khamdoriem::{Loose, Offset, Reading, Refusal, Settings, Tables, Unescape, Variant, Year, MAX_LINE};
 
 const SETTINGS: Settings = Settings::new(Variant::Either, Year::MIN, Offset::UTC);
@@ -8,11 +10,11 @@ const SETTINGS: Settings = Settings::new(Variant::Either, Year::MIN, Offset::UTC
 const STAGES: &[u8] =
     br#"<13>1 - gate7 reader 42 TAP [stage@32473 name="radio" ms="31"][tap@32473][stage@32473 name="deny\"list\]" ms="212"] ok"#;
 
-fn read<'line, 'tables>(tables: &'tables mut Tables, line: &'line [u8]) -> Reading<'line, 'tables, Loose> {
+fn read<'line, 'tables>(tables: &'tables mut Tables<'_>, line: &'line [u8]) -> Reading<'line, 'tables, Loose> {
     tables.read_loose(line, SETTINGS).unwrap().exact().unwrap()
 }
 
-fn pairs(tables: &mut Tables, line: &[u8]) -> Vec<(String, Vec<(String, String)>)> {
+fn pairs(tables: &mut Tables<'_>, line: &[u8]) -> Vec<(String, Vec<(String, String)>)> {
     let text = |bytes: &[u8]| String::from_utf8(bytes.to_vec()).unwrap();
     let reading = read(tables, line);
     let params = |e: khamdoriem::Element<'_, '_>| e.params().map(|p| (text(p.name()), text(p.value()))).collect();
@@ -61,6 +63,47 @@ fn parameters_know_the_id_of_their_element() {
     let reading = tables.read_strict(line).unwrap();
     let ids: Vec<&[u8]> = reading.params().map(|p| p.id()).collect();
     assert_eq!(ids, [b"x@1", b"z@1", b"z@1"]);
+}
+
+#[test]
+fn elements_with_an_id_in_order() {
+    let mut tables = Tables::new(3, 4);
+    let reading = read(&mut tables, STAGES);
+    let ms = |id: &str| -> Vec<Option<&[u8]>> {
+        reading.elements_with(id).map(|element| element.get("ms").map(|ms| ms.value())).collect()
+    };
+    assert_eq!(ms("stage@32473"), [Some(&b"31"[..]), Some(b"212")]);
+    assert_eq!(ms("tap@32473"), [None]);
+    for id in ["stage@3247", "stage@324733", "Stage@32473", ""] {
+        assert!(ms(id).is_empty());
+    }
+    // Bytes, arrays of them, strings and references to either.
+    let owned = String::from("stage@32473");
+    assert_eq!(reading.elements_with(b"stage@32473").count(), 2);
+    assert_eq!(reading.elements_with(&b"stage@32473"[..]).count(), 2);
+    assert_eq!((reading.elements_with(&owned).count(), reading.elements_with(&&owned[..]).count()), (2, 2));
+    // It ends, and stays ended; it outlives the reading's name.
+    let mut stages = reading.elements_with("stage@32473");
+    assert_eq!(stages.size_hint(), (0, Some(3)));
+    assert_eq!((stages.next().is_some(), stages.size_hint()), (true, (0, Some(2))));
+    assert_eq!((stages.next().is_some(), stages.next().is_some(), stages.next().is_some()), (true, false, false));
+    assert_eq!(format!("{:?}", reading.elements_with("tap@32473")), r#"[Element { id: "tap@32473", params: [] }]"#);
+}
+
+#[test]
+fn get_finds_the_first_of_a_name() {
+    let mut tables = Tables::new(2, 5);
+    let line = br#"<13>1 - h a p m [x a="1\\" b="2" a="3"][x b="4" c=""] ok"#;
+    let reading = read(&mut tables, line);
+    let elements: Vec<_> = reading.elements_with("x").collect();
+    let get = |which: usize, name: &str| elements[which].get(name).map(|param| param.value_str());
+    assert_eq!([get(0, "a"), get(0, "b"), get(0, "c"), get(0, "")], [Some(r"1\\"), Some("2"), None, None]);
+    assert_eq!([get(1, "a"), get(1, "b"), get(1, "c"), get(1, "B")], [None, Some("4"), Some(""), None]);
+    // Both ways.
+    let mut output = [0; 8];
+    let a = elements[0].get("a").unwrap();
+    assert_eq!((a.value(), a.unescaped(Unescape::Loose, &mut output)), (&br"1\\"[..], Ok(&br"1\"[..])));
+    assert_eq!(a.id(), b"x");
 }
 
 #[test]

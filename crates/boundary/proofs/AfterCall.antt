@@ -22,7 +22,7 @@ use Rattle.boundary.specs.Called.{Holds, Called, Answered, textOf, found
 use Rattle.boundary.proofs.Memory.{memory-holds}
 
 module _ {line memory : List ℕ} {elements params : List (List ℕ)} (called : Called line memory elements params) where
-  called-holds : Holds memory (λ r e p. Left line r e p elements params)
+  pub called-holds : Holds memory (λ r e p. Left line r e p elements params)
   called-holds = go called
     where
       go : Called line memory elements params → Holds memory (λ r e p. Left line r e p elements params)

@@ -24,13 +24,26 @@ fn show_case(text: &[u8]) {
     }
 }
 
-fn main() {
-    let mut list = io::large_buffer();
-    let n = io::read_full(STDIN_FILENO, &mut list);
+// Shows each line of the list.
+fn show_cases(list: &[u8]) {
     let mut at = 0;
-    while at < n {
-        let end = at + case_text::text::line_len(&list[at..n]);
+    while at < list.len() {
+        let end = at + case_text::text::line_len(&list[at..]);
         show_case(&list[at..end]);
         at = end + 1;
     }
+}
+
+fn main() {
+    let a = program::arguments(false);
+    let help = *b"\nWrites the answer to each case of standard input in words. A case is a line:\n\
+        \x20   R VARIANT YEAR OFFSET LINE    a loose reading\n\
+        \x20   S LINE                        a strict one\n";
+    if !program::starts(a, b"cases", b"usage: cases < FILE\n", &help) {
+        return;
+    }
+    let mut list = io::large_buffer();
+    let n = io::read_full(STDIN_FILENO, &mut list);
+    show_cases(&list[0..n]);
+    program::end(a, b"cases", program::is_at_end(b"cases"));
 }

@@ -1,8 +1,8 @@
-// The listing again, run on an input whose last line ends at LF.
+// The listing again, run with `--crlf` on an input whose last line ends at LF.
 
 fn main() {
     let mut line = [0u8; record::LINE_LIMIT];
     let mut elements = [[0usize; 2]; 64];
     let mut chunk = [0u8; 65536];
-    lister::run(&mut line, &mut elements, &mut chunk);
+    lister::list(&mut line, &mut elements, &mut chunk);
 }

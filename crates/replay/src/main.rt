@@ -187,10 +187,18 @@ fn replay(buffer: &mut [u8]) -> Tally {
 }
 
 fn main() {
+    let a = program::arguments(false);
+    let help =
+        *b"\nCalls what each line of standard input says, and compares the answers with the line's.\n";
+    if !program::starts(a, b"replay", b"usage: replay < FILE\n", &help) {
+        return;
+    }
     let mut buffer = io::large_buffer();
     let t = replay(&mut buffer);
+    let whole = program::is_at_end(b"replay");
     say_number(b"replay: ", t.read, b" readings, ");
     say_number(b"", t.printed, b" printed, ");
     say_number(b"", t.looked, b" looked up; ");
     say_number(b"", t.differ, b" differ\n");
+    program::end(a, b"replay", whole & (t.differ == 0));
 }

@@ -1,5 +1,4 @@
 // Reads one line of a gate's reader by the loose rules, at year 2023 and +60, and writes its instant and the line as it is printed.
-use libc::STDOUT_FILENO;
 use record::Reading;
 use record::Record;
 use record::Stamp;
@@ -11,10 +10,7 @@ fn write_seconds(r: Record) -> bool {
         return false;
     };
     let seconds = base::split(t.seconds);
-    if !io::print_decimal(STDOUT_FILENO, seconds.up) {
-        return false;
-    }
-    io::write_all(STDOUT_FILENO, b"\n")
+    program::say_decimal(seconds.up) & program::say(b"\n")
 }
 
 fn write_printed(w: Written, out: &[u8]) -> bool {
@@ -24,10 +20,7 @@ fn write_printed(w: Written, out: &[u8]) -> bool {
     if out.len() < n {
         return false;
     }
-    if !io::write_all(STDOUT_FILENO, &out[0..n]) {
-        return false;
-    }
-    io::write_all(STDOUT_FILENO, b"\n")
+    program::say(&out[0..n]) & program::say(b"\n")
 }
 
 // Reads a line with a parameter table of its own.
@@ -56,15 +49,30 @@ fn print_line(
     message::print(line, r, e, 0, elements, &params, out)
 }
 
-fn main() {
+// Whether the line was read, and all was written.
+fn show() -> bool {
     let line = *b"<13>Feb  5 10:01:02 gate7 reader[42]: tap ok";
     let mut elements = [[0usize; 2]; 4];
     let mut out = [0u8; 128];
     let reading = read_line(&line, 0, 2023, 60, &mut elements);
     let Reading::Read(r, e, _) = reading else {
-        return;
+        return false;
     };
-    write_seconds(r);
+    let timed = write_seconds(r);
     let w = print_line(&line, r, e, &elements, &mut out);
-    write_printed(w, &out);
+    timed & write_printed(w, &out)
+}
+
+fn main() {
+    let a = program::arguments(false);
+    let help =
+        *b"\nReads one line of a gate that it holds, and writes its instant and the line as it is printed.\n";
+    if !program::starts(a, b"tap_line", b"usage: tap_line\n", &help) {
+        return;
+    }
+    let ok = show();
+    if !ok {
+        program::complain(b"tap_line", b"the line was not read and written");
+    }
+    program::end(a, b"tap_line", ok);
 }

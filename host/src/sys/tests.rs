@@ -1,9 +1,18 @@
 //! The archive itself, with calls that the crate's types do not let a caller make.
 
+use std::format;
+use std::vec;
+use std::vec::Vec;
+
 use super::*;
+use crate::Refusal;
 
 const LINE: &[u8] = br#"<13>1 - gate7 reader 42 TAP [a@1 x="1"][b@1 y="2"] ok"#;
 const SETTINGS: Numbers = Numbers { variant: 0, year: 2023, offset: 60 };
+
+/// Entries with numbers that no reader leaves.
+const NO_ELEMENT: ElementEntry = ElementEntry([77_777; 2]);
+const NO_PARAM: ParamEntry = ParamEntry([88_888; 5]);
 
 /// Memory that is lent to a reader, filled with numbers that no reader leaves.
 #[derive(Clone, Debug, PartialEq)]
@@ -15,7 +24,7 @@ struct Memory {
 
 impl Memory {
     fn new(elements: usize, params: usize, record: usize) -> Memory {
-        Memory { elements: vec![[77_777; 2]; elements], params: vec![[88_888; 5]; params], record: vec![99; record] }
+        Memory { elements: vec![NO_ELEMENT; elements], params: vec![NO_PARAM; params], record: vec![99; record] }
     }
 
     fn read_loose(&mut self, line: &[u8], settings: Numbers) -> ReadAnswer {
@@ -80,7 +89,7 @@ fn a_lone_backslash_at_the_end_of_a_value_goes_or_stays_by_kind() {
     let line = br#"<13>1 - gate7 reader 42 TAP [a@1 x="1\\"]"#;
     let mut memory = Memory::new(1, 1, 248);
     assert_eq!(memory.read_strict(line), READ);
-    memory.params[0][4] -= 1;
+    memory.params[0].0[4] -= 1;
     let mut output = [b'.'; 2];
     assert_eq!(lookup(memory.lent(line), b"a@1", b"x", 0, &mut output), Written { number: 0, len: 1 });
     assert_eq!(&output, b"1.");
@@ -141,12 +150,12 @@ fn a_whole_line_is_laid_out_like_a_reading() {
 fn readers_keep_what_lies_past_the_counts_and_the_layout() {
     let mut memory = Memory::new(3, 4, 260);
     assert_eq!(memory.read_loose(LINE, SETTINGS), READ);
-    assert_eq!(memory.elements[2..], [[77_777; 2]]);
-    assert_eq!(memory.params[2..], [[88_888; 5]; 2]);
+    assert_eq!(memory.elements[2..], [NO_ELEMENT]);
+    assert_eq!(memory.params[2..], [NO_PARAM; 2]);
     assert_eq!(memory.record[216..], [99; 44]);
     assert_eq!(memory.read_strict(LINE), READ);
-    assert_eq!(memory.elements[2..], [[77_777; 2]]);
-    assert_eq!(memory.params[2..], [[88_888; 5]; 2]);
+    assert_eq!(memory.elements[2..], [NO_ELEMENT]);
+    assert_eq!(memory.params[2..], [NO_PARAM; 2]);
     assert_eq!(memory.record[248..], [99; 12]);
 }
 
@@ -161,8 +170,8 @@ fn records_and_tables_that_do_not_suit_the_line_are_refused_with_7() {
         |m| m.record[200] = 3,
         |m| m.record[208] = 3,
         |m| m.record.truncate(215),
-        |m| m.elements[1] = [LINE.len(), 1],
-        |m| m.params[1][0] = 2,
+        |m| m.elements[1].0 = [LINE.len(), 1],
+        |m| m.params[1].0[0] = 2,
     ];
     for (which, damage) in damage.into_iter().enumerate() {
         let mut memory = read();
@@ -257,9 +266,23 @@ fn an_older_interface_is_not_taken() {
 }
 
 #[test]
-#[should_panic(expected = "the archive answered 7")]
-fn a_number_that_no_call_brings_about_is_not_taken_for_a_refusal() {
+fn a_number_that_no_call_brings_about_is_an_error_of_its_own() {
     let mut memory = read();
     memory.record[0] = 2;
-    let _ = crate::Refusal::check(print(memory.lent(LINE), &mut []).number);
+    let refused = Refusal::check(print(memory.lent(LINE), &mut []).number);
+    assert_eq!(refused, Err(Refusal::Unexpected(7)));
+    assert_eq!(refused.unwrap_err().number(), 7);
+    let words = "the archive answered 7, which no call of khamdoriem brings about";
+    assert_eq!(format!("{}", refused.unwrap_err()), words);
+}
+
+#[test]
+fn every_number_is_a_refusal_with_that_number() {
+    assert_eq!(Refusal::check(0), Ok(()));
+    for number in (1..100).chain([u32::MAX]) {
+        let refusal = Refusal::check(number).unwrap_err();
+        assert_eq!(refusal.number(), number);
+        let known = matches!(number, 1 | 3..=6 | 8 | 9);
+        assert_eq!(matches!(refusal, Refusal::Unexpected(_)), !known, "{number}");
+    }
 }

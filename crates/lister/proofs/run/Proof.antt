@@ -1,5 +1,5 @@
 -- `lister::run` meets its contract: a derivation by hand. In each turn the line and the chunk are lent on; where a line is ready, the part of it that is used, both tables, the second of them a local one, to the strict reader.
-use Rattle.derivation.specs.Derive.{ℕ, _≤_, _<_, _-_, arith, _≡_, refl, sym, ap, _∙_, List, [], _∷_, length, tyUnit, tyBool, tyInt, tyPtr, sliceTy, w64, lt, offset, unsigned, Lfts, Shares, tablesOf, lit<, ltb-true, fix-len, World, world, Cx, Row, Life, lease, off, alive, sc-here, any-gone, sPtr, sBool, sUnit, i64, bytes, pair, here, lost, made, unmade, muts, owing, leased, spent, sharing, shared, slots₃, R·, aT, eT, iT, cx, Derived, Laid, proves, cites, Asked, Learnt, _▹_, _▸_, _◂_, at, join, put, puts, calls, lends, packs, back, shares, cuts, packs-part, unshares, begin, finish, lose, repeats, arrays, borrows, packs-all, returned, read-whole, as-array, array, branch, room, blocks, loops, nexts, exits, returns, last, gone, over, struct, choice, unshared, sc, num, fld, lit, unit, part, ptr, owed, same, held, chosen-held, lent, part-lend, none, by-val, by-choice, by-part, by-mut}
+use Rattle.derivation.specs.Derive.{ℕ, _≤_, _<_, _-_, arith, _≡_, refl, sym, ap, _∙_, List, [], _∷_, length, tyBool, tyInt, tyPtr, sliceTy, w64, lt, offset, unsigned, Lfts, Shares, tablesOf, lit<, ltb-true, fix-len, World, world, Cx, Row, Life, lease, off, alive, sc-here, any-gone, sPtr, sBool, i64, bytes, pair, here, lost, made, unmade, muts, owing, leased, spent, sharing, shared, slots₃, R·, aT, eT, iT, cx, Derived, Laid, proves, cites, Asked, Learnt, _▹_, _▸_, _◂_, at, join, put, puts, calls, lends, packs, back, shares, cuts, packs-part, unshares, begin, finish, lose, repeats, arrays, borrows, packs-all, returned, read-whole, as-array, array, branch, room, blocks, loops, nexts, exits, returns, last, gone, over, struct, choice, unshared, sc, num, fld, lit, part, ptr, owed, same, held, chosen-held, lent, part-lend, none, by-val, by-choice, by-part, by-mut}
 use mir.Syntax.{sub}
 use mir.Val.{vint}
 use lib.ListN.{replicate, length-replicate}
@@ -34,7 +34,7 @@ use Rattle.lister.proofs.answered.Met as Nm
 module _ (w : World) where
   -- the context, by the rows of the line, the elements, the chunk, the parameters, `used`, the answer, and what is lent of each slice
   abbrev run-at : Row → Row → Row → Row → Row → Row → Row → Row → Row → Row → Row → List Life → Cx
-  run-at l e c p n r l′ c′ s e′ p′ ls = cx (any-gone tyUnit ∷ l ∷ e ∷ c ∷ lost E.param ∷ p ∷ here C.state ∷ n ∷ r ∷ any-gone tyBool ∷ any-gone (eT bytes) ∷ l′ ∷ any-gone (eT bytes) ∷ c′ ∷ any-gone tyPtr ∷ any-gone (tyInt w64) ∷ any-gone iT ∷ s ∷ any-gone (eT pair) ∷ e′ ∷ any-gone (aT (R· E.param) 256) ∷ p′ ∷ []) ls
+  run-at l e c p n r l′ c′ s e′ p′ ls = cx (any-gone tyBool ∷ l ∷ e ∷ c ∷ lost C.options ∷ lost E.param ∷ p ∷ here C.state ∷ n ∷ r ∷ any-gone tyBool ∷ any-gone (eT bytes) ∷ l′ ∷ any-gone (eT bytes) ∷ c′ ∷ any-gone tyPtr ∷ any-gone (tyInt w64) ∷ any-gone iT ∷ s ∷ any-gone (eT pair) ∷ e′ ∷ any-gone (aT (R· E.param) 256) ∷ p′ ∷ []) ls
 
   -- nothing is lent
   abbrev head-at : Lfts 3 → Shares 3 → Row → Cx
@@ -54,37 +54,37 @@ module _ (w : World) where
 
   abbrev derived : Derived C.run w code.env Key.name 3 code.function
   derived κs qs bs =
-      calls 0 Bk.ps Bk.r Br.Asked Br.Learnt Bs.name (Br.known w code.env Bs.name Bs.routine code.calls-record·blank (Bm.met (w .𝓤) (w .H) (w .𝓜) (w .𝓖) (w .𝓡))) [] none 4 gone tt refl ▹
-      repeats E.param 256 4 5 held (read-whole E.param) refl gone refl ▹ arrays E.param 256 5 (as-array E.param 256) ▸ room 4 (struct E.param refl) ▸
-      calls 0 Tk.ps Tk.r Tr.Asked Tr.Learnt Ts.name (Tr.known w code.env Ts.name Ts.routine code.calls-lister·start (Tm.met (w .𝓤) (w .H) (w .𝓜) (w .𝓖) (w .𝓡))) [] none 6 gone tt refl ▹ at (head-at κs qs (unmade S.reading)) ▸ (join (head-at κs qs (unmade S.reading)) (
-      blocks (loops {Vs = List ℕ × (List (List ℕ) × (List ℕ × (List Param × State)))} (λ vs u. (u .0, (record { ptr = u .1 .0 .ptr; name = u .1 .0 .name; now = vs .0 }, (record { ptr = u .1 .1 .0 .ptr; name = u .1 .1 .0 .name; now = vs .1 .0 }, (record { ptr = u .1 .1 .1 .0 .ptr; name = u .1 .1 .1 .0 .name; now = vs .1 .1 .0 }, (u .1 .1 .1 .1 .0, (vs .1 .1 .1 .0, (vs .1 .1 .1 .1, u .1 .1 .1 .1 .1 .1 .1))))))))
+      calls 0 Bk.ps Bk.r Br.Asked Br.Learnt Bs.name (Br.known w code.env Bs.name Bs.routine code.calls-record·blank (Bm.met (w .𝓤) (w .H) (w .𝓜) (w .𝓖) (w .𝓡))) [] none 5 gone tt refl ▹
+      repeats E.param 256 5 6 held (read-whole E.param) refl gone refl ▹ arrays E.param 256 6 (as-array E.param 256) ▸ room 5 (struct E.param refl) ▸
+      calls 0 Tk.ps Tk.r Tr.Asked Tr.Learnt Ts.name (Tr.known w code.env Ts.name Ts.routine code.calls-lister·start (Tm.met (w .𝓤) (w .H) (w .𝓜) (w .𝓖) (w .𝓡))) [] (by-val C.options 4 held refl none) 7 gone tt refl ▹ room 4 (struct C.options refl) ▸ at (head-at κs qs (unmade S.reading)) ▸ (join (head-at κs qs (unmade S.reading)) (
+      blocks (loops {Vs = List ℕ × (List (List ℕ) × (List ℕ × (List Param × State)))} (λ vs u. (u .0, (record { ptr = u .1 .0 .ptr; name = u .1 .0 .name; now = vs .0 }, (record { ptr = u .1 .1 .0 .ptr; name = u .1 .1 .0 .name; now = vs .1 .0 }, (record { ptr = u .1 .1 .1 .0 .ptr; name = u .1 .1 .1 .0 .name; now = vs .1 .1 .0 }, (u .1 .1 .1 .1 .0, (u .1 .1 .1 .1 .1 .0, (vs .1 .1 .1 .0, (vs .1 .1 .1 .1, u .1 .1 .1 .1 .1 .1 .1 .1)))))))))
       (λ u vs. (length (vs .0) ≡ length (u .1 .0 .now)) × ((length (vs .1 .0) ≡ length (u .1 .1 .0 .now)) × ((length (vs .1 .1 .0) ≡ length (u .1 .1 .1 .0 .now)) × ((length (vs .1 .1 .1 .0) ≡ 256) × ((vs .1 .1 .1 .1 .used ≤ length (vs .0)) × (vs .1 .1 .1 .1 .got ≤ length (vs .1 .1 .0))))))) (λ u vs. vs .1 .1 .1 .1 .left) (
-      puts 9 sBool gone (lt unsigned) (lit w64 0 tt) (fld 6 5 (part C.state 5 refl) refl) refl (λ u. refl) (λ u. tt) ▹
-      join (head-at κs qs (unmade S.reading)) (branch 9 (λ x. x) (sc sBool) refl (room 9 (over sBool) ▸ nexts tt) (room 9 (over sBool) ▸ exits 1 tt)) (begin 3 _ ▸ begin 4 _ ▸
-      lends bytes 1 10 0 3 same gone refl tt refl refl ▹
-      packs bytes 10 11 3 same gone (fld 1 1 (owed bytes 0 3 (lease (κs .0) (qs .0))) refl) refl refl ▹
-      lends bytes 3 12 2 4 same gone refl tt refl refl ▹
-      packs bytes 12 13 4 same gone (fld 3 1 (owed bytes 2 4 (lease (κs .1 .1 .0) (qs .1 .1 .0))) refl) refl refl ▹ at (turn-at κs qs (leased bytes 3) (leased bytes 4)) ▸
-      calls 2 Ak.ps Ak.r Ar.Asked Ar.Learnt As.name (Ar.known w code.env As.name As.routine code.calls-lister·advance (Am.met (w .𝓤) (w .H) (w .𝓜) (w .𝓖) (w .𝓡))) (3 ∷ 4 ∷ []) (by-mut bytes 0 tt 11 lent refl (by-mut bytes 1 tt 13 lent refl (by-val C.state 6 held refl none))) 6 (struct C.state refl) (tt, (tt, tt)) refl ▹ at (turn-at κs qs (spent bytes) (spent bytes)) ▸
-      finish 4 refl ▸ back bytes 13 3 2 4 (lease (κs .1 .1 .0) (qs .1 .1 .0)) same same refl refl ▸ lose 4 refl ▸ finish 3 refl ▸ back bytes 11 1 0 3 (lease (κs .0) (qs .0)) same same refl refl ▸ lose 3 refl ▸ at (head-at κs qs (unmade S.reading)) ▸
-      put 9 sBool gone (fld 6 2 (part C.state 2 refl) refl) refl (λ u. refl) (λ u. tt) ▹
-      branch 9 (λ x. x) (sc sBool) refl (
-      room 9 (over sBool) ▸ at (head-at κs qs (unmade S.reading)) ▸
-      put 7 i64 gone (fld 6 0 (part C.state 0 refl) refl) refl (λ u. refl) (λ u. tt) ▹
-      puts 14 sPtr gone offset (fld 1 0 (ptr bytes 0) refl) (lit w64 0 tt) refl (λ u. refl) (λ u. tt) ▹
-      puts 15 i64 gone (sub unsigned) (num 7 (sc i64) refl) (lit w64 0 tt) refl (λ u. refl) (λ u. tt) ▹ begin 3 _ ▸ shares 1 0 3 same refl tt ▸
-      cuts 1 14 16 0 3 (lease (κs .0) (qs .0)) (λ u. 0) (λ u. u .1 .1 .1 .1 .1 .1 .1 .0) same same gone refl tt refl refl ▹ room 14 (over sPtr) ▸
-      packs-part 16 17 3 same gone (num 15 (sc i64) refl) refl refl ▹ room 15 (over i64) ▸ at (cut-at κs qs (unmade S.reading)) ▸ begin 4 _ ▸ begin 5 _ ▸
-      lends pair 2 18 1 4 same gone refl tt refl refl ▹
-      packs pair 18 19 4 same gone (fld 2 1 (owed pair 1 4 (lease (κs .1 .0) (qs .1 .0))) refl) refl refl ▹
-      borrows E.param 256 5 20 5 same gone refl (lit< tt, lit< tt) ▹
-      packs-all E.param 256 20 21 5 same gone tt refl refl ▹ at (read-at κs qs (unmade S.reading) (leased pair 4) (leased (R· E.param) 5)) ▸
-      calls 3 (S.read .ps) (S.read .r) (Asked S.read) (Learnt S.read) Ss.name (cites S.read w code.env Ss.name Ss.routine code.calls-strict·read (Sm.met (w .𝓤) (w .H) (w .𝓜) (w .𝓖) (w .𝓡))) (3 ∷ 4 ∷ 5 ∷ []) (by-part 0 tt 17 part-lend refl (by-mut pair 1 tt 19 lent refl (by-mut (R· E.param) 2 tt 21 lent refl none))) 8 gone (tt, (tt, (tt, tt))) refl ▹ at (read-at κs qs (made S.reading) (spent pair) (spent (R· E.param))) ▸
-      finish 5 refl ▸ returned E.param 256 21 5 5 same same refl ▸ lose 5 refl ▸ finish 4 refl ▸ back pair 19 2 1 4 (lease (κs .1 .0) (qs .1 .0)) same same refl refl ▸ lose 4 refl ▸ at (cut-at κs qs (made S.reading)) ▸
-      room 17 (unshared 3) ▸ room 7 (over i64) ▸ finish 3 refl ▸ unshares 1 0 3 (lease (κs .0) (qs .0)) same refl refl ▸ lose 3 refl ▸ at (head-at κs qs (made S.reading)) ▸
-      last tt (calls 0 Nk.ps Nk.r Nr.Asked Nr.Learnt Ns.name (Nr.known w code.env Ns.name Ns.routine code.calls-lister·answered (Nm.met (w .𝓤) (w .H) (w .𝓜) (w .𝓖) (w .𝓡))) [] (by-val C.state 6 held refl (by-choice S.reading 8 chosen-held refl none)) 6 (struct C.state refl) tt refl ◂ room 8 (choice S.reading refl))) (
-      room 9 (over sBool) ▸ nexts tt))))) (
-      put 0 sUnit gone unit refl (λ u. refl) (λ u. tt) ▹ room 5 (array E.param 256 refl) ▸ room 6 (struct C.state refl) ▸ returns tt))
+      puts 10 sBool gone (lt unsigned) (lit w64 0 tt) (fld 7 5 (part C.state 5 refl) refl) refl (λ u. refl) (λ u. tt) ▹
+      join (head-at κs qs (unmade S.reading)) (branch 10 (λ x. x) (sc sBool) refl (room 10 (over sBool) ▸ nexts tt) (room 10 (over sBool) ▸ exits 1 tt)) (begin 3 _ ▸ begin 4 _ ▸
+      lends bytes 1 11 0 3 same gone refl tt refl refl ▹
+      packs bytes 11 12 3 same gone (fld 1 1 (owed bytes 0 3 (lease (κs .0) (qs .0))) refl) refl refl ▹
+      lends bytes 3 13 2 4 same gone refl tt refl refl ▹
+      packs bytes 13 14 4 same gone (fld 3 1 (owed bytes 2 4 (lease (κs .1 .1 .0) (qs .1 .1 .0))) refl) refl refl ▹ at (turn-at κs qs (leased bytes 3) (leased bytes 4)) ▸
+      calls 2 Ak.ps Ak.r Ar.Asked Ar.Learnt As.name (Ar.known w code.env As.name As.routine code.calls-lister·advance (Am.met (w .𝓤) (w .H) (w .𝓜) (w .𝓖) (w .𝓡))) (3 ∷ 4 ∷ []) (by-mut bytes 0 tt 12 lent refl (by-mut bytes 1 tt 14 lent refl (by-val C.state 7 held refl none))) 7 (struct C.state refl) (tt, (tt, tt)) refl ▹ at (turn-at κs qs (spent bytes) (spent bytes)) ▸
+      finish 4 refl ▸ back bytes 14 3 2 4 (lease (κs .1 .1 .0) (qs .1 .1 .0)) same same refl refl ▸ lose 4 refl ▸ finish 3 refl ▸ back bytes 12 1 0 3 (lease (κs .0) (qs .0)) same same refl refl ▸ lose 3 refl ▸ at (head-at κs qs (unmade S.reading)) ▸
+      put 10 sBool gone (fld 7 2 (part C.state 2 refl) refl) refl (λ u. refl) (λ u. tt) ▹
+      branch 10 (λ x. x) (sc sBool) refl (
+      room 10 (over sBool) ▸ at (head-at κs qs (unmade S.reading)) ▸
+      put 8 i64 gone (fld 7 0 (part C.state 0 refl) refl) refl (λ u. refl) (λ u. tt) ▹
+      puts 15 sPtr gone offset (fld 1 0 (ptr bytes 0) refl) (lit w64 0 tt) refl (λ u. refl) (λ u. tt) ▹
+      puts 16 i64 gone (sub unsigned) (num 8 (sc i64) refl) (lit w64 0 tt) refl (λ u. refl) (λ u. tt) ▹ begin 3 _ ▸ shares 1 0 3 same refl tt ▸
+      cuts 1 15 17 0 3 (lease (κs .0) (qs .0)) (λ u. 0) (λ u. u .1 .1 .1 .1 .1 .1 .1 .1 .0) same same gone refl tt refl refl ▹ room 15 (over sPtr) ▸
+      packs-part 17 18 3 same gone (num 16 (sc i64) refl) refl refl ▹ room 16 (over i64) ▸ at (cut-at κs qs (unmade S.reading)) ▸ begin 4 _ ▸ begin 5 _ ▸
+      lends pair 2 19 1 4 same gone refl tt refl refl ▹
+      packs pair 19 20 4 same gone (fld 2 1 (owed pair 1 4 (lease (κs .1 .0) (qs .1 .0))) refl) refl refl ▹
+      borrows E.param 256 6 21 5 same gone refl (lit< tt, lit< tt) ▹
+      packs-all E.param 256 21 22 5 same gone tt refl refl ▹ at (read-at κs qs (unmade S.reading) (leased pair 4) (leased (R· E.param) 5)) ▸
+      calls 3 (S.read .ps) (S.read .r) (Asked S.read) (Learnt S.read) Ss.name (cites S.read w code.env Ss.name Ss.routine code.calls-strict·read (Sm.met (w .𝓤) (w .H) (w .𝓜) (w .𝓖) (w .𝓡))) (3 ∷ 4 ∷ 5 ∷ []) (by-part 0 tt 18 part-lend refl (by-mut pair 1 tt 20 lent refl (by-mut (R· E.param) 2 tt 22 lent refl none))) 9 gone (tt, (tt, (tt, tt))) refl ▹ at (read-at κs qs (made S.reading) (spent pair) (spent (R· E.param))) ▸
+      finish 5 refl ▸ returned E.param 256 22 6 5 same same refl ▸ lose 5 refl ▸ finish 4 refl ▸ back pair 20 2 1 4 (lease (κs .1 .0) (qs .1 .0)) same same refl refl ▸ lose 4 refl ▸ at (cut-at κs qs (made S.reading)) ▸
+      room 18 (unshared 3) ▸ room 8 (over i64) ▸ finish 3 refl ▸ unshares 1 0 3 (lease (κs .0) (qs .0)) same refl refl ▸ lose 3 refl ▸ at (head-at κs qs (made S.reading)) ▸
+      last tt (calls 0 Nk.ps Nk.r Nr.Asked Nr.Learnt Ns.name (Nr.known w code.env Ns.name Ns.routine code.calls-lister·answered (Nm.met (w .𝓤) (w .H) (w .𝓜) (w .𝓖) (w .𝓡))) [] (by-val C.state 7 held refl (by-choice S.reading 9 chosen-held refl none)) 7 (struct C.state refl) tt refl ◂ room 9 (choice S.reading refl))) (
+      room 10 (over sBool) ▸ nexts tt))))) (
+      put 0 sBool gone (fld 7 6 (part C.state 6 refl) refl) refl (λ u. refl) (λ u. tt) ▹ room 6 (array E.param 256 refl) ▸ room 7 (struct C.state refl) ▸ returns tt))
 
   laid : Laid C.run w code.env Key.name 3 code.function derived
   laid κs qs a good pre bs =
@@ -166,7 +166,7 @@ module _ (w : World) where
                         let line-ends = fix-len (line .ptr) (line .name) (vs .0) (line .now) line-same in
                         let elements-ends = fix-len (elements .ptr) (elements .name) (vs .1 .0) (elements .now) elements-same in
                         let chunk-ends = fix-len (chunk .ptr) (chunk .name) (vs .1 .1 .0) (chunk .now) chunk-same in
-                        ((line-ends, (elements-ends, (chunk-ends, tt))), tt)),
+                        ((line-ends, (elements-ends, (chunk-ends, (tt, tt)))), tt)),
                   ),
                 ),
           ),

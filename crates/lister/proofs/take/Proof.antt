@@ -7,10 +7,10 @@ use Rattle.lister.proofs.take.Statement.{statement}
 use Rattle.lister.proofs.take.Tie as tie
 
 abbrev Inv-loop : tie.InvT-loop
-Inv-loop line₀ chunk used₀ over₀ i₀ got left line used over i = (used ≤ length line) × (length line ≡ length line₀)
+Inv-loop line₀ chunk s used₀ over₀ i₀ got line used over i = (used ≤ length line) × (length line ≡ length line₀)
 
 abbrev μ-loop : tie.MeasureT-loop
-μ-loop line₀ chunk used₀ over₀ i₀ got left line used over i = got - i
+μ-loop line₀ chunk s used₀ over₀ i₀ got line used over i = got - i
 
 loop-holds : tie.Need-loop-holds Inv-loop μ-loop
 loop-holds c = search needs
@@ -20,6 +20,21 @@ shared-slice-read-b c = search needs
 
 add-i : tie.Need-add-i Inv-loop μ-loop
 add-i c = search needs
+
+sub-kept-len : tie.Need-sub-kept-len Inv-loop μ-loop
+sub-kept-len c = search needs
+
+part-kept-len-start : tie.Need-part-kept-len-start Inv-loop μ-loop
+part-kept-len-start c = search needs
+
+part-kept-len-end : tie.Need-part-kept-len-end Inv-loop μ-loop
+part-kept-len-end c = search needs
+
+kept-len-requires : tie.Need-kept-len-requires Inv-loop μ-loop
+kept-len-requires c κs = search needs
+
+moved-requires : tie.Need-moved-requires Inv-loop μ-loop
+moved-requires c κs = search needs
 
 ended-requires : tie.Need-ended-requires Inv-loop μ-loop
 ended-requires c κs = search needs
@@ -48,6 +63,9 @@ loop-less-2 c = search needs
 loop-again-2 : tie.Need-loop-again-2 Inv-loop μ-loop
 loop-again-2 c = search needs
 
+moved-requires-2 : tie.Need-moved-requires-2 Inv-loop μ-loop
+moved-requires-2 c κs = search needs
+
 same-length-2 : tie.Need-same-length-2 Inv-loop μ-loop
 same-length-2 c = search needs
 
@@ -63,6 +81,11 @@ take-spec =
     loop-holds
     shared-slice-read-b
     add-i
+    sub-kept-len
+    part-kept-len-start
+    part-kept-len-end
+    kept-len-requires
+    moved-requires
     ended-requires
     same-length
     returns
@@ -72,5 +95,6 @@ take-spec =
     loop-again
     loop-less-2
     loop-again-2
+    moved-requires-2
     same-length-2
     returns-2)

@@ -1,23 +1,14 @@
 use borrow.Author.Needs.{needs}
 use Prim.Native.Nat.{_-_, _≤_}
 use lib.ListN.{length}
-use Rattle.cases.proofs.main.Statement.{statement}
-use Rattle.cases.proofs.main.Tie as tie
+use Rattle.cases.proofs.show_cases.Statement.{statement}
+use Rattle.cases.proofs.show_cases.Tie as tie
 
 abbrev Inv-loop : tie.InvT-loop
-Inv-loop list n at₀ at = (n ≤ length list) × (at ≤ at)
+Inv-loop list at₀ at = at ≤ at
 
 abbrev μ-loop : tie.MeasureT-loop
-μ-loop list n at₀ at = n - at
-
-large-buffer-requires : tie.Need-large-buffer-requires Inv-loop μ-loop
-large-buffer-requires c κs = search needs
-
-slice-aggregate-read-full : tie.Need-slice-aggregate-read-full Inv-loop μ-loop
-slice-aggregate-read-full c = search needs
-
-read-full-requires : tie.Need-read-full-requires Inv-loop μ-loop
-read-full-requires c κs = search needs
+μ-loop list at₀ at = length list - at
 
 loop-holds : tie.Need-loop-holds Inv-loop μ-loop
 loop-holds c = search needs
@@ -61,15 +52,12 @@ loop-again c = search needs
 returns : tie.Need-returns Inv-loop μ-loop
 returns c = search needs
 
-pub main-spec : {M : Type 1} → statement M
-main-spec =
+pub show-cases-spec : {M : Type 1} → statement M
+show-cases-spec =
     tie.close
     (tie.spec
     Inv-loop
     μ-loop
-    large-buffer-requires
-    slice-aggregate-read-full
-    read-full-requires
     loop-holds
     sub-line-len
     part-line-len-start

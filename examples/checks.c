@@ -1,0 +1,450 @@
+/* What include/khamdoriem.h says, tried against the archive: examples/run builds this as C99 and as C++11 and runs it.
+   Sizes and offsets are compared when it is compiled, the rest when it runs. Its last line has the count. */
+#include <stdio.h>
+#include <stdlib.h>
+#include <string.h>
+
+#include "khamdoriem.h"
+
+/* ---- the memory that the archive expects */
+
+#define SAME(name, is) typedef char name[(is) ? 1 : -1]
+SAME(element_size, sizeof(khamdoriem_element) == 2 * 8);
+SAME(element_at, offsetof(khamdoriem_element, id_start) == 0 && offsetof(khamdoriem_element, id_len) == 8);
+SAME(param_size, sizeof(khamdoriem_param) == 5 * 8);
+SAME(param_at, offsetof(khamdoriem_param, element) == 0 && offsetof(khamdoriem_param, name_start) == 8 &&
+                   offsetof(khamdoriem_param, name_len) == 16 && offsetof(khamdoriem_param, value_start) == 24 &&
+                   offsetof(khamdoriem_param, value_len) == 32);
+SAME(read_size, sizeof(struct khamdoriem_read) == 16);
+SAME(read_at, offsetof(struct khamdoriem_read, number) == 0 && offsetof(struct khamdoriem_read, whole) == 4 &&
+                  offsetof(struct khamdoriem_read, reach) == 8);
+SAME(written_size, sizeof(struct khamdoriem_written) == 16);
+SAME(written_at, offsetof(struct khamdoriem_written, number) == 0 && offsetof(struct khamdoriem_written, len) == 8);
+SAME(record_ends, KHAMDORIEM_RECORD == KHAMDORIEM_AT_PARAMS + 8 && KHAMDORIEM_RECORD == KHAMDORIEM_AT_TIMESTAMP_TEXT);
+SAME(strict_ends, KHAMDORIEM_STRICT_RECORD == KHAMDORIEM_AT_HAS_MESSAGE + 8);
+SAME(elements_for, KHAMDORIEM_ELEMENTS_ENOUGH == KHAMDORIEM_ELEMENTS_FOR(KHAMDORIEM_LINE_LIMIT));
+SAME(params_for, KHAMDORIEM_PARAMS_ENOUGH == KHAMDORIEM_PARAMS_FOR(KHAMDORIEM_LINE_LIMIT));
+SAME(output_for, KHAMDORIEM_OUTPUT_ENOUGH == KHAMDORIEM_OUTPUT_FOR(KHAMDORIEM_LINE_LIMIT));
+SAME(value_for, KHAMDORIEM_VALUE_ENOUGH == KHAMDORIEM_VALUE_FOR(KHAMDORIEM_LINE_LIMIT));
+
+static unsigned long passed, failed;
+
+static void check(int is, int at, const char *what) {
+    if (is) {
+        passed++;
+        return;
+    }
+    failed++;
+    fprintf(stderr, "checks: line %d: not so: %s\n", at, what);
+}
+
+#define CHECK(is) check(!!(is), __LINE__, #is)
+
+/* ---- one line, one record, one pair of tables, one output; each with a part behind it that is not lent */
+
+enum { SPARE = 3 };
+static uint8_t line[KHAMDORIEM_LINE_LIMIT + 2];
+static size_t len;
+static uint8_t record[KHAMDORIEM_STRICT_RECORD + SPARE];
+static khamdoriem_element elements[KHAMDORIEM_ELEMENTS_ENOUGH + SPARE];
+static khamdoriem_param params[KHAMDORIEM_PARAMS_ENOUGH + SPARE];
+static uint8_t output[KHAMDORIEM_OUTPUT_ENOUGH + SPARE];
+
+static void start(const char *text) {
+    len = strlen(text);
+    memcpy(line, text, len);
+}
+
+static void add(const char *text, size_t times) {
+    for (; times; times--) {
+        memcpy(line + len, text, strlen(text));
+        len += strlen(text);
+    }
+}
+
+static struct khamdoriem_read loose_into(uint32_t variant, size_t e, size_t p) {
+    return khamdoriem_read_loose(line, len, variant, 2026, 60, elements, e, params, p, record, KHAMDORIEM_RECORD);
+}
+
+static struct khamdoriem_read loose(void) {
+    return loose_into(KHAMDORIEM_VARIANT_EITHER, KHAMDORIEM_ELEMENTS_ENOUGH, KHAMDORIEM_PARAMS_ENOUGH);
+}
+
+static struct khamdoriem_read strict_into(size_t e, size_t p) {
+    return khamdoriem_read_strict(line, len, elements, e, params, p, record, KHAMDORIEM_STRICT_RECORD);
+}
+
+static struct khamdoriem_read strict(void) {
+    return strict_into(KHAMDORIEM_ELEMENTS_ENOUGH, KHAMDORIEM_PARAMS_ENOUGH);
+}
+
+static struct khamdoriem_written print_into(size_t room) {
+    return khamdoriem_print(line, len, record, KHAMDORIEM_RECORD, elements, khamdoriem_element_count(record), params,
+                            khamdoriem_param_count(record), output, room);
+}
+
+static struct khamdoriem_written look(const char *id, const char *name, uint32_t kind, size_t room) {
+    return khamdoriem_lookup(line, len, record, KHAMDORIEM_RECORD, elements, khamdoriem_element_count(record), params,
+                             khamdoriem_param_count(record), (const uint8_t *)id, strlen(id), (const uint8_t *)name,
+                             strlen(name), kind, output, room);
+}
+
+static int same(const uint8_t *text, size_t n, const char *expected) {
+    return text && n == strlen(expected) && !memcmp(text, expected, n);
+}
+
+static int absent(const uint8_t *text, size_t n) { return !text && n == 0; }
+
+/* All that a reader may write, at one value. */
+static void fill(uint8_t value) {
+    memset(record, value, sizeof record);
+    memset(elements, value, sizeof elements);
+    memset(params, value, sizeof params);
+    memset(output, value, sizeof output);
+}
+
+static int all(const void *memory, size_t from, size_t to, uint8_t value) {
+    const uint8_t *byte = (const uint8_t *)memory;
+    for (; from < to; from++)
+        if (byte[from] != value) return 0;
+    return 1;
+}
+
+static int filled(uint8_t value) {
+    return all(record, 0, sizeof record, value) && all(elements, 0, sizeof elements, value) &&
+           all(params, 0, sizeof params, value) && all(output, 0, sizeof output, value);
+}
+
+/* ---- the record, field by field */
+
+static void check_strict_fields(void) {
+    struct khamdoriem_instant t = {0, 0, 0, 0};
+    size_t n;
+    const uint8_t *text;
+    start("<165>1 2003-08-24T05:14:15.000003-07:00 192.0.2.1 myproc 8710 ID47 [a@1 x=\"1\" y=\"q\\\"\"][b] hello");
+    fill(0xA5);
+    CHECK(strict().number == KHAMDORIEM_DONE);
+    CHECK(khamdoriem_protocol(record) == KHAMDORIEM_PROTOCOL_RFC5424 && khamdoriem_version(record) == 1);
+    CHECK(khamdoriem_facility(record) == 20 && khamdoriem_severity(record) == 5);
+    CHECK(khamdoriem_timestamp(record, &t) == 1);
+    /* 2003-08-24T12:14:15Z */
+    CHECK(t.seconds == 1061727255 && t.nanoseconds == 3000 && t.digits == 6 && t.offset == -420);
+    text = khamdoriem_host(line, record, &n), CHECK(same(text, n, "192.0.2.1"));
+    text = khamdoriem_app_name(line, record, &n), CHECK(same(text, n, "myproc"));
+    text = khamdoriem_process_id(line, record, &n), CHECK(same(text, n, "8710"));
+    text = khamdoriem_message_id(line, record, &n), CHECK(same(text, n, "ID47"));
+    text = khamdoriem_message(line, record, &n), CHECK(same(text, n, "hello"));
+    text = khamdoriem_timestamp_text(line, record, &n), CHECK(same(text, n, "2003-08-24T05:14:15.000003-07:00"));
+    CHECK(khamdoriem_has_message(record) == 1);
+    CHECK(khamdoriem_element_count(record) == 2 && khamdoriem_param_count(record) == 2);
+    text = khamdoriem_id(line, &elements[0], &n), CHECK(same(text, n, "a@1"));
+    text = khamdoriem_id(line, &elements[1], &n), CHECK(same(text, n, "b"));
+    CHECK(params[0].element == 0 && params[1].element == 0);
+    text = khamdoriem_name(line, &params[1], &n), CHECK(same(text, n, "y"));
+    text = khamdoriem_value(line, &params[1], &n), CHECK(same(text, n, "q\\\""));
+    CHECK(khamdoriem_unescape(line, len, &params[1], KHAMDORIEM_KIND_STRICT, output, 2).len == 2);
+    CHECK(same(output, 2, "q\""));
+    /* nothing past the results */
+    CHECK(all(record, KHAMDORIEM_STRICT_RECORD, sizeof record, 0xA5));
+    CHECK(all(elements, 2 * sizeof *elements, sizeof elements, 0xA5));
+    CHECK(all(params, 2 * sizeof *params, sizeof params, 0xA5) && all(output, 2, sizeof output, 0xA5));
+}
+
+static void check_absent_fields(void) {
+    struct khamdoriem_instant t = {7, 7, 7, 7};
+    size_t n;
+    const uint8_t *text;
+    start("<0>1 - - - - - -");
+    CHECK(strict().number == KHAMDORIEM_DONE);
+    CHECK(khamdoriem_timestamp(record, &t) == 0 && t.seconds == 7 && t.offset == 7);
+    text = khamdoriem_host(line, record, &n), CHECK(absent(text, n));
+    text = khamdoriem_app_name(line, record, &n), CHECK(absent(text, n));
+    text = khamdoriem_process_id(line, record, &n), CHECK(absent(text, n));
+    text = khamdoriem_message_id(line, record, &n), CHECK(absent(text, n));
+    text = khamdoriem_timestamp_text(line, record, &n), CHECK(absent(text, n));
+    text = khamdoriem_message(line, record, &n), CHECK(text && n == 0);
+    CHECK(khamdoriem_has_message(record) == 0);
+    add(" ", 1);
+    CHECK(strict().number == KHAMDORIEM_DONE && khamdoriem_has_message(record) == 1);
+}
+
+static void check_loose_fields(void) {
+    struct khamdoriem_instant t = {0, 0, 0, 0};
+    struct khamdoriem_read answer;
+    size_t n;
+    const uint8_t *text;
+    /* RFC 3164, and an empty app name, which is not an absent one */
+    start("Dec 31 23:59:59 [1]: m");
+    answer = loose();
+    CHECK(answer.number == KHAMDORIEM_DONE && answer.whole == 0 && answer.reach == 0);
+    CHECK(khamdoriem_protocol(record) == KHAMDORIEM_PROTOCOL_RFC3164 && khamdoriem_version(record) == 0);
+    CHECK(khamdoriem_facility(record) == -1 && khamdoriem_severity(record) == -1);
+    CHECK(khamdoriem_timestamp(record, &t) == 1);
+    /* 2026-12-31T22:59:59Z: the year and the offset of the settings, which is east of Greenwich */
+    CHECK(t.seconds == 1798757999 && t.nanoseconds == 0 && t.digits == 0 && t.offset == 60);
+    text = khamdoriem_app_name(line, record, &n), CHECK(text && n == 0);
+    text = khamdoriem_process_id(line, record, &n), CHECK(same(text, n, "1"));
+    text = khamdoriem_message(line, record, &n), CHECK(same(text, n, "m"));
+    /* before 1970 */
+    start("<14>1 1969-12-31T23:59:59.25Z h a p m - x");
+    CHECK(loose().number == KHAMDORIEM_DONE && khamdoriem_timestamp(record, &t) == 1);
+    CHECK(t.seconds == -1 && t.nanoseconds == 250000000 && t.digits == 2 && t.offset == 0);
+    CHECK(khamdoriem_facility(record) == 1 && khamdoriem_severity(record) == 6);
+    /* no reading: the whole line is the message */
+    start(" antenna detuned ");
+    answer = loose();
+    CHECK(answer.number == KHAMDORIEM_DONE && answer.whole == 1);
+    text = khamdoriem_message(line, record, &n), CHECK(same(text, n, " antenna detuned "));
+}
+
+/* The variants: which of them reads which line. */
+static void check_variants(void) {
+    const char *lines[] = {"Feb 5 10:01:02 h t: m", "1 - h a p m - x"};
+    uint32_t variant;
+    int i;
+    for (i = 0; i < 2; i++)
+        for (variant = 0; variant < 3; variant++) {
+            int reads = variant == KHAMDORIEM_VARIANT_EITHER ||
+                        variant == (i ? KHAMDORIEM_VARIANT_RFC5424 : KHAMDORIEM_VARIANT_RFC3164);
+            struct khamdoriem_read answer;
+            start(lines[i]);
+            answer = loose_into(variant, 1, 1);
+            CHECK(answer.number == KHAMDORIEM_DONE && answer.whole == !reads);
+        }
+}
+
+/* ---- refusals, each with memory that stays as it was */
+
+static uint32_t set(uint32_t variant, uint32_t year, int32_t offset) {
+    return khamdoriem_read_loose(line, len, variant, year, offset, elements, 1, params, 1, record, KHAMDORIEM_RECORD)
+        .number;
+}
+
+static void check_refused_readings(void) {
+    fill(0x5A);
+    start("x");
+    CHECK(set(3, 2026, 0) == KHAMDORIEM_BAD_SETTING);
+    CHECK(set(0, KHAMDORIEM_LAST_YEAR + 1, 0) == KHAMDORIEM_BAD_SETTING);
+    CHECK(set(0, 2026, KHAMDORIEM_LAST_OFFSET + 1) == KHAMDORIEM_BAD_SETTING);
+    CHECK(set(0, 2026, -KHAMDORIEM_LAST_OFFSET - 1) == KHAMDORIEM_BAD_SETTING);
+    CHECK(strict().number == KHAMDORIEM_NO_READING);
+    start("\xFF");
+    CHECK(loose().number == KHAMDORIEM_NOT_UTF8);
+    start("");
+    add("x", KHAMDORIEM_LINE_LIMIT + 1);
+    CHECK(loose().number == KHAMDORIEM_LINE_TOO_LONG && strict().number == KHAMDORIEM_LINE_TOO_LONG);
+    CHECK(filled(0x5A));
+    len--;
+    CHECK(loose().number == KHAMDORIEM_DONE);
+    CHECK(set(0, KHAMDORIEM_LAST_YEAR, KHAMDORIEM_LAST_OFFSET) == KHAMDORIEM_DONE);
+    CHECK(set(2, 0, -KHAMDORIEM_LAST_OFFSET) == KHAMDORIEM_DONE);
+}
+
+/* Tables of no entries, at any address that is not null; records that are a byte short. */
+static void check_no_room(void) {
+    uint8_t nothing = 0x5A;
+    khamdoriem_element *no_elements = elements + KHAMDORIEM_ELEMENTS_ENOUGH + SPARE;
+    khamdoriem_param *no_params = params + KHAMDORIEM_PARAMS_ENOUGH + SPARE;
+    fill(0x5A);
+    start("<0>1 - h a p m [a x=\"1\"][b] m");
+    CHECK(loose_into(0, 0, 0).number == KHAMDORIEM_TOO_MANY_ELEMENTS);
+    CHECK(loose_into(0, 1, 9).number == KHAMDORIEM_TOO_MANY_ELEMENTS);
+    CHECK(loose_into(0, 2, 0).number == KHAMDORIEM_TOO_MANY_PARAMS);
+    CHECK(strict_into(0, 0).number == KHAMDORIEM_TOO_MANY_ELEMENTS);
+    CHECK(strict_into(2, 0).number == KHAMDORIEM_TOO_MANY_PARAMS);
+    CHECK(khamdoriem_read_loose(line, len, 0, 2026, 0, elements, 2, params, 1, record, KHAMDORIEM_RECORD - 1).number ==
+          KHAMDORIEM_OUTPUT_SHORT);
+    CHECK(khamdoriem_read_strict(line, len, elements, 2, params, 1, record, KHAMDORIEM_STRICT_RECORD - 1).number ==
+          KHAMDORIEM_OUTPUT_SHORT);
+    CHECK(filled(0x5A));
+    CHECK(loose_into(0, 2, 1).number == KHAMDORIEM_DONE && strict_into(2, 1).number == KHAMDORIEM_DONE);
+    start("<0>1 - h a p m - m");
+    CHECK(khamdoriem_read_loose(line, len, 0, 2026, 0, no_elements, 0, no_params, 0, record, KHAMDORIEM_RECORD)
+              .number == KHAMDORIEM_DONE);
+    CHECK(khamdoriem_read_strict(line, len, no_elements, 0, no_params, 0, record, KHAMDORIEM_STRICT_RECORD).number ==
+          KHAMDORIEM_DONE);
+    CHECK(khamdoriem_print(line, len, record, KHAMDORIEM_RECORD, no_elements, 0, no_params, 0, &nothing, 0).number ==
+          KHAMDORIEM_OUTPUT_SHORT);
+    CHECK(khamdoriem_lookup(line, len, record, KHAMDORIEM_RECORD, no_elements, 0, no_params, 0, &nothing, 0, &nothing,
+                            0, 0, output, 0)
+              .number == KHAMDORIEM_NOT_FOUND);
+    /* the empty line */
+    CHECK(khamdoriem_read_loose(&nothing, 0, 0, 2026, 0, no_elements, 0, no_params, 0, record, KHAMDORIEM_RECORD)
+              .whole == 1);
+    CHECK(nothing == 0x5A);
+}
+
+static void check_output(void) {
+    size_t n;
+    start("<13>Feb  5 10:01:02 gate7 reader[42]: [a x=\"1\\n\"][a x=\"2\"] tap ok");
+    CHECK(loose().number == KHAMDORIEM_DONE);
+    n = print_into(sizeof output).len;
+    CHECK(same(output, n, "<13> 2026-02-05T10:01:02+01:00 gate7 reader[42]: [a x=\"1\\n\"][a x=\"2\"] tap ok"));
+    CHECK(print_into(n).number == KHAMDORIEM_DONE);
+    memset(output, 0x5A, sizeof output);
+    CHECK(print_into(n - 1).number == KHAMDORIEM_OUTPUT_SHORT && print_into(n - 1).len == 0);
+    CHECK(look("a", "x", KHAMDORIEM_KIND_LOOSE, 1).number == KHAMDORIEM_OUTPUT_SHORT);
+    CHECK(look("a", "x", 2, 9).number == KHAMDORIEM_BAD_SETTING);
+    CHECK(look("a", "y", KHAMDORIEM_KIND_LOOSE, 9).number == KHAMDORIEM_NOT_FOUND);
+    CHECK(all(output, 0, sizeof output, 0x5A));
+    CHECK(look("a", "x", KHAMDORIEM_KIND_LOOSE, 9).len == 2 && same(output, 2, "1\n"));
+    CHECK(look("a", "x", KHAMDORIEM_KIND_STRICT, 9).len == 3 && same(output, 3, "1\\n"));
+    /* the second element of that id, which lookup does not reach */
+    CHECK(khamdoriem_unescape(line, len, &params[1], KHAMDORIEM_KIND_LOOSE, output, 9).len == 1 && output[0] == '2');
+    /* id and name may be parts of the line */
+    CHECK(khamdoriem_lookup(line, len, record, KHAMDORIEM_RECORD, elements, 2, params, 2, line + elements[0].id_start,
+                            elements[0].id_len, line + params[0].name_start, params[0].name_len, 0, output, 9)
+              .len == 2);
+}
+
+/* Bytes anywhere: line, record and output at odd addresses. */
+static void check_alignment(void) {
+    size_t n;
+    start("!<0>1 2026-01-02T03:04:05Z h a p m - x");
+    CHECK(khamdoriem_read_strict(line + 1, len - 1, elements, 0, params, 0, record + 1, KHAMDORIEM_STRICT_RECORD)
+              .number == KHAMDORIEM_DONE);
+    n = khamdoriem_print(line + 1, len - 1, record + 1, KHAMDORIEM_RECORD, elements, 0, params, 0, output + 1,
+                         sizeof output - 1)
+            .len;
+    CHECK(same(output + 1, n, "<0>1 2026-01-02T03:04:05+00:00 h a p m - x"));
+}
+
+/* ---- what suits */
+
+static void put_word(size_t at, uint64_t word) { memcpy(record + at, &word, sizeof word); }
+
+/* What print answers with one word of the record changed. */
+static uint32_t with_word(size_t at, uint64_t word) {
+    uint64_t kept = khamdoriem_word(record, at);
+    uint32_t number;
+    put_word(at, word);
+    number =
+        khamdoriem_print(line, len, record, KHAMDORIEM_RECORD, elements, 2, params, 2, output, sizeof output).number;
+    put_word(at, kept);
+    return number;
+}
+
+#define SUITS(at, word) CHECK(with_word(at, (uint64_t)(word)) == KHAMDORIEM_DONE)
+#define SUITS_NOT(at, word) CHECK(with_word(at, (uint64_t)(word)) == KHAMDORIEM_UNSUITABLE)
+
+static void check_suits_record(void) {
+    start("<0>1 2026-01-02T03:04:05.5Z h a p m [a x=\"1\"][b y=\"2\"] m");
+    CHECK(strict().number == KHAMDORIEM_DONE);
+    SUITS(KHAMDORIEM_AT_HOST + 16, len - khamdoriem_word(record, KHAMDORIEM_AT_HOST + 8));
+    SUITS_NOT(KHAMDORIEM_AT_HOST + 16, len + 1 - khamdoriem_word(record, KHAMDORIEM_AT_HOST + 8));
+    SUITS_NOT(KHAMDORIEM_AT_APP_NAME + 8, len);
+    SUITS_NOT(KHAMDORIEM_AT_PROCESS_ID + 8, UINT64_MAX);
+    SUITS_NOT(KHAMDORIEM_AT_MESSAGE_ID + 16, len);
+    SUITS_NOT(KHAMDORIEM_AT_MESSAGE + 8, 2);
+    SUITS(KHAMDORIEM_AT_FACILITY + 8, 23);
+    SUITS_NOT(KHAMDORIEM_AT_FACILITY + 8, 24);
+    SUITS(KHAMDORIEM_AT_SEVERITY + 8, 7);
+    SUITS_NOT(KHAMDORIEM_AT_SEVERITY + 8, 8);
+    SUITS_NOT(KHAMDORIEM_AT_NANOSECONDS, 1000000000);
+    SUITS_NOT(KHAMDORIEM_AT_NANOSECONDS, 510000000);
+    SUITS(KHAMDORIEM_AT_DIGITS, 9);
+    SUITS_NOT(KHAMDORIEM_AT_DIGITS, 10);
+    SUITS_NOT(KHAMDORIEM_AT_DIGITS, 0);
+    SUITS(KHAMDORIEM_AT_OFFSET, 1439);
+    SUITS_NOT(KHAMDORIEM_AT_OFFSET, 1440);
+    SUITS_NOT(KHAMDORIEM_AT_OFFSET, -1440);
+    SUITS(KHAMDORIEM_AT_SECONDS, INT64_C(253402300799));  /* 9999-12-31T23:59:59Z */
+    SUITS_NOT(KHAMDORIEM_AT_SECONDS, INT64_C(253402300800));
+    SUITS(KHAMDORIEM_AT_SECONDS, INT64_C(-62167219200));  /* 0000-01-01T00:00:00Z */
+    SUITS_NOT(KHAMDORIEM_AT_SECONDS, INT64_C(-62167219201));
+    SUITS_NOT(KHAMDORIEM_AT_PROTOCOL, 2);
+    SUITS_NOT(KHAMDORIEM_AT_ELEMENTS, 3);
+    SUITS_NOT(KHAMDORIEM_AT_PARAMS, 3);
+    SUITS_NOT(KHAMDORIEM_AT_ELEMENTS, 1); /* then the second parameter is of no element */
+}
+
+static void check_suits_tables(void) {
+    size_t n;
+    CHECK(print_into(sizeof output).number == KHAMDORIEM_DONE);
+    n = elements[1].id_len, elements[1].id_len = len, CHECK(print_into(sizeof output).number == KHAMDORIEM_UNSUITABLE);
+    elements[1].id_len = n;
+    n = params[1].name_len, params[1].name_len = len, CHECK(print_into(sizeof output).number == KHAMDORIEM_UNSUITABLE);
+    params[1].name_len = n;
+    n = params[1].value_start, params[1].value_start = len;
+    CHECK(print_into(sizeof output).number == KHAMDORIEM_UNSUITABLE);
+    params[1].value_start = n;
+    params[0].element = 1, params[1].element = 0;
+    CHECK(print_into(sizeof output).number == KHAMDORIEM_UNSUITABLE);
+    params[1].element = 1;
+    CHECK(print_into(sizeof output).number == KHAMDORIEM_DONE);
+}
+
+/* ---- what is always enough: the worst lines there are */
+
+static void check_elements_enough(void) {
+    size_t i, k = 0;
+    char id[4] = "[..";
+    start("1 - h a p m ");
+    add("[x]", 2726);
+    CHECK(len == 8190 && loose().number == KHAMDORIEM_DONE && khamdoriem_element_count(record) == 2726);
+    CHECK(loose_into(0, 2725, 0).number == KHAMDORIEM_TOO_MANY_ELEMENTS);
+    /* the strict reader wants ids that differ: all of one byte, then of two */
+    start("<0>1 - - - - - ");
+    for (i = 0; i < 94 * 95 && k < 2067; i++) {
+        char one = (char)(33 + i % 94), two = (char)(32 + i / 94);
+        if (strchr("=]\"", one) || strchr("=]\"", two)) continue;
+        id[1] = one, id[2] = two == ' ' ? '\0' : two;
+        add(id, 1), add("]", 1), k++;
+    }
+    CHECK(len == 8192 && strict().number == KHAMDORIEM_DONE && khamdoriem_element_count(record) == 2067);
+    CHECK(strict_into(2066, 0).number == KHAMDORIEM_TOO_MANY_ELEMENTS);
+}
+
+static void check_params_enough(void) {
+    start("-[x\v=\"\"");
+    add(" a=\"\"", 1636), add("]", 1);
+    CHECK(len == 8188 && loose().number == KHAMDORIEM_DONE && khamdoriem_param_count(record) == 1637);
+    CHECK(loose_into(0, 1, 1636).number == KHAMDORIEM_TOO_MANY_PARAMS);
+    start("<0>1 - - - - - [x");
+    add(" a=\"\"", 1634), add("]", 1);
+    CHECK(len == 8188 && strict().number == KHAMDORIEM_DONE && khamdoriem_param_count(record) == 1634);
+}
+
+static void check_output_enough(void) {
+    start("Feb 5 1:2:3");
+    add("[x\v=\"\"]", 1168), add("x", 5);
+    CHECK(len == 8192 && loose().number == KHAMDORIEM_DONE && khamdoriem_element_count(record) == 1168);
+    CHECK(print_into(KHAMDORIEM_OUTPUT_ENOUGH).len == 9385);
+    CHECK(print_into(9384).number == KHAMDORIEM_OUTPUT_SHORT);
+    start("");
+    add("x", 8192);
+    CHECK(loose().whole == 1 && print_into(KHAMDORIEM_OUTPUT_ENOUGH).len == 8203);
+    start("-[x\v=\"");
+    add("x", 8184), add("\"]", 1);
+    CHECK(len == 8192 && loose().number == KHAMDORIEM_DONE);
+    CHECK(look("x", "\v", KHAMDORIEM_KIND_LOOSE, KHAMDORIEM_VALUE_ENOUGH).len == 8184);
+}
+
+/* ---- words */
+
+static void check_texts(void) {
+    uint32_t i, k;
+    for (i = 0; i <= 10; i++)
+        for (k = 0; k < i; k++) CHECK(strcmp(khamdoriem_refusal_text(i), khamdoriem_refusal_text(k)) != 0);
+    CHECK(khamdoriem_refusal_text(10) == khamdoriem_refusal_text(4294967295u));
+}
+
+int main(void) {
+    CHECK(khamdoriem_interface() == KHAMDORIEM_INTERFACE);
+    check_strict_fields();
+    check_absent_fields();
+    check_loose_fields();
+    check_variants();
+    check_refused_readings();
+    check_no_room();
+    check_output();
+    check_alignment();
+    check_suits_record();
+    check_suits_tables();
+    check_elements_enough();
+    check_params_enough();
+    check_output_enough();
+    check_texts();
+    printf("checks: %lu passed, %lu failed\n", passed, failed);
+    return failed ? EXIT_FAILURE : EXIT_SUCCESS;
+}

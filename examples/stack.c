@@ -1,0 +1,132 @@
+/* How much stack the calls take. Each is made by a thread whose stack was filled with one byte; what lies between the
+   caller's own variables and the lowest byte that changed is what the call took. Run by examples/run. */
+#define _POSIX_C_SOURCE 200112L
+#include <pthread.h>
+#include <stdio.h>
+#include <stdlib.h>
+#include <string.h>
+
+#include "khamdoriem.h"
+
+enum { ROOM = 256 * 1024, FILL = 0xA5 };
+
+static uint8_t line[KHAMDORIEM_LINE_LIMIT + 8], record[KHAMDORIEM_STRICT_RECORD], output[KHAMDORIEM_OUTPUT_ENOUGH];
+static size_t len;
+static khamdoriem_element elements[KHAMDORIEM_ELEMENTS_ENOUGH];
+static khamdoriem_param params[KHAMDORIEM_PARAMS_ENOUGH];
+static uint32_t number; /* what the call answered */
+static uintptr_t top;   /* where the stack of its caller was */
+
+/* The same for every call: notes where the stack is, and makes it. */
+static void *caller(void *call) {
+    uint8_t here = 0;
+    top = (uintptr_t)&here;
+    (*(void (**)(void))call)();
+    return NULL;
+}
+
+static void no_call(void) {}
+
+static void read_loose(void) {
+    number = khamdoriem_read_loose(line, len, 0, 2026, 60, elements, KHAMDORIEM_ELEMENTS_ENOUGH, params,
+                                   KHAMDORIEM_PARAMS_ENOUGH, record, sizeof record)
+                 .number;
+}
+
+static void read_strict(void) {
+    number = khamdoriem_read_strict(line, len, elements, KHAMDORIEM_ELEMENTS_ENOUGH, params, KHAMDORIEM_PARAMS_ENOUGH,
+                                    record, sizeof record)
+                 .number;
+}
+
+static void print(void) {
+    number = khamdoriem_print(line, len, record, sizeof record, elements, KHAMDORIEM_ELEMENTS_ENOUGH, params,
+                              KHAMDORIEM_PARAMS_ENOUGH, output, sizeof output)
+                 .number;
+}
+
+static void look(void) {
+    number = khamdoriem_lookup(line, len, record, sizeof record, elements, KHAMDORIEM_ELEMENTS_ENOUGH, params,
+                               KHAMDORIEM_PARAMS_ENOUGH, line, 1, line, 1, 0, output, sizeof output)
+                 .number;
+}
+
+/* The bytes that a call took. The stack grows down. */
+static size_t taken(void (*call)(void)) {
+    pthread_attr_t attr;
+    pthread_t thread;
+    void *memory;
+    uint8_t *byte;
+    size_t n = 0;
+    if (posix_memalign(&memory, 4096, ROOM)) exit(2);
+    byte = (uint8_t *)memory;
+    memset(byte, FILL, ROOM);
+    if (pthread_attr_init(&attr) || pthread_attr_setstack(&attr, memory, ROOM) ||
+        pthread_create(&thread, &attr, caller, &call) || pthread_join(thread, NULL))
+        exit(2);
+    while (n < ROOM && byte[n] == FILL) n++;
+    n = top - ((uintptr_t)byte + n);
+    free(memory);
+    return n;
+}
+
+static size_t most;
+
+static void measure(const char *what, void (*call)(void), uint32_t expected) {
+    size_t n = taken(call);
+    if (number != expected) {
+        fprintf(stderr, "stack: %s: answered %u, not %u\n", what, (unsigned)number, (unsigned)expected);
+        exit(1);
+    }
+    if (n > most) most = n;
+    printf("stack: %6lu bytes: %s\n", (unsigned long)n, what);
+}
+
+static void start(const char *text) {
+    len = strlen(text);
+    memcpy(line, text, len);
+}
+
+/* Elements with different ids, of one byte and then of two, as many as the count says and the line holds. */
+static void add_elements(size_t count) {
+    size_t i;
+    for (i = 0; count && len + 4 <= KHAMDORIEM_LINE_LIMIT; i++) {
+        uint8_t one = (uint8_t)(33 + i % 94), two = (uint8_t)(32 + i / 94);
+        if (strchr("=]\"", one) || strchr("=]\"", two)) continue;
+        line[len++] = '[';
+        line[len++] = one;
+        if (two != ' ') line[len++] = two;
+        line[len++] = ']';
+        count--;
+    }
+}
+
+static void measure_strict(const char *what, size_t count) {
+    start("<0>1 2026-01-02T03:04:05.678Z h a p m ");
+    add_elements(count);
+    measure(what, read_strict, KHAMDORIEM_DONE);
+}
+
+int main(void) {
+    measure("no call: what the end of a thread takes, and so the least that is seen here", no_call, KHAMDORIEM_DONE);
+    start("<13>Feb  5 10:01:02 gate7 reader[42]: [a x=\"1\"][a x=\"2\"] tap ok");
+    measure("read_loose, RFC 3164", read_loose, KHAMDORIEM_DONE);
+    measure("print", print, KHAMDORIEM_DONE);
+    measure("lookup", look, KHAMDORIEM_NOT_FOUND);
+    start("1 2026-01-02T03:04:05.678Z h a p m ");
+    add_elements(2726);
+    measure("read_loose, RFC 5424, 8,192 bytes of elements", read_loose, KHAMDORIEM_DONE);
+    measure("print of that", print, KHAMDORIEM_DONE);
+    start("antenna detuned");
+    measure("read_loose, no reading", read_loose, KHAMDORIEM_DONE);
+    measure_strict("read_strict, 1 element", 1);
+    measure_strict("read_strict, 8 elements", 8);
+    measure_strict("read_strict, 9 elements", 9);
+    measure_strict("read_strict, 64 elements", 64);
+    measure_strict("read_strict, 65 elements", 65);
+    measure_strict("read_strict, 512 elements", 512);
+    measure_strict("read_strict, 513 elements", 513);
+    measure_strict("read_strict, 8,192 bytes of elements", 2067);
+    printf("stack: at most %lu bytes, and KHAMDORIEM_STACK is %d\n", (unsigned long)most, KHAMDORIEM_STACK);
+    return most <= KHAMDORIEM_STACK ? 0 : 1;
+}
