@@ -20,6 +20,19 @@ SAME(read_at, offsetof(struct khamdoriem_read, number) == 0 && offsetof(struct k
                   offsetof(struct khamdoriem_read, reach) == 8);
 SAME(written_size, sizeof(struct khamdoriem_written) == 16);
 SAME(written_at, offsetof(struct khamdoriem_written, number) == 0 && offsetof(struct khamdoriem_written, len) == 8);
+SAME(stream_size, sizeof(struct khamdoriem_stream) == 12);
+SAME(stream_at, offsetof(struct khamdoriem_stream, stage) == 0 && offsetof(struct khamdoriem_stream, left) == 4 &&
+                    offsetof(struct khamdoriem_stream, came) == 8);
+SAME(started_size, sizeof(struct khamdoriem_started) == 16);
+SAME(started_at, offsetof(struct khamdoriem_started, number) == 0 && offsetof(struct khamdoriem_started, state) == 4);
+SAME(fed_size, sizeof(struct khamdoriem_fed) == 40);
+SAME(fed_at, offsetof(struct khamdoriem_fed, number) == 0 && offsetof(struct khamdoriem_fed, frame) == 4 &&
+                 offsetof(struct khamdoriem_fed, taken) == 8 && offsetof(struct khamdoriem_fed, len) == 16 &&
+                 offsetof(struct khamdoriem_fed, state) == 24);
+SAME(finished_size, sizeof(struct khamdoriem_finished) == 8);
+SAME(finished_at,
+     offsetof(struct khamdoriem_finished, number) == 0 && offsetof(struct khamdoriem_finished, unfinished) == 4);
+SAME(frame_is_line, KHAMDORIEM_STREAM_BUFFER == KHAMDORIEM_LINE_LIMIT);
 SAME(record_ends, KHAMDORIEM_RECORD == KHAMDORIEM_AT_PARAMS + 8 && KHAMDORIEM_RECORD == KHAMDORIEM_AT_TIMESTAMP_TEXT);
 SAME(strict_ends, KHAMDORIEM_STRICT_RECORD == KHAMDORIEM_AT_HAS_MESSAGE + 8);
 SAME(elements_for, KHAMDORIEM_ELEMENTS_ENOUGH == KHAMDORIEM_ELEMENTS_FOR(KHAMDORIEM_LINE_LIMIT));
@@ -420,13 +433,139 @@ static void check_output_enough(void) {
     CHECK(look("x", "\v", KHAMDORIEM_KIND_LOOSE, KHAMDORIEM_VALUE_ENOUGH).len == 8184);
 }
 
+/* ---- streams: the lines' memory has the stream, the output the buffer */
+
+static struct khamdoriem_stream state;
+
+static void begin(uint32_t kind) { state = khamdoriem_stream_start(kind).state; }
+
+/* Feeds the bytes of the stream from a place to another, with a buffer of so many bytes. */
+static struct khamdoriem_fed feed_into(size_t from, size_t to, size_t room) {
+    struct khamdoriem_fed fed = khamdoriem_stream_feed(state, line + from, to - from, output, room);
+    state = fed.state;
+    return fed;
+}
+
+static struct khamdoriem_fed feed(size_t from, size_t to) { return feed_into(from, to, KHAMDORIEM_STREAM_BUFFER); }
+
+/* 0 and no frame; a frame; a refusal: each with the bytes that it took. */
+static int more(struct khamdoriem_fed fed, size_t taken) {
+    return fed.number == KHAMDORIEM_DONE && fed.frame == 0 && fed.taken == taken && fed.len == 0;
+}
+
+static int framed(struct khamdoriem_fed fed, size_t taken, const char *frame) {
+    return fed.number == KHAMDORIEM_DONE && fed.frame == 1 && fed.taken == taken && same(output, fed.len, frame);
+}
+
+static int refused(struct khamdoriem_fed fed, uint32_t number, size_t taken) {
+    return fed.number == number && fed.frame == 0 && fed.taken == taken && fed.len == 0;
+}
+
+static int stands(uint32_t stage, uint32_t left, uint32_t came) {
+    return state.stage == stage && state.left == left && state.came == came;
+}
+
+static uint32_t unfinished(void) { return khamdoriem_stream_finish(state).unfinished; }
+
+static void check_stream_kinds(void) {
+    struct khamdoriem_started answer = khamdoriem_stream_start(KHAMDORIEM_STREAM_COUNTED);
+    CHECK(answer.number == KHAMDORIEM_DONE && answer.state.stage == 1 && !answer.state.left && !answer.state.came);
+    answer = khamdoriem_stream_start(KHAMDORIEM_STREAM_LINES);
+    CHECK(answer.number == KHAMDORIEM_DONE && answer.state.stage == 3 && !answer.state.left && !answer.state.came);
+    answer = khamdoriem_stream_start(2);
+    CHECK(answer.number == KHAMDORIEM_BAD_SETTING && !answer.state.stage && !answer.state.left && !answer.state.came);
+    CHECK(khamdoriem_stream_start(UINT32_MAX).number == KHAMDORIEM_BAD_SETTING);
+    state = answer.state;
+    CHECK(khamdoriem_stream_finish(state).number == KHAMDORIEM_BAD_SETTING && unfinished() == 0);
+}
+
+static void check_counted_stream(void) {
+    fill(0xA5);
+    start("3 abc10 0123456789");
+    begin(KHAMDORIEM_STREAM_COUNTED);
+    CHECK(more(feed(0, 0), 0) && stands(1, 0, 0) && unfinished() == 0);
+    CHECK(framed(feed(0, len), 5, "abc") && stands(1, 0, 0));
+    CHECK(more(feed(5, 7), 2) && stands(1, 10, 0) && unfinished() == 0);
+    CHECK(more(feed(7, 10), 3) && stands(2, 8, 2) && unfinished() == 2);
+    CHECK(framed(feed(10, len), 8, "0123456789") && stands(1, 0, 0));
+    CHECK(all(output, 10, sizeof output, 0xA5));
+    /* a bad count: each byte after it gives 11 and changes nothing, until a restart */
+    start("12x4 same");
+    CHECK(refused(feed(0, len), KHAMDORIEM_BAD_COUNT, 3) && stands(4, 0, 0) && unfinished() == 0);
+    CHECK(refused(feed(3, len), KHAMDORIEM_BAD_COUNT, 1) && stands(4, 0, 0));
+    CHECK(more(feed(3, 3), 0) && stands(4, 0, 0));
+    CHECK(same(output, 10, "0123456789") && all(output, 10, sizeof output, 0xA5));
+    begin(KHAMDORIEM_STREAM_COUNTED);
+    CHECK(framed(feed(3, len), 6, "same"));
+    /* what is no count: a first byte but 1 to 9, another byte than a space, a seventh digit */
+    start("0 : /1:1234567");
+    begin(KHAMDORIEM_STREAM_COUNTED), CHECK(refused(feed(0, 1), KHAMDORIEM_BAD_COUNT, 1));
+    begin(KHAMDORIEM_STREAM_COUNTED), CHECK(refused(feed(1, len), KHAMDORIEM_BAD_COUNT, 1));
+    begin(KHAMDORIEM_STREAM_COUNTED), CHECK(refused(feed(2, len), KHAMDORIEM_BAD_COUNT, 1));
+    begin(KHAMDORIEM_STREAM_COUNTED), CHECK(refused(feed(5, len), KHAMDORIEM_BAD_COUNT, 2));
+    begin(KHAMDORIEM_STREAM_COUNTED), CHECK(more(feed(7, len - 1), 6) && stands(1, 123456, 0));
+    CHECK(refused(feed(len - 1, len), KHAMDORIEM_BAD_COUNT, 1));
+}
+
+static void check_lines_stream(void) {
+    fill(0xA5);
+    start("ab\n\nc\r\nd");
+    begin(KHAMDORIEM_STREAM_LINES);
+    CHECK(framed(feed(0, len), 3, "ab") && stands(3, 0, 0));
+    CHECK(framed(feed(3, len), 1, ""));
+    CHECK(framed(feed(4, len), 3, "c\r"));
+    CHECK(more(feed(7, len), 1) && stands(3, 0, 1) && unfinished() == 1);
+    CHECK(output[0] == 'd' && output[1] == '\r' && all(output, 2, sizeof output, 0xA5));
+}
+
+static void check_long_frames(void) {
+    size_t i;
+    fill(0xA5);
+    start("");
+    for (i = 0; i < KHAMDORIEM_LINE_LIMIT; i++) line[len++] = (uint8_t)('a' + i % 26);
+    begin(KHAMDORIEM_STREAM_LINES);
+    CHECK(more(feed(0, len), len));
+    line[0] = '\n';
+    CHECK(feed(0, 1).len == KHAMDORIEM_LINE_LIMIT && output[0] == 'a' && !memcmp(output + 1, line + 1, len - 1));
+    line[0] = 'a';
+    add("x\n", 1);
+    CHECK(refused(feed(0, len), KHAMDORIEM_FRAME_TOO_LONG, len) && stands(3, 0, 0));
+    CHECK(!memcmp(output, line, KHAMDORIEM_LINE_LIMIT) && all(output, KHAMDORIEM_LINE_LIMIT, sizeof output, 0xA5));
+    /* a counted frame of 999,999 bytes, of which 8,192 come and then all others but the last */
+    state.stage = 2, state.left = 999999, state.came = 0;
+    CHECK(more(feed(0, KHAMDORIEM_LINE_LIMIT), KHAMDORIEM_LINE_LIMIT) && stands(2, 991807, 8192));
+    state.left = 1, state.came = 999998;
+    CHECK(unfinished() == 999998 && refused(feed(0, 2), KHAMDORIEM_FRAME_TOO_LONG, 1) && stands(1, 0, 0));
+    /* the number of content bytes stops at the greatest there is */
+    state.stage = 3, state.came = KHAMDORIEM_UNFINISHED_MOST - 1;
+    CHECK(more(feed(0, 1), 1) && unfinished() == KHAMDORIEM_UNFINISHED_MOST);
+    CHECK(more(feed(0, 9), 9) && unfinished() == KHAMDORIEM_UNFINISHED_MOST);
+}
+
+static void check_refused_feeds(void) {
+    struct khamdoriem_stream none = {0, 7, 8};
+    fill(0x5A);
+    start("1 a");
+    begin(KHAMDORIEM_STREAM_COUNTED);
+    CHECK(refused(feed_into(0, len, KHAMDORIEM_STREAM_BUFFER - 1), KHAMDORIEM_OUTPUT_SHORT, 0) && stands(1, 0, 0));
+    CHECK(refused(feed_into(0, len, 0), KHAMDORIEM_OUTPUT_SHORT, 0) && stands(1, 0, 0));
+    state = none;
+    CHECK(refused(feed(0, len), KHAMDORIEM_BAD_SETTING, 0) && stands(0, 7, 8));
+    state.stage = 5;
+    CHECK(refused(feed_into(0, len, 0), KHAMDORIEM_BAD_SETTING, 0) && stands(5, 7, 8));
+    CHECK(filled(0x5A));
+    begin(KHAMDORIEM_STREAM_COUNTED);
+    CHECK(framed(feed_into(0, len, sizeof output), 3, "a") && all(output, 1, sizeof output, 0x5A));
+}
+
 /* ---- words */
 
 static void check_texts(void) {
     uint32_t i, k;
-    for (i = 0; i <= 10; i++)
+    for (i = 0; i <= 12; i++)
         for (k = 0; k < i; k++) CHECK(strcmp(khamdoriem_refusal_text(i), khamdoriem_refusal_text(k)) != 0);
     CHECK(khamdoriem_refusal_text(10) == khamdoriem_refusal_text(4294967295u));
+    CHECK(khamdoriem_refusal_text(10) == khamdoriem_refusal_text(13));
 }
 
 int main(void) {
@@ -444,6 +583,11 @@ int main(void) {
     check_elements_enough();
     check_params_enough();
     check_output_enough();
+    check_stream_kinds();
+    check_counted_stream();
+    check_lines_stream();
+    check_long_frames();
+    check_refused_feeds();
     check_texts();
     printf("checks: %lu passed, %lu failed\n", passed, failed);
     return failed ? EXIT_FAILURE : EXIT_SUCCESS;

@@ -51,6 +51,12 @@ static void look(void) {
                  .number;
 }
 
+/* The line as a stream's bytes, and the output as its buffer. */
+static void feed(void) {
+    struct khamdoriem_stream state = khamdoriem_stream_start(KHAMDORIEM_STREAM_LINES).state;
+    number = khamdoriem_stream_feed(state, line, len, output, KHAMDORIEM_STREAM_BUFFER).number;
+}
+
 /* The bytes that a call took. The stack grows down. */
 static size_t taken(void (*call)(void)) {
     pthread_attr_t attr;
@@ -119,6 +125,7 @@ int main(void) {
     measure("print of that", print, KHAMDORIEM_DONE);
     start("antenna detuned");
     measure("read_loose, no reading", read_loose, KHAMDORIEM_DONE);
+    measure("stream_feed", feed, KHAMDORIEM_DONE);
     measure_strict("read_strict, 1 element", 1);
     measure_strict("read_strict, 8 elements", 8);
     measure_strict("read_strict, 9 elements", 9);

@@ -18,6 +18,10 @@ struct khamdoriem_written right_print(const uint8_t *, size_t, const uint8_t *, 
 struct khamdoriem_written right_lookup(const uint8_t *, size_t, const uint8_t *, size_t, const khamdoriem_element *, size_t, const khamdoriem_param *, size_t,
                                        const uint8_t *, size_t, const uint8_t *, size_t, uint32_t, uint8_t *, size_t);
 
+struct khamdoriem_started right_stream_start(uint32_t);
+struct khamdoriem_fed right_stream_feed(struct khamdoriem_stream, const uint8_t *, size_t, uint8_t *, size_t);
+struct khamdoriem_finished right_stream_finish(struct khamdoriem_stream);
+
 static int fault(void) {
     static int number = -1;
     if (number < 0) number = getenv("FAULT") ? atoi(getenv("FAULT")) : 0;
@@ -43,13 +47,13 @@ struct khamdoriem_read khamdoriem_read_loose(const uint8_t *line, size_t line_le
     struct khamdoriem_read a = right_read_loose(line, line_len, variant, year, offset, elements, elements_len, params, params_len, record, record_len);
     uint32_t n = a.number;
     switch (fault()) {
-    case 1: if (n == 5 && elements_len) elements[0].id_start = 0; break;                                      /* a refused call fills a table */
+    case 1: if (n == 5 && elements_len) elements[0].id_start = 0; break;                                /* a refused call fills a table */
     case 2: if (n == 0 && record_len > KHAMDORIEM_RECORD) record[KHAMDORIEM_RECORD] = 0; break;         /* a byte past the record */
     case 3: if (n == 0 && WORD(record, PARAMS) > 2 && params_len > WORD(record, PARAMS)) params[WORD(record, PARAMS)].value_len = 0; break; /* an entry past the count */
     case 4: if (n == 0 && WORD(record, NANOS) == 123456789) WORD(record, NANOS)--; break;               /* a nanosecond lost */
     case 5: if (n == 6) a.number = 5; break;                                                            /* the wrong table named */
     case 6: if (n == 0 && WORD(record, MESSAGE_LEN) == 0) WORD(record, MESSAGE) = 0; break;             /* an empty message at the line's start */
-    case 7: if (n == 0 && WORD(record, PARAMS) == 2 && params[1].value_len == 0) params[1].value_start = 0; break;      /* an empty value at the line's start */
+    case 7: if (n == 0 && WORD(record, PARAMS) == 2 && params[1].value_len == 0) params[1].value_start = 0; break; /* an empty value at the line's start */
     case 8: if (line_len == 8192) a.number = 1; break;                                                  /* the length limit off by one */
     case 9: if (line_len > 8192 && variant > 2) a.number = 2; break;                                    /* refusals in another order */
     case 10: if (line_len == 0) a.whole = 0; break;                                                     /* the empty line has a reading */
@@ -115,4 +119,35 @@ struct khamdoriem_written khamdoriem_lookup(const uint8_t *line, size_t line_len
     case 20: if (w.number == 9 && id_len == 0) w = (struct khamdoriem_written){0, 0}; break;                /* a parameter that is not there */
     }
     return w;
+}
+
+struct khamdoriem_started khamdoriem_stream_start(uint32_t kind) {
+    struct khamdoriem_started a = right_stream_start(kind);
+    if (fault() == 35 && kind == 2) a = right_stream_start(0);                                              /* another kind taken for counted */
+    return a;
+}
+
+struct khamdoriem_fed khamdoriem_stream_feed(struct khamdoriem_stream state, const uint8_t *bytes, size_t bytes_len, uint8_t *buffer, size_t buffer_len) {
+    static int twice;
+    struct khamdoriem_fed a = right_stream_feed(state, bytes, bytes_len, buffer, buffer_len);
+    switch (fault()) {
+    case 36: if (a.frame && state.came) a.frame = 0, a.len = 0; break;                                      /* a frame lost at a cut */
+    case 37: if (a.state.stage == 2 && a.state.came == 0 && bytes_len) a.state.left++; break;               /* the count off by one */
+    case 38:                                                                                                /* 12 reported twice */
+        if (a.number == 12) twice = 1;
+        else if (a.frame && twice) a.number = 12, a.frame = 0, a.len = 0, twice = 0;
+        break;
+    case 39: if (a.number == 12 && a.state.stage == 3) a.taken--; break;                                    /* LF of a long line taken as an empty frame */
+    case 40: if (a.number == 11) a.state.stage = 1; break;                                                  /* a bad count does not end the stream */
+    case 41: if (a.frame && a.len < KHAMDORIEM_LINE_LIMIT) buffer[a.len] = 0; break;                        /* a byte past the frame */
+    case 42: if (a.frame && a.len == KHAMDORIEM_LINE_LIMIT) a.number = 12, a.frame = 0, a.len = 0; break;   /* the limit off by one */
+    case 43: if (a.number == 8 && bytes_len) a.taken = 1; break;                                            /* a refused call takes a byte */
+    }
+    return a;
+}
+
+struct khamdoriem_finished khamdoriem_stream_finish(struct khamdoriem_stream state) {
+    struct khamdoriem_finished a = right_stream_finish(state);
+    if (fault() == 44 && a.unfinished > KHAMDORIEM_LINE_LIMIT) a.unfinished = KHAMDORIEM_LINE_LIMIT;        /* of a frame that is passed over, what is held */
+    return a;
 }

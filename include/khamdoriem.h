@@ -1,22 +1,26 @@
 /* khamdoriem.h - the C boundary of Khamdoriem, a proved reader of syslog lines. For x86-64, from C99 and C++11 on.
 
-   Five functions, and inline ones that take a record apart. Link with libkhamdoriem.a (pkg-config: khamdoriem).
+   Eight functions, and inline ones that take a record apart. Link with libkhamdoriem.a (pkg-config: khamdoriem).
    docs/INTERFACE.md says the same at length, with the record byte by byte; examples/ has a program in C, one in C++.
 
    The order of things: compare khamdoriem_interface() once. Lend a reader the line, two tables and memory for a record,
    and look at the number that it answers. Where that is 0, take fields out of the record, walk the tables, print or
-   look up.
+   look up. A stream is cut into frames by the three functions of a stream: start one, feed it what comes, and read each
+   frame as a line.
 
    RULES FOR WHAT IS LENT. A slice is a pointer and a count: of bytes, or of a table's entries.
    - No pointer may be null, also where its count is 0; then it may be the address of anything. (gcc and clang warn of a
      null that they see.)
    - The two tables are aligned for size_t. Bytes may stand anywhere.
    - What a call writes to overlaps nothing else that it is lent: of a reader both tables and the record, of print and
-     lookup the output. What a call only reads may overlap: an id may be a part of the line.
+     lookup the output, of khamdoriem_stream_feed the buffer. What a call only reads may overlap: an id may be a part
+     of the line.
    - Any count may be 0. Nothing past a result is touched: no entry past the counts, no byte past the record or past the
      length of what was written.
-   - A call that answers a number other than 0 has changed nothing that it was lent.
-   - Nothing is kept after a call and nothing is allocated. There is no state: threads need no lock.
+   - A call that answers a number other than 0 has changed nothing that it was lent; the one exception is 12 of
+     khamdoriem_stream_feed, which leaves the front of the long frame in the buffer.
+   - Nothing is kept after a call and nothing is allocated. There is no state but a stream's, which the caller keeps:
+     threads need no lock.
 
    A call takes at most KHAMDORIEM_STACK bytes of stack. The archive calls memset and nothing else, has no writable
    data, and is position-independent: it links into programs of any kind and into shared objects. */
@@ -48,17 +52,21 @@ extern "C" {
 #define KHAMDORIEM_INTERFACE 2
 
 /* The number that a call answers. Which ones, in the order in which they are checked: read_loose 1 2 3 5 6 8,
-   read_strict 1 4 5 6 8, print 1 7 8, lookup 1 2 7 9 8. khamdoriem_refusal_text has words for each. */
+   read_strict 1 4 5 6 8, print 1 7 8, lookup 1 2 7 9 8, stream_start 2, stream_feed 2 8 11 12, stream_finish 2.
+   khamdoriem_refusal_text has words for each. */
 #define KHAMDORIEM_DONE 0
 #define KHAMDORIEM_LINE_TOO_LONG 1     /* the line has over KHAMDORIEM_LINE_LIMIT bytes */
-#define KHAMDORIEM_BAD_SETTING 2       /* variant, year, offset or kind out of range */
+#define KHAMDORIEM_BAD_SETTING 2       /* variant, year, offset or kind out of range; a stream that was not started */
 #define KHAMDORIEM_NOT_UTF8 3          /* the line is not UTF-8 (loose reading) */
 #define KHAMDORIEM_NO_READING 4        /* the line has no reading (strict reading) */
 #define KHAMDORIEM_TOO_MANY_ELEMENTS 5 /* the reading has more elements than the table */
 #define KHAMDORIEM_TOO_MANY_PARAMS 6   /* the reading has more parameters than the table */
 #define KHAMDORIEM_UNSUITABLE 7        /* the bytes hold no record, or one that does not suit the line: see print */
-#define KHAMDORIEM_OUTPUT_SHORT 8      /* the output is shorter than the result, or the record's memory than a record */
+#define KHAMDORIEM_OUTPUT_SHORT 8      /* the output is shorter than the result, the record's memory than a record, or a
+                                          stream's buffer than KHAMDORIEM_STREAM_BUFFER */
 #define KHAMDORIEM_NOT_FOUND 9         /* no parameter has this element's id and this name */
+#define KHAMDORIEM_BAD_COUNT 11        /* a frame's count is none, and has ended its stream */
+#define KHAMDORIEM_FRAME_TOO_LONG 12   /* a frame of over KHAMDORIEM_LINE_LIMIT bytes was passed over */
 
 /* variant: by which rules a line is read loosely. */
 #define KHAMDORIEM_VARIANT_EITHER 0    /* RFC 5424's, and where they give no reading RFC 3164's */
@@ -74,6 +82,17 @@ extern "C" {
 /* kind: how a value is unescaped. Either way a backslash before '"', '\' or ']' goes. */
 #define KHAMDORIEM_KIND_LOOSE 0        /* '\n' is a newline, and a lone backslash at the end goes */
 #define KHAMDORIEM_KIND_STRICT 1       /* as in RFC 5424: '\n' stays two characters, and the lone backslash stays */
+
+/* kind of a stream: how one frame ends and the next begins (RFC 6587). */
+#define KHAMDORIEM_STREAM_COUNTED 0    /* a count of 1 to 6 digits, the first of them 1 to 9, a space, so many bytes */
+#define KHAMDORIEM_STREAM_LINES 1      /* the bytes up to LF, which is not of the frame; of an empty line none */
+
+/* The bytes of a stream's buffer that are used, so the least that it has. A frame fits into it, and is a line that no
+   reader refuses with 1. */
+#define KHAMDORIEM_STREAM_BUFFER 8192
+
+/* What khamdoriem_stream_finish answers where an unfinished frame has so many bytes or more. */
+#define KHAMDORIEM_UNFINISHED_MOST 4294967295u
 
 /* The most bytes of a line. */
 #define KHAMDORIEM_LINE_LIMIT 8192
@@ -157,6 +176,39 @@ struct khamdoriem_written {
     size_t len;
 };
 
+/* Where a stream stands, for the caller to keep: khamdoriem_stream_start makes it, and each khamdoriem_stream_feed
+   answers the next. One of zeros was not started. stage is 1 before a counted frame's content (left: what the digits so
+   far write), 2 in it (left: bytes to come, came: bytes that came), 3 in a line (came: bytes that came), 4 after a bad
+   count. */
+struct khamdoriem_stream {
+    uint32_t stage;
+    uint32_t left;
+    uint32_t came;
+};
+
+/* What khamdoriem_stream_start answers: 0 and the state, or 2 and a state that is none. */
+struct khamdoriem_started {
+    uint32_t number;
+    struct khamdoriem_stream state;
+};
+
+/* What khamdoriem_stream_feed answers. number is 0 or that of a refusal. frame is 1 where a frame is complete: it is
+   the first len bytes of the buffer, 0 to KHAMDORIEM_LINE_LIMIT; else frame and len are 0. taken says how many of the
+   bytes were taken: the next call is lent the others. state is where the stream then stands. */
+struct khamdoriem_fed {
+    uint32_t number;
+    uint32_t frame;
+    size_t taken;
+    size_t len;
+    struct khamdoriem_stream state;
+};
+
+/* What khamdoriem_stream_finish answers: 0 and the content bytes of an unfinished frame, or 2 and 0. */
+struct khamdoriem_finished {
+    uint32_t number;
+    uint32_t unfinished;
+};
+
 /* ---- the functions */
 
 /* KHAMDORIEM_INTERFACE, as the archive has it. */
@@ -204,6 +256,27 @@ struct khamdoriem_written khamdoriem_lookup(const uint8_t *line, size_t line_len
                                             const khamdoriem_param *params, size_t params_len,
                                             const uint8_t *id, size_t id_len, const uint8_t *name, size_t name_len,
                                             uint32_t kind, uint8_t *output, size_t output_len) KHAMDORIEM_NO_NULL;
+
+/* The state at the start of a stream, and at its restart. kind is one of KHAMDORIEM_STREAM_*. */
+struct khamdoriem_started khamdoriem_stream_start(uint32_t kind);
+
+/* Takes bytes of a stream, any number of them, up to the end of a frame or to a report. However the stream is cut into
+   calls, frames, refusals and the state at its end are the same.
+   - buffer has KHAMDORIEM_STREAM_BUFFER bytes or more and is lent to every call of one stream as the last one left it.
+     Its front holds the frame; what lies past the content is never touched. It need not be cleared, at a restart
+     either.
+   - With number 0 and frame 0 all bytes were taken. After a frame and after 12 call again with those that were not.
+   - 2 and 8 take nothing and change nothing.
+   - 11 ends the stream: taken has the byte that made the count bad, and after it every call that is lent a byte takes
+     one and answers 11, until a restart. The buffer stays as it was.
+   - 12 is answered once, when the last byte or LF of the long frame has come, which taken has. Its first
+     KHAMDORIEM_LINE_LIMIT bytes are in the buffer, and the stream goes on behind it. */
+struct khamdoriem_fed khamdoriem_stream_feed(struct khamdoriem_stream state, const uint8_t *bytes, size_t bytes_len,
+                                             uint8_t *buffer, size_t buffer_len) KHAMDORIEM_NO_NULL;
+
+/* The end of a stream: how many content bytes came of a frame that is not complete, passed over or not, and
+   KHAMDORIEM_UNFINISHED_MOST if more. It is not handed out; its first bytes are in the buffer's front. */
+struct khamdoriem_finished khamdoriem_stream_finish(struct khamdoriem_stream state);
 
 /* ---- what a reader left, taken apart
 
@@ -356,6 +429,8 @@ static inline const char *khamdoriem_refusal_text(uint32_t number) {
     case KHAMDORIEM_UNSUITABLE: return "the record, the counts or the tables do not suit the line";
     case KHAMDORIEM_OUTPUT_SHORT: return "the output is shorter than the result";
     case KHAMDORIEM_NOT_FOUND: return "there is no parameter of this element and name";
+    case KHAMDORIEM_BAD_COUNT: return "the count of a frame is none, and the stream has ended";
+    case KHAMDORIEM_FRAME_TOO_LONG: return "a frame of over 8,192 bytes was passed over";
     default: return "a number that this interface does not have";
     }
 }

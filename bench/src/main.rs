@@ -9,13 +9,14 @@ mod readers;
 mod report;
 mod results;
 mod shapes;
+mod streams;
 
 use readers::{Lent, Reader};
 use std::process::ExitCode;
 use std::time::Instant;
 
 const USAGE: &str = "usage: driver make FILE LINES SEED | check FILE | pass READER KIND FILE TIMES | shape READER NAME BYTES TIMES \
-                     | time KIND FILE READER.. | report RESULTS FOLDER";
+                     | stream splitter NAME TIMES | time KIND FILE READER.. | report RESULTS FOLDER";
 
 fn number<T: std::str::FromStr>(text: &str) -> Result<T, String> {
     text.parse().map_err(|_| format!("'{text}' is no number, or too large"))
@@ -74,6 +75,15 @@ fn shape(name: &str, shape: &str, bytes: &str, times: &str) -> Result<(), String
     Ok(())
 }
 
+fn stream(name: &str, times: &str) -> Result<(), String> {
+    let cut = streams::named(name).ok_or(format!("'{name}' is no stream"))?;
+    let (bytes, mut buffer) = (cut.stream(), vec![0; 8192]);
+    for _ in 0..number::<usize>(times)? {
+        std::hint::black_box(streams::pass(cut, std::hint::black_box(&bytes), &mut buffer)?);
+    }
+    Ok(())
+}
+
 fn report(results: &str, folder: &str) -> Result<(), String> {
     let results = results::Results::of(&text_of(results)?);
     write(&format!("{folder}/BENCH.md"), &report::page(&results)?)?;
@@ -88,6 +98,7 @@ fn run(args: &[&str]) -> Result<(), String> {
         ["check", file] => check::check(&text_of(file)?),
         ["pass", name, kind, file, times] => passes(&[*name], kind, file, number(times)?).map(|_| ()),
         ["shape", name, what, bytes, times] => shape(name, what, bytes, times),
+        ["stream", "splitter", name, times] => stream(name, times),
         ["time", kind, file, names @ ..] => time(kind, file, names),
         ["report", results, folder] => report(results, folder),
         _ => Err(USAGE.to_string()),

@@ -2,6 +2,7 @@
 use crate::price::price;
 use crate::results::Results;
 use crate::shapes::{GROWING, LENGTHS, SLOW};
+use crate::streams::CUTS;
 use std::fmt::Write;
 
 pub const KINDS: [(&str, &str); 3] = [("all", "all, variant 0"), ("3164", "RFC 3164, variant 1"), ("5424", "RFC 5424, variant 2")];
@@ -139,6 +140,20 @@ fn functions(results: &Results) -> Result<String, String> {
     Ok(page)
 }
 
+fn streams(results: &Results) -> Result<String, String> {
+    let mut page = String::from(
+        "## Streams\n\nCutting a stream into frames, in instructions a byte and a call, in the functions of the archive and the C library's copying. A call ends with a piece and with a frame. \
+         The aims are 2.6 a byte for lines of 100 bytes, 1.4 for lines of 8,000, 0.3 for long counted frames, and 100 to 150 a call where pieces are short.\n\n",
+    );
+    add(&mut page, "| stream | bytes | frames | calls | a byte | a call |\n|---|---|---|---|---|---|");
+    for cut in &CUTS {
+        let has = |i| results.number(&["stream", cut.name], i);
+        let (bytes, calls, spent) = (has(0)?, has(1)?, results.number(&["cutting", cut.name], 0)?);
+        add(&mut page, &format!("| {} | {} | {} | {} | {:.2} | {} |", cut.what, commas(bytes), commas(has(2)?), commas(calls), spent / bytes, commas(spent / calls)));
+    }
+    Ok(page + "\n")
+}
+
 /// A line of prose as lines of at most 120 columns; a row of a table as it is.
 fn folded(line: &str) -> String {
     if line.starts_with('|') {
@@ -159,7 +174,7 @@ fn folded(line: &str) -> String {
 }
 
 pub fn page(results: &Results) -> Result<String, String> {
-    let page = intro(results)? + &lines(results)? + &times(results)? + &growing(results)? + &slow(results)? + &price(results)? + &functions(results)?;
+    let page = intro(results)? + &lines(results)? + &times(results)? + &growing(results)? + &slow(results)? + &price(results)? + &streams(results)? + &functions(results)?;
     Ok(page.lines().map(|line| folded(line) + "\n").collect())
 }
 

@@ -8,6 +8,8 @@
 //!     insns KIND READER COUNT          instructions of a pass over the lines of a kind
 //!     nanos KIND READER COUNT          nanoseconds a line, the median of nine, where the machine runs the program itself
 //!     shape SHAPE BYTES READER COUNT   instructions of one reading
+//!     stream NAME BYTES CALLS FRAMES   what a stream has
+//!     cutting NAME COUNT               instructions of cutting it once, in the functions of the archive
 //!     function KIND READER NAME COUNT  instructions of a pass in one function
 //!     about NAME WORDS..               the seed, the machine, the versions; native: the machine of the nanoseconds, timed: of what they are
 //!

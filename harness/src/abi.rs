@@ -1,4 +1,4 @@
-//! The archive's five functions, as include/khamdoriem.h declares them.
+//! The archive's eight functions, as include/khamdoriem.h declares them.
 
 pub type Element = [usize; 2];
 pub type Param = [usize; 5];
@@ -58,6 +58,43 @@ pub struct Written {
     pub len: usize,
 }
 
+/// Where a stream stands.
+#[repr(C)]
+#[derive(Clone, Copy, Debug, PartialEq)]
+pub struct State {
+    pub stage: u32,
+    pub left: u32,
+    pub came: u32,
+}
+
+impl State {
+    pub const NONE: State = State { stage: 0, left: 0, came: 0 };
+}
+
+#[repr(C)]
+#[derive(Clone, Copy, Debug, PartialEq)]
+pub struct Started {
+    pub number: u32,
+    pub state: State,
+}
+
+#[repr(C)]
+#[derive(Clone, Copy, Debug, PartialEq)]
+pub struct Fed {
+    pub number: u32,
+    pub frame: u32,
+    pub taken: usize,
+    pub len: usize,
+    pub state: State,
+}
+
+#[repr(C)]
+#[derive(Clone, Copy, Debug, PartialEq)]
+pub struct Finished {
+    pub number: u32,
+    pub unfinished: u32,
+}
+
 #[derive(Clone, Copy, Debug, PartialEq)]
 pub enum Reader {
     Loose,
@@ -93,6 +130,9 @@ extern "C" {
         params: *const Param, params_len: usize, id: *const u8, id_len: usize, name: *const u8, name_len: usize, kind: u32,
         output: *mut u8, output_len: usize,
     ) -> Written;
+    fn khamdoriem_stream_start(kind: u32) -> Started;
+    fn khamdoriem_stream_feed(state: State, bytes: *const u8, bytes_len: usize, buffer: *mut u8, buffer_len: usize) -> Fed;
+    fn khamdoriem_stream_finish(state: State) -> Finished;
 }
 
 /// The number of the archive's interface.
@@ -127,4 +167,16 @@ pub fn lookup(g: Given, id: &[u8], name: &[u8], kind: u32, output: &mut [u8]) ->
             g.params.as_ptr(), g.params.len(), id.as_ptr(), id.len(), name.as_ptr(), name.len(), kind, output.as_mut_ptr(), output.len(),
         )
     }
+}
+
+pub fn stream_start(kind: u32) -> Started {
+    unsafe { khamdoriem_stream_start(kind) }
+}
+
+pub fn stream_feed(state: State, bytes: &[u8], buffer: &mut [u8]) -> Fed {
+    unsafe { khamdoriem_stream_feed(state, bytes.as_ptr(), bytes.len(), buffer.as_mut_ptr(), buffer.len()) }
+}
+
+pub fn stream_finish(state: State) -> Finished {
+    unsafe { khamdoriem_stream_finish(state) }
 }

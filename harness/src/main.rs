@@ -1,6 +1,7 @@
 //! The differential harness: the archive of the port beside the Rust crate, in one program, on the same inputs.
 //!
 //!     harness [--seed N] [--cases N] [--part I/N] [--lines KIND]     compares, and ends with one line
+//!     harness --streams N [--seed N] [--part I/N]     compares N streams with a machine by hand, and ends with one line
 //!     harness --replay N                              writes a list of N cases with the Rust's answers
 //!     harness --stored FOLDER                         compares the stored output of the program `cases`
 
@@ -18,6 +19,7 @@ mod replay;
 mod short;
 mod shrink;
 mod stored;
+mod streams;
 mod strict;
 
 use compare::{Counts, Desk};
@@ -26,6 +28,7 @@ use shrink::{escaped, shrink, Shown};
 use std::panic::{catch_unwind, AssertUnwindSafe};
 use std::process::ExitCode;
 use std::time::{Duration, Instant};
+use streams::Streams;
 
 struct Wanted {
     seed: u64,
@@ -33,12 +36,13 @@ struct Wanted {
     part: u64,
     parts: u64,
     ids: bool,
+    streams: Option<u64>,
     replay: Option<usize>,
     stored: Option<String>,
 }
 
 fn arguments() -> Result<Wanted, String> {
-    let mut wanted = Wanted { seed: 1, cases: 100_000, part: 0, parts: 1, ids: false, replay: None, stored: None };
+    let mut wanted = Wanted { seed: 1, cases: 100_000, part: 0, parts: 1, ids: false, streams: None, replay: None, stored: None };
     let mut args = std::env::args().skip(1);
     while let Some(name) = args.next() {
         let value = args.next().ok_or(format!("{name} asks for a value"))?;
@@ -46,6 +50,7 @@ fn arguments() -> Result<Wanted, String> {
         match name.as_str() {
             "--seed" => wanted.seed = number(&value)?,
             "--cases" => wanted.cases = number(&value)?,
+            "--streams" => wanted.streams = Some(number(&value)?),
             "--replay" => wanted.replay = Some(number(&value)? as usize),
             "--lines" => match value.as_str() {
                 "all" => wanted.ids = false,
@@ -124,6 +129,39 @@ fn compared(wanted: &Wanted) -> ExitCode {
     ExitCode::FAILURE
 }
 
+fn stream_summary(wanted: &Wanted, counts: &streams::Counts, unexplained: u64) -> String {
+    let streams::Counts { streams, calls, bytes, frames, long, bad, unfinished } = counts;
+    format!(
+        "seed {} part {}/{}: {streams} streams ({calls} calls, {bytes} bytes, {frames} frames, {long} refusals 12, {bad} refusals 11, {unfinished} unfinished), {unexplained} unexplained",
+        wanted.seed, wanted.part + 1, wanted.parts
+    )
+}
+
+/// Streams against the machine by hand; the first difference ends it.
+fn compared_streams(wanted: &Wanted, count: u64) -> ExitCode {
+    let mut streams = Streams::new(wanted.seed, wanted.part);
+    let (start, mut told) = (Instant::now(), Instant::now());
+    while streams.counts.streams < count {
+        if let Err(difference) = streams.next() {
+            println!("harness: {} differs in a stream", difference.what);
+            println!("  line     \"{}\"", difference.stream);
+            println!("  from     {:?}", difference.from);
+            println!("  cut at   {:?}", difference.cuts);
+            println!("  ours     {}", difference.ours);
+            println!("  wanted   {}", difference.wanted);
+            println!("harness: {}", stream_summary(wanted, &streams.counts, 1));
+            return ExitCode::FAILURE;
+        }
+        if streams.counts.streams % 1024 == 0 && told.elapsed() >= Duration::from_secs(5) {
+            told = Instant::now();
+            let rate = streams.counts.streams as f64 / start.elapsed().as_secs_f64();
+            eprintln!("harness: {} ({rate:.0} streams a second)", stream_summary(wanted, &streams.counts, 0));
+        }
+    }
+    println!("harness: {}", stream_summary(wanted, &streams.counts, 0));
+    ExitCode::SUCCESS
+}
+
 fn main() -> ExitCode {
     match arguments() {
         Err(error) => {
@@ -132,6 +170,7 @@ fn main() -> ExitCode {
         }
         Ok(Wanted { replay: Some(count), .. }) => replay::write(count),
         Ok(Wanted { stored: Some(folder), .. }) => stored::compare(&folder),
+        Ok(wanted @ Wanted { streams: Some(count), .. }) => compared_streams(&wanted, count),
         Ok(wanted) => compared(&wanted),
     }
 }

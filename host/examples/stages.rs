@@ -1,22 +1,28 @@
 //! Prints where the milliseconds of each tap went: host, stage and milliseconds, a tab between, a line for each stage.
 //!
-//!     stages [FILE]
+//!     stages [--counted] [FILE]
 //!
-//! FILE has a line of syslog to a line, of either protocol; without FILE they come from standard input. A gate tells of a stage in
+//! FILE has a line of syslog to a line, of either protocol, or with `--counted` to a counted frame (RFC 6587); without FILE they come
+//! from standard input. A gate tells of a stage in
 //! an element `stage@32473` with the parameters `name` and `ms`, a whole number. A line may have more than one. A host or a
 //! name that is absent is printed as `-`.
 //!
 //! What has no stage to print is told on standard error with the number of its line, so that nothing is lost: a line that is
-//! refused (with the refusal's number), a line without a stage, a stage without milliseconds. The last line there has the counts.
+//! refused (with the refusal's number), a line without a stage, a stage without milliseconds. The last line there has the counts. The
+//! last line of all counts without LF too; a counted frame that is not complete does not, and is told of. A bad count ends the stream
+//! and fails.
 
 use std::env;
 use std::ffi::OsString;
 use std::fmt;
 use std::fs::File;
-use std::io::{self, BufRead, BufReader, BufWriter, Write};
+use std::io::{self, BufWriter, Read, Write};
 use std::process::ExitCode;
 
-use khamdoriem::{Element, LooseAnswer, Offset, Settings, Tables, Unescape, Variant, Year, MAX_LINE};
+use khamdoriem::{
+    Element, FrameError, Frames, Framing, LooseAnswer, Offset, Refusal, Settings, Tables, Unescape, Variant, Year,
+    MAX_LINE,
+};
 
 /// The id of the element that tells of a stage. 32473 is the enterprise number for examples.
 const STAGE: &str = "stage@32473";
@@ -46,12 +52,21 @@ impl fmt::Display for Counts {
 }
 
 fn main() -> ExitCode {
-    let args: Vec<OsString> = env::args_os().skip(1).collect();
+    let mut args: Vec<OsString> = env::args_os().skip(1).collect();
+    let framing = if args.first().map_or(false, |arg| arg == "--counted") { Framing::Counted } else { Framing::Lines };
+    if framing == Framing::Counted {
+        args.remove(0);
+    }
     if args.len() > 1 {
-        eprintln!("usage: stages [FILE]");
+        eprintln!("usage: stages [--counted] [FILE]");
         return ExitCode::from(2);
     }
-    match open(args.first()).and_then(|lines| list(lines, &mut BufWriter::new(io::stdout().lock()))) {
+    let listed = open(args.first()).and_then(|reader| {
+        let mut output = BufWriter::new(io::stdout().lock());
+        let listed = list(Frames::new(reader, framing), &mut output);
+        output.flush().and(listed)
+    });
+    match listed {
         Ok(counts) => {
             eprintln!("stages: {counts}");
             ExitCode::SUCCESS
@@ -63,13 +78,10 @@ fn main() -> ExitCode {
     }
 }
 
-fn open(path: Option<&OsString>) -> io::Result<Box<dyn BufRead>> {
+fn open(path: Option<&OsString>) -> io::Result<Box<dyn Read>> {
     match path {
         None => Ok(Box::new(io::stdin().lock())),
-        Some(path) => {
-            let file = File::open(path).map_err(telling(&path.to_string_lossy()))?;
-            Ok(Box::new(BufReader::new(file)))
-        }
+        Some(path) => Ok(Box::new(File::open(path).map_err(telling(&path.to_string_lossy()))?)),
     }
 }
 
@@ -78,27 +90,56 @@ fn telling(place: &str) -> impl Fn(io::Error) -> io::Error + '_ {
     move |error| io::Error::new(error.kind(), format!("{place}: {error}"))
 }
 
-/// Lists every line, with one pair of tables.
-fn list(mut lines: impl BufRead, output: &mut impl Write) -> io::Result<Counts> {
+/// Lists every frame, with one pair of tables. A frame is a line.
+fn list(mut frames: Frames<impl Read>, output: &mut impl Write) -> io::Result<Counts> {
     let mut tables = Tables::for_any_line();
     let mut counts = Counts::default();
-    let mut line = Vec::new();
-    while lines.read_until(b'\n', &mut line).map_err(telling("reading lines"))? > 0 {
+    while let Some(frame) = frames.next_frame() {
         counts.lines += 1;
-        // The reader would trim the end of the line too, but it would count to the length.
-        list_line(line.strip_suffix(b"\n").unwrap_or(&line), &mut tables, &mut counts, output)?;
-        line.clear();
+        match frame {
+            Ok(line) => list_line(line, &mut tables, &mut counts, output)?,
+            Err(FrameError::Refused(Refusal::FrameTooLong)) => refuse(Refusal::FrameTooLong, &mut counts),
+            Err(error) => return Err(telling(&format!("line {}", counts.lines))(error.into())),
+        }
     }
-    output.flush()?;
+    list_rest(&frames, &mut tables, &mut counts, output)?;
     Ok(counts)
+}
+
+/// What came behind the last frame.
+fn list_rest(
+    frames: &Frames<impl Read>,
+    tables: &mut Tables<'_>,
+    counts: &mut Counts,
+    output: &mut impl Write,
+) -> io::Result<()> {
+    match (frames.finish() as usize, frames.splitter().framing()) {
+        (0, _) => Ok(()),
+        (len, Framing::Counted) => {
+            eprintln!("stages: the stream ends in a frame of which {len} bytes came");
+            Ok(())
+        }
+        (len, Framing::Lines) => {
+            counts.lines += 1;
+            if len > MAX_LINE {
+                refuse(Refusal::FrameTooLong, counts);
+                return Ok(());
+            }
+            list_line(frames.splitter().held(), tables, counts, output)
+        }
+    }
+}
+
+fn refuse(refusal: Refusal, counts: &mut Counts) {
+    counts.refused += 1;
+    eprintln!("stages: line {}: refusal {}: {refusal}", counts.lines, refusal.number());
 }
 
 fn list_line(line: &[u8], tables: &mut Tables<'_>, counts: &mut Counts, output: &mut impl Write) -> io::Result<()> {
     let reading = match tables.read_loose(line, SETTINGS).and_then(LooseAnswer::exact) {
         Ok(reading) => reading,
         Err(refusal) => {
-            counts.refused += 1;
-            eprintln!("stages: line {}: refusal {}: {refusal}", counts.lines, refusal.number());
+            refuse(refusal, counts);
             return Ok(());
         }
     };

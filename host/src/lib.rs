@@ -25,6 +25,9 @@
 //! be taken apart from its line and its tables, and a table's entry cannot be read past the counts. So the archive's refusals 2
 //! and 7 cannot arise (see [`Refusal`]).
 //!
+//! A stream that comes over TCP is cut into frames, each to be read as a line, by a [`Splitter`], which is fed whatever came; with the
+//! feature `std`, [`Frames`] goes through those of a reader.
+//!
 //! Texts are parts of the line, as bytes and, with `_str` behind the name, as `str`. No call allocates: tables own their memory
 //! ([`Tables::new`], with the feature `std`, which is on by default) or are laid over what is lent ([`Tables::over`]).
 //!
@@ -40,11 +43,15 @@ extern crate std;
 
 mod answer;
 mod elements;
+#[cfg(feature = "std")]
+mod frames;
+mod memory;
 mod priority;
 mod reading;
 mod record;
 mod refusal;
 mod settings;
+mod splitter;
 #[allow(unsafe_code)]
 mod sys;
 mod tables;
@@ -54,11 +61,14 @@ mod timestamp;
 
 pub use answer::{Answer, LooseAnswer, WholeLine};
 pub use elements::{Element, Elements, ElementsWith, Param, Params, Unescape};
+#[cfg(feature = "std")]
+pub use frames::{FrameError, Frames};
 pub use priority::{Facility, Severity};
 pub use reading::{Loose, Reading, Strict};
 pub use record::Protocol;
 pub use refusal::Refusal;
 pub use settings::{Offset, Settings, Variant, Year};
+pub use splitter::{Event, Fed, Framing, Splitter};
 pub use sys::{ElementEntry, ParamEntry};
 pub use tables::Tables;
 pub use timestamp::Timestamp;

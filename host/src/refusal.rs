@@ -5,11 +5,12 @@ use core::fmt;
 /// The refusals, one row each: number, name and words. All else here follows from the rows.
 macro_rules! refusals {
     ($($(#[$doc:meta])+ $number:literal $name:ident $words:literal)+) => {
-        /// Why a call was refused. A refused call has changed nothing that it was lent.
+        /// Why a call was refused. A refused call has changed nothing that it was lent. (A [`Splitter`](crate::Splitter) moves on with
+        /// what it reports: the stream has ended, or goes on behind the long frame.)
         ///
         /// Of the numbers that the archive may answer, two are not here, because no call of this crate can bring them about.
-        /// Number 2 is for settings out of range, and the types of [`Settings`](crate::Settings) and
-        /// [`Unescape`](crate::Unescape) hold none. Number 7 is for a record or tables that do not suit the line, and a
+        /// Number 2 is for settings out of range, and the types of [`Settings`](crate::Settings), [`Unescape`](crate::Unescape) and
+        /// [`Framing`](crate::Framing) hold none. Number 7 is for a record or tables that do not suit the line, and a
         /// [`Reading`](crate::Reading) holds the line, the record and the tables of one reading together and lets nobody
         /// change them.
         ///
@@ -21,6 +22,7 @@ macro_rules! refusals {
         /// fn number(refusal: Refusal) -> u32 {
         ///     match refusal {
         ///         LineTooLong | NotUtf8 | NoReading | TooManyElements | TooManyParams | OutputTooShort | NoSuchParam => 1,
+        ///         BadCount | FrameTooLong => 2,
         ///         Unexpected(number) => number,
         ///     }
         /// }
@@ -80,6 +82,10 @@ refusals! {
     8 OutputTooShort "the output is shorter than the result"
     /// Number 9: there is no parameter of this element and name.
     9 NoSuchParam "there is no parameter of this element and name"
+    /// Number 11: in the place of a frame's count there is none. The stream has ended.
+    11 BadCount "the count of a frame is none, and the stream has ended"
+    /// Number 12: a frame of over [`MAX_LINE`](crate::MAX_LINE) bytes. It was passed over, and the stream goes on behind it.
+    12 FrameTooLong "a frame of over 8,192 bytes was passed over"
 }
 
 #[cfg(feature = "std")]

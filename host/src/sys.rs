@@ -1,4 +1,4 @@
-//! The five functions of the archive, each behind a safe function over slices and numbers.
+//! The eight functions of the archive, each behind a safe function over slices and numbers.
 //!
 //! This and `texts` are the only modules with `unsafe`. What makes each call safe is the same: the archive's functions are total, whatever
 //! the bytes, numbers and lengths. They read and write within the counts that they are given and keep nothing after the call.
@@ -48,6 +48,42 @@ pub(crate) struct ReadAnswer {
 pub(crate) struct Written {
     pub(crate) number: u32,
     pub(crate) len: usize,
+}
+
+/// Where a stream stands.
+#[repr(C)]
+#[derive(Clone, Copy, Debug, PartialEq, Eq)]
+pub(crate) struct StreamState {
+    pub(crate) stage: u32,
+    pub(crate) left: u32,
+    pub(crate) came: u32,
+}
+
+/// What the start of a stream answers: 0 and its state, or 2 and a state that is none.
+#[repr(C)]
+#[derive(Clone, Copy, Debug, PartialEq, Eq)]
+pub(crate) struct StartAnswer {
+    pub(crate) number: u32,
+    pub(crate) state: StreamState,
+}
+
+/// What feeding answers. `frame` is 1 where a frame is complete, the first `len` bytes of the buffer; `taken` bytes were taken.
+#[repr(C)]
+#[derive(Clone, Copy, Debug, PartialEq, Eq)]
+pub(crate) struct FeedAnswer {
+    pub(crate) number: u32,
+    pub(crate) frame: u32,
+    pub(crate) taken: usize,
+    pub(crate) len: usize,
+    pub(crate) state: StreamState,
+}
+
+/// What the end of a stream answers: 0 and the content bytes of an unfinished frame, or 2 and 0.
+#[repr(C)]
+#[derive(Clone, Copy, Debug, PartialEq, Eq)]
+pub(crate) struct FinishAnswer {
+    pub(crate) number: u32,
+    pub(crate) unfinished: u32,
 }
 
 extern "C" {
@@ -108,6 +144,18 @@ extern "C" {
         output: *mut u8,
         output_len: usize,
     ) -> Written;
+
+    fn khamdoriem_stream_start(kind: u32) -> StartAnswer;
+
+    fn khamdoriem_stream_feed(
+        state: StreamState,
+        bytes: *const u8,
+        bytes_len: usize,
+        buffer: *mut u8,
+        buffer_len: usize,
+    ) -> FeedAnswer;
+
+    fn khamdoriem_stream_finish(state: StreamState) -> FinishAnswer;
 }
 
 /// The settings of the loose reader, as numbers.
@@ -229,6 +277,24 @@ pub(crate) fn lookup(lent: Lent<'_>, id: &[u8], name: &[u8], kind: u32, output: 
             output.len(),
         )
     }
+}
+
+/// The start of a stream.
+pub(crate) fn stream_start(kind: u32) -> StartAnswer {
+    // SAFETY: the module's: the function is given a number and answers numbers.
+    unsafe { khamdoriem_stream_start(kind) }
+}
+
+/// Bytes of a stream.
+pub(crate) fn stream_feed(state: StreamState, bytes: &[u8], buffer: &mut [u8]) -> FeedAnswer {
+    // SAFETY: the module's: each pointer and count are those of one slice, and the buffer, borrowed mutably, is all that is written.
+    unsafe { khamdoriem_stream_feed(state, bytes.as_ptr(), bytes.len(), buffer.as_mut_ptr(), buffer.len()) }
+}
+
+/// The end of a stream.
+pub(crate) fn stream_finish(state: StreamState) -> FinishAnswer {
+    // SAFETY: the module's: the function is given numbers and answers numbers.
+    unsafe { khamdoriem_stream_finish(state) }
 }
 
 #[cfg(test)]

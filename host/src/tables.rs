@@ -1,9 +1,9 @@
 //! The memory that a reading is written into.
 
 use core::fmt;
-use core::ops::{Deref, DerefMut};
 
 use crate::answer::{Answer, LooseAnswer, WholeLine};
+use crate::memory::Memory;
 use crate::reading::{Reading, Strict};
 use crate::record::Record;
 use crate::refusal::Refusal;
@@ -73,7 +73,7 @@ impl<'memory> Tables<'memory> {
     /// # Panics
     ///
     /// Where the archive that is linked has another interface than this crate was written for (docs/INTERFACE.md), so that what it
-    /// leaves would be misread. Nothing reaches the archive without tables, so no call goes to such a one.
+    /// leaves would be misread. Nothing reaches the archive without tables or a splitter, so no call goes to such a one.
     ///
     /// ```
     /// use khamdoriem::{ElementEntry, ParamEntry, Tables};
@@ -219,34 +219,5 @@ impl fmt::Debug for Tables<'_> {
             .field("element_capacity", &self.element_capacity())
             .field("param_capacity", &self.param_capacity())
             .finish_non_exhaustive()
-    }
-}
-
-/// The memory of a table: lent, or its own.
-enum Memory<'memory, Entry> {
-    Lent(&'memory mut [Entry]),
-    #[cfg(feature = "std")]
-    Owned(std::boxed::Box<[Entry]>),
-}
-
-impl<Entry> Deref for Memory<'_, Entry> {
-    type Target = [Entry];
-
-    fn deref(&self) -> &[Entry] {
-        match self {
-            Memory::Lent(entries) => entries,
-            #[cfg(feature = "std")]
-            Memory::Owned(entries) => entries,
-        }
-    }
-}
-
-impl<Entry> DerefMut for Memory<'_, Entry> {
-    fn deref_mut(&mut self) -> &mut [Entry] {
-        match self {
-            Memory::Lent(entries) => entries,
-            #[cfg(feature = "std")]
-            Memory::Owned(entries) => entries,
-        }
     }
 }

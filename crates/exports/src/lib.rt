@@ -6,6 +6,10 @@ use record::Reading;
 use record::Refusal;
 use record::StrictReading;
 use record::Written;
+use stream::FeedAnswer;
+use stream::FinishAnswer;
+use stream::StartAnswer;
+use stream::StreamState;
 ghost use mathlib.Core.Path.{_≡_};
 ghost use Prim.Native.Nat.{_≤_};
 ghost use lib.ListN.{length};
@@ -13,6 +17,8 @@ ghost use Rattle.record.specs.Answers.{readAnswerOf, strictReadAnswerOf, output
 ghost use Rattle.record.specs.Params.{rows};
 ghost use Rattle.record.specs.declared.Written.the-variants.{Refused};
 ghost use Rattle.layout.specs.Layout.{recordSize, strictSize};
+ghost use Rattle.stream.specs.Machine.{startOf};
+ghost use Rattle.stream.specs.Numbers.{stateOf, startAnswerOf, Splits, finishAnswerOf};
 ghost use Rattle.exports.specs.Exports.{interfaceNumber, shortAnswer, LeavesLoose, LeavesStrict, firstRefusal, ServesPrint, ServesLookup};
 ghost use Rattle.exports.specs.Steps.{Left, StrictLeft};
 
@@ -187,4 +193,32 @@ pub extern "C" fn khamdoriem_lookup(
     }
     let n = line.len();
     unheld(n, kind)
+}
+
+// The state at the start of a stream, or at its restart: kind 0 is counted, 1 lines.
+#[no_mangle]
+pub extern "C" fn khamdoriem_stream_start(kind: u32) -> StartAnswer
+    ensures { λ a. ⌜ a ≡ startAnswerOf (startOf kind) ⌝ }
+{
+    stream::start_numbers(kind)
+}
+
+// Bytes of a stream, up to the end of a frame or to a refusal; what is held of a frame is at the front of `buffer`.
+#[no_mangle]
+pub extern "C" fn khamdoriem_stream_feed(
+    state: StreamState,
+    bytes: &[u8],
+    buffer: &mut [u8],
+) -> FeedAnswer
+    ensures { λ a. ⌜ Splits state (now (bytes .entry)) (now (buffer .entry)) a (now (buffer .exit)) ⌝ }
+{
+    stream::feed_numbers(state, bytes, buffer)
+}
+
+// The end of a stream: the content bytes of an unfinished frame.
+#[no_mangle]
+pub extern "C" fn khamdoriem_stream_finish(state: StreamState) -> FinishAnswer
+    ensures { λ a. ⌜ a ≡ finishAnswerOf (stateOf state) ⌝ }
+{
+    stream::finish_numbers(state)
 }

@@ -1,31 +1,57 @@
-// The listing of standard input by the strict reader: a line for each of its lines, `accept` with the counts of elements and of parameters, or `refuse` with
-// the number of the refusal. A line ends at LF; a last line without LF counts if it is not empty; a line longer than the buffer is passed over to its end.
-// Where reading or writing fails that is said on standard error, and nothing more is listed.
+// The listing of standard input by the strict reader: a line for each frame of it, `accept` with the counts of elements and of parameters, or `refuse` with
+// the number of the refusal. What a frame is says the splitter of `stream`: a line, or with `--counted` what a count stands before. Where reading or writing
+// fails, or a counted stream breaks off, that is said on standard error, and nothing more is listed.
+use libc::STDERR_FILENO;
 use libc::STDIN_FILENO;
 use libc::STDOUT_FILENO;
+use record::Refusal;
 use record::StrictReading;
+use stream::Event;
 ghost use mathlib.Core.Path.{_≡_};
 ghost use Prim.Native.Nat.{_+_, _≤_, _<_};
 ghost use lib.ListN.{length};
-ghost use Rattle.lister.specs.Ends.{keptLen};
+ghost use Rattle.lister.specs.Tasks.{keptLen, refusedTask, lastTask, lastLine, lastCount, startState, turnOf, Turns, withUsed, stoppedOf, Did, Goes, Refills, Advances};
 
-// What the program was asked for: whether a line ends at CR LF.
+// What the program was asked for: whether a line ends at CR LF, and whether frames are counted.
 pub struct Options {
     pub crlf: bool,
+    pub counted: bool,
 }
 
-// Where the listing stands: how much of the line buffer is used, whether the line ran over it, and whether it is to be read; which bytes of the chunk are
-// still to be taken; how many turns are left, 0 where all is done; whether nothing has failed; and whether a line ends at CR LF. A proved loop has to end, and
-// nothing says that the input does: the turns count down from a number that no run uses up.
+// What is to be done with what the splitter told, or at the end of the input.
+enum Task {
+    // nothing
+    More,
+    // that many bytes at the buffer's front are read
+    Read(usize),
+    // the frame is refused with that number
+    Refuse(u32),
+    // the same, and nothing more is listed
+    End(u32),
+    // the input has ended in a frame, of whose content that many bytes came
+    Cut(u32),
+}
+
+// What a turn answers: where the stream stands, how many bytes were taken, and what is to be done.
+struct Outcome {
+    stream: stream::State,
+    taken: usize,
+    task: Task,
+}
+
+// Where the listing stands: how many bytes at the line buffer's front are to be read, where the stream stands, and whether there is something to be read;
+// which bytes of the chunk are still to be taken; how many turns are left, 0 where all is done; whether nothing has failed; and what was asked for. A proved
+// loop has to end, and nothing says that the input does: the turns count down from a number that no run uses up.
 struct State {
     used: usize,
-    over: bool,
+    stream: stream::State,
     ready: bool,
     next: usize,
     got: usize,
     left: u64,
     ok: bool,
     crlf: bool,
+    counted: bool,
 }
 
 // A number, and the byte after it.
@@ -67,213 +93,305 @@ fn shown(count: usize) -> u32 {
     (count % 0x1_0000_0000) as u32
 }
 
+// The state at the start of a stream.
+fn start_state(counted: bool) -> stream::State
+    ensures { λ r. ⌜ r ≡ startState counted ⌝ }
+{
+    if counted {
+        return stream::State::Count(0);
+    }
+    stream::State::Line(0)
+}
+
 fn start(options: Options) -> State
-    ensures { λ r. ⌜ r .used ≡ 0 ⌝ }
     ensures { λ r. ⌜ r .got ≡ 0 ⌝ }
 {
     State {
         used: 0,
-        over: false,
+        stream: start_state(options.counted),
         ready: false,
         next: 0,
         got: 0,
         left: u64::MAX,
         ok: true,
         crlf: options.crlf,
+        counted: options.counted,
     }
 }
 
-// How many bytes of a line are read, where its LF has come.
-fn kept_len(crlf: bool, line: &[u8]) -> usize
-    ensures { λ r. ⌜ r ≡ keptLen crlf (now (line .entry)) ⌝ }
-    ensures { λ r. ⌜ r ≤ length (now (line .entry)) ⌝ }
+// How many bytes of a frame are read.
+fn kept_len(crlf: bool, frame: &[u8]) -> usize
+    ensures { λ r. ⌜ r ≡ keptLen crlf (now (frame .entry)) ⌝ }
+    ensures { λ r. ⌜ r ≤ length (now (frame .entry)) ⌝ }
 {
-    let n = line.len();
+    let n = frame.len();
     if n == 0 {
         return 0;
     }
-    if crlf & (line[n - 1] == 13) {
+    if crlf & (frame[n - 1] == 13) {
         return n - 1;
     }
     n
 }
 
-// Nothing more is listed, for a failure that was said.
-fn failed(s: State) -> State
-    ensures { λ r. ⌜ r .used ≡ s .used ⌝ }
-    ensures { λ r. ⌜ r .got ≡ s .got ⌝ }
-    ensures { λ r. ⌜ r .left ≡ 0 ⌝ }
+// What is to be done where the splitter refuses. A long line has the number of a long line.
+fn refused_task(counted: bool, refusal: Refusal) -> Task
+    ensures { λ r. ⌜ r ≡ refusedTask counted refusal ⌝ }
 {
+    let n = record::refusal_number(refusal);
+    if n == 12 {
+        if counted {
+            return Task::Refuse(12);
+        }
+        return Task::Refuse(1);
+    }
+    Task::End(n)
+}
+
+// What is to be done with a last line of `n` bytes that no LF ends.
+fn last_line(n: u32, room: usize) -> Task
+    ensures { λ r. ⌜ r ≡ lastLine n room ⌝ }
+{
+    let len = n as usize;
+    if len == 0 {
+        return Task::More;
+    }
+    if (len <= record::LINE_LIMIT) & (len <= room) {
+        return Task::Read(len);
+    }
+    Task::Refuse(1)
+}
+
+// What is to be done where the input ends, with a line buffer of `room` bytes.
+fn last_task(stream: stream::State, room: usize) -> Task
+    ensures { λ r. ⌜ r ≡ lastTask stream room ⌝ }
+{
+    match stream {
+        stream::State::Count(v) => return last_count(v),
+        stream::State::Content(_, n) => return Task::Cut(n),
+        stream::State::Line(n) => return last_line(n, room),
+        stream::State::Ended => return Task::More,
+    }
+}
+
+fn last_count(v: u32) -> Task
+    ensures { λ r. ⌜ r ≡ lastCount v ⌝ }
+{
+    if v == 0 {
+        return Task::More;
+    }
+    Task::Cut(0)
+}
+
+// A turn: the splitter on bytes of the stream, up to the end of a frame or to a refusal.
+fn turn(crlf: bool, counted: bool, stream: stream::State, bytes: &[u8], line: &mut [u8]) -> Outcome
+    ensures { λ r. ⌜ Turns crlf counted stream (now (bytes .entry)) (now (line .entry)) r (now (line .exit)) ⌝ }
+{
+    let fed = stream::feed(stream, bytes, line);
+    let state = fed.state;
+    let taken = fed.taken;
+    let event = fed.event;
+    match event {
+        Event::More => return turned(state, taken, Task::More),
+        Event::Frame(n) => {
+            let kept = kept_len(crlf, &line[0..n]);
+            return turned(state, taken, Task::Read(kept));
+        }
+        Event::Refused(f) => return turned(state, taken, refused_task(counted, f)),
+    }
+}
+
+fn turned(stream: stream::State, taken: usize, task: Task) -> Outcome
+    ensures { λ r. ⌜ r ≡ turnOf stream taken task ⌝ }
+{
+    Outcome {
+        stream,
+        taken,
+        task,
+    }
+}
+
+// The same with `used` bytes to be read, or with none.
+fn with_used(s: State, used: usize, ready: bool) -> State
+    ensures { λ r. ⌜ r ≡ withUsed s used ready ⌝ }
+{
+    let stream = s.stream;
     State {
-        used: s.used,
-        over: false,
+        used,
+        stream,
+        ready,
+        next: s.next,
+        got: s.got,
+        left: s.left,
+        ok: s.ok,
+        crlf: s.crlf,
+        counted: s.counted,
+    }
+}
+
+// Nothing more is listed: all is done, or a failure was said.
+fn stopped(s: State, ok: bool) -> State
+    ensures { λ r. ⌜ r ≡ stoppedOf s ok ⌝ }
+{
+    let stream = s.stream;
+    State {
+        used: 0,
+        stream,
         ready: false,
         next: s.next,
         got: s.got,
         left: 0,
-        ok: false,
+        ok,
         crlf: s.crlf,
+        counted: s.counted,
     }
 }
 
-// The state with so much of the line and of the chunk taken.
-fn moved(s: State, used: usize, over: bool, next: usize) -> State
-    ensures { λ r. ⌜ r .used ≡ used ⌝ }
-    ensures { λ r. ⌜ r .got ≡ s .got ⌝ }
-    ensures { λ r. ⌜ r .left ≡ s .left ⌝ }
+// A line was written, or could not be.
+fn written(s: State, ok: bool) -> State
+    ensures { λ r. ⌜ Did s Task.More r ⌝ }
 {
-    State {
-        used,
-        over,
-        ready: false,
-        next,
-        got: s.got,
-        left: s.left,
-        ok: s.ok,
-        crlf: s.crlf,
+    if ok {
+        return with_used(s, 0, false);
     }
+    stopped(s, false)
 }
 
-// A line's end. A line that ran over the buffer is refused at once; the others are to be read.
-fn ended(s: State) -> State
-    ensures { λ r. ⌜ r .used ≤ s .used ⌝ }
-    ensures { λ r. ⌜ r .got ≡ s .got ⌝ }
-    ensures { λ r. ⌜ r .left ≤ s .left ⌝ }
+// A line on standard error with a number in it.
+fn complain(before: &[u8], n: u32, after: &[u8]) {
+    io::write_all(STDERR_FILENO, before);
+    io::print_decimal(STDERR_FILENO, n as u64);
+    io::write_all(STDERR_FILENO, after);
+}
+
+// Does what is to be done, but for the reading.
+fn done(s: State, task: Task) -> State
+    ensures { λ r. ⌜ Did s task r ⌝ }
 {
-    let over = s.over;
-    if over {
-        if !write_refusal(record::refusal_number(record::Refusal::LineTooLong)) {
-            return failed(moved(s, 0, false, s.next));
+    match task {
+        Task::More => return with_used(s, 0, false),
+        Task::Read(n) => return with_used(s, n, true),
+        Task::Refuse(n) => return written(s, write_refusal(n)),
+        Task::End(n) => {
+            write_refusal(n);
+            complain(b"list: nothing is listed behind refuse ", n, b"\n");
+            return stopped(s, false);
         }
-        return moved(s, 0, false, s.next);
-    }
-    State {
-        used: s.used,
-        over: false,
-        ready: true,
-        next: s.next,
-        got: s.got,
-        left: s.left,
-        ok: s.ok,
-        crlf: s.crlf,
+        Task::Cut(n) => {
+            complain(
+                b"list: standard input ends in a frame, after ",
+                n,
+                b" bytes of its content\n",
+            );
+            return stopped(s, false);
+        }
     }
 }
 
-// The bytes of the chunk up to a line's end, into the line buffer.
+// The bytes of the chunk up to the end of a frame or to a refusal.
 fn take(line: &mut [u8], chunk: &[u8], s: State) -> State
-    requires { ⌜ s .used ≤ length (now line) ⌝ }
+    requires { ⌜ s .next < s .got ⌝ }
     requires { ⌜ s .got ≤ length (now chunk) ⌝ }
+    ensures { λ r. ⌜ Goes (s .crlf) (s .counted) (s .stream) (s .next) (s .got) (now (chunk .entry)) (now (line .entry)) r (now (line .exit)) ⌝ }
     ensures { λ r. ⌜ r .used ≤ length (now (line .entry)) ⌝ }
     ensures { λ r. ⌜ r .got ≡ s .got ⌝ }
     ensures { λ r. ⌜ r .left ≤ s .left ⌝ }
 {
-    let mut used = s.used;
-    let mut over = s.over;
-    let mut i = s.next;
+    let next = s.next;
     let got = s.got;
-    while i < got {
-        let b = chunk[i];
-        i += 1;
-        if b == b'\n' {
-            used = kept_len(s.crlf, &line[0..used]);
-            return ended(moved(s, used, over, i));
-        }
-        if used < line.len() {
-            line[used] = b;
-            used += 1;
-        } else {
-            over = true;
-        }
-    }
-    moved(s, used, over, i)
+    let old = s.stream;
+    let t = turn(s.crlf, s.counted, old, &chunk[next..got], line);
+    let stream = t.stream;
+    let taken = t.taken;
+    let after = next + taken;
+    let task = t.task;
+    done(
+        State {
+            used: 0,
+            stream,
+            ready: false,
+            next: after,
+            got,
+            left: s.left,
+            ok: s.ok,
+            crlf: s.crlf,
+            counted: s.counted,
+        },
+        task,
+    )
 }
 
-// Another chunk. Where the input ends, a last line without its end counts if it is not empty; where reading fails it is no line.
-fn refill(chunk: &mut [u8], s: State) -> State
+// Another chunk, or the end. Where reading fails what has come of a frame is none.
+fn refill(room: usize, chunk: &mut [u8], s: State) -> State
     requires { ⌜ s .got ≤ length (now chunk) ⌝ }
-    ensures { λ r. ⌜ r .used ≤ s .used ⌝ }
+    ensures { λ r. ⌜ Refills (s .crlf) (s .counted) (s .stream) room r ⌝ }
+    ensures { λ r. ⌜ r .used ≤ room ⌝ }
     ensures { λ r. ⌜ r .got ≤ length (now (chunk .entry)) ⌝ }
     ensures { λ r. ⌜ r .left ≤ s .left ⌝ }
 {
-    let used = s.used;
-    let over = s.over;
+    let stream = s.stream;
     let got = libc::read(STDIN_FILENO, chunk);
     if 0 < got {
         return State {
-            used,
-            over,
+            used: 0,
+            stream,
             ready: false,
             next: 0,
             got: io::count(got, chunk),
             left: s.left,
             ok: s.ok,
             crlf: s.crlf,
+            counted: s.counted,
         };
     }
     if got < 0 {
         os::fail(b"list: standard input");
-        return failed(s);
+        return stopped(s, false);
     }
-    let last = State {
-        used,
-        over,
-        ready: false,
-        next: s.next,
-        got: s.got,
-        left: 0,
-        ok: s.ok,
-        crlf: s.crlf,
-    };
-    if (0 < used) | over {
-        return ended(last);
-    }
-    last
+    done(stopped(s, s.ok), last_task(stream, room))
 }
 
-// One turn: to the end of a line or of the chunk, or on to another chunk.
+// One turn: to the end of a frame or of the chunk, or on to another chunk.
 fn advance(line: &mut [u8], chunk: &mut [u8], s: State) -> State
-    requires { ⌜ s .used ≤ length (now line) ⌝ }
     requires { ⌜ s .got ≤ length (now chunk) ⌝ }
     requires { ⌜ 0 < s .left ⌝ }
+    ensures { λ r. ⌜ Advances s (now (chunk .entry)) (now (line .entry)) r (now (line .exit)) ⌝ }
     ensures { λ r. ⌜ r .used ≤ length (now (line .entry)) ⌝ }
     ensures { λ r. ⌜ r .got ≤ length (now (chunk .entry)) ⌝ }
     ensures { λ r. ⌜ r .left < s .left ⌝ }
 {
     let next = s.next;
     let got = s.got;
+    let stream = s.stream;
     let t = State {
-        used: s.used,
-        over: s.over,
+        used: 0,
+        stream,
         ready: false,
         next,
         got,
         left: s.left - 1,
         ok: s.ok,
         crlf: s.crlf,
+        counted: s.counted,
     };
     if next < got {
         return take(line, chunk, t);
     }
-    refill(chunk, t)
+    refill(line.len(), chunk, t)
 }
 
-// What the strict reader answers to a line is written. Where it cannot be, all is done.
+// What the strict reader answers to a frame is written. Where it cannot be, all is done.
 fn answered(s: State, r: StrictReading) -> State
-    ensures { λ t. ⌜ t .used ≡ 0 ⌝ }
-    ensures { λ t. ⌜ t .got ≡ s .got ⌝ }
-    ensures { λ t. ⌜ t .left ≤ s .left ⌝ }
+    ensures { λ t. ⌜ Did s Task.More t ⌝ }
 {
     let ok = match r {
         StrictReading::Read(_, e, p) => write_counts(shown(e), shown(p)),
         StrictReading::Refused(refusal) => write_refusal(record::refusal_number(refusal)),
     };
-    if !ok {
-        return failed(moved(s, 0, false, s.next));
-    }
-    moved(s, 0, false, s.next)
+    written(s, ok)
 }
 
-// Lists all lines of the input, with the parameter table of the program. Answers whether nothing failed.
+// Lists all frames of the input, with the parameter table of the program. Answers whether nothing failed.
 pub fn run(
     line: &mut [u8],
     elements: &mut [[usize; 2]],
@@ -297,6 +415,7 @@ pub fn run(
 // What `./list` does in memory that it is lent: what its arguments ask for.
 pub fn list(line: &mut [u8], elements: &mut [[usize; 2]], chunk: &mut [u8]) {
     let a = program::arguments(true);
+    let usage = *b"usage: ./list [--crlf | --counted] < FILE\n";
     let help =
         *b"\nWrites a line for each line of standard input, by the strict reader of RFC 5424:\n\
         \x20   accept E P   the line is read, with E elements and P parameters\n\
@@ -307,11 +426,27 @@ pub fn list(line: &mut [u8], elements: &mut [[usize; 2]], chunk: &mut [u8]) {
         \x20                the 8,192 bytes that a line may have)\n\
         Without it CR is a byte like others: a message and a value may hold it, and a line\n\
         whose header or structured data it follows is refused with 4.\n\n\
-        Exit status: 0 all is listed; 1 reading or writing failed, and standard error says\n\
-        why; 2 an argument is not known.\n";
-    if !program::starts(a, b"list", b"usage: ./list [--crlf] < FILE\n", &help) {
+        \x20   --counted    standard input is a stream of counted frames (RFC 6587, section\n\
+        \x20                3.4.1), with a line of answer for each: its length in 1 to 6 digits,\n\
+        \x20                a space, and its bytes. 12 is a frame of over 8,192 bytes. 11 is a\n\
+        \x20                bad count: the listing ends there\n\n\
+        Exit status: 0 all is listed; 1 reading or writing failed, a count is bad, or the\n\
+        stream ends in a frame, and standard error says which; 2 an argument is not known,\n\
+        or both of the above are given.\n";
+    if !program::starts(a, b"list", &usage, &help) {
         return;
     }
-    let ok = run(line, elements, chunk, Options { crlf: a.crlf });
+    let crlf = a.crlf;
+    let counted = a.counted;
+    if crlf & counted {
+        program::misused(
+            a,
+            b"list",
+            b"--crlf is for lines and does not go with --counted",
+            &usage,
+        );
+        return;
+    }
+    let ok = run(line, elements, chunk, Options { crlf, counted });
     program::end(a, b"list", ok);
 }

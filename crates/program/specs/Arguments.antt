@@ -18,20 +18,22 @@ wordOf s =
     else if sameText s (bytes "--help") then word.Help
     else if sameText s (bytes "--version") then word.Version
     else if sameText s (bytes "--crlf") then word.Crlf
+    else if sameText s (bytes "--counted") then word.Counted
     else word.Unknown
 
-abbrev pub asks : Wish → Bool → Bool → Asked
-asks w l c = record { wish = w; launched = l; crlf = c }
+abbrev pub asks : Wish → Bool → Bool → Bool → Asked
+asks w l c n = record { wish = w; launched = l; crlf = c; counted = n }
 
--- `--crlf`, of a program that takes it and of one that does not
-abbrev pub withCrlf : Bool → Bool → Bool → ℕ → Asked
-withCrlf true launched crlf i = asks wish.Run launched true
-withCrlf false launched crlf i = asks (wish.Unknown i) launched crlf
+-- another form of the input, of a program that takes one and of one that does not
+abbrev pub withForm : Bool → Asked → Bool → Bool → ℕ → Asked
+withForm true a crlf counted i = asks wish.Run (a .launched) crlf counted
+withForm false a crlf counted i = asks (wish.Unknown i) (a .launched) (a .crlf) (a .counted)
 
--- the `i`th argument, where those before it ask for `a`; `lines` is whether the program takes `--crlf`
+-- the `i`th argument, where those before it ask for `a`; `lists` is whether the program takes `--crlf` and `--counted`
 abbrev pub withWord : Bool → Asked → Word → ℕ → Asked
-withWord lines a word.Launched i = asks wish.Run true (a .crlf)
-withWord lines a word.Help i = asks wish.Help (a .launched) (a .crlf)
-withWord lines a word.Version i = asks wish.Version (a .launched) (a .crlf)
-withWord lines a word.Crlf i = withCrlf lines (a .launched) (a .crlf) i
-withWord lines a word.Unknown i = asks (wish.Unknown i) (a .launched) (a .crlf)
+withWord lists a word.Launched i = asks wish.Run true (a .crlf) (a .counted)
+withWord lists a word.Help i = asks wish.Help (a .launched) (a .crlf) (a .counted)
+withWord lists a word.Version i = asks wish.Version (a .launched) (a .crlf) (a .counted)
+withWord lists a word.Crlf i = withForm lists a true (a .counted) i
+withWord lists a word.Counted i = withForm lists a (a .crlf) true i
+withWord lists a word.Unknown i = asks (wish.Unknown i) (a .launched) (a .crlf) (a .counted)

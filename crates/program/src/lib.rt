@@ -3,7 +3,7 @@
 use libc::STDERR_FILENO;
 use libc::STDOUT_FILENO;
 ghost use mathlib.Core.Path.{_≡_};
-ghost use Rattle.program.specs.Arguments.{wordOf, withWord, withCrlf, asks};
+ghost use Rattle.program.specs.Arguments.{wordOf, withWord, withForm, asks};
 
 // What an argument is.
 pub enum Word {
@@ -11,6 +11,7 @@ pub enum Word {
     Help,
     Version,
     Crlf,
+    Counted,
     Unknown,
 }
 
@@ -22,11 +23,12 @@ pub enum Wish {
     Unknown(usize),
 }
 
-// What the arguments ask for together: whether a launcher waits for the status, and whether lines end at CR LF.
+// What the arguments ask for together: whether a launcher waits for the status, whether lines end at CR LF, and whether frames are counted.
 pub struct Asked {
     pub wish: Wish,
     pub launched: bool,
     pub crlf: bool,
+    pub counted: bool,
 }
 
 pub fn word_of(text: &[u8]) -> Word
@@ -44,41 +46,49 @@ pub fn word_of(text: &[u8]) -> Word
     if base::same_text(text, b"--crlf") {
         return Word::Crlf;
     }
+    if base::same_text(text, b"--counted") {
+        return Word::Counted;
+    }
     Word::Unknown
 }
 
-// What is asked for with one argument more, the `i`th. `lines` is whether the program takes `--crlf`.
-pub fn with_word(lines: bool, a: Asked, w: Word, i: usize) -> Asked
-    ensures { λ r. ⌜ r ≡ withWord lines a w i ⌝ }
+// What is asked for with one argument more, the `i`th. `lists` is whether the program takes `--crlf` and `--counted`.
+pub fn with_word(lists: bool, a: Asked, w: Word, i: usize) -> Asked
+    ensures { λ r. ⌜ r ≡ withWord lists a w i ⌝ }
 {
     let launched = a.launched;
     let crlf = a.crlf;
+    let counted = a.counted;
     match w {
-        Word::Launched => wished(Wish::Run, true, crlf),
-        Word::Help => wished(Wish::Help, launched, crlf),
-        Word::Version => wished(Wish::Version, launched, crlf),
-        Word::Crlf => with_crlf(lines, launched, crlf, i),
-        Word::Unknown => wished(Wish::Unknown(i), launched, crlf),
+        Word::Launched => wished(Wish::Run, true, crlf, counted),
+        Word::Help => wished(Wish::Help, launched, crlf, counted),
+        Word::Version => wished(Wish::Version, launched, crlf, counted),
+        Word::Crlf => with_form(lists, a, true, counted, i),
+        Word::Counted => with_form(lists, a, crlf, true, i),
+        Word::Unknown => wished(Wish::Unknown(i), launched, crlf, counted),
     }
 }
 
-fn wished(wish: Wish, launched: bool, crlf: bool) -> Asked
-    ensures { λ r. ⌜ r ≡ asks wish launched crlf ⌝ }
+fn wished(wish: Wish, launched: bool, crlf: bool, counted: bool) -> Asked
+    ensures { λ r. ⌜ r ≡ asks wish launched crlf counted ⌝ }
 {
     Asked {
         wish,
         launched,
         crlf,
+        counted,
     }
 }
 
-fn with_crlf(lines: bool, launched: bool, crlf: bool, i: usize) -> Asked
-    ensures { λ r. ⌜ r ≡ withCrlf lines launched crlf i ⌝ }
+// The same with another form of the input.
+fn with_form(lists: bool, a: Asked, crlf: bool, counted: bool, i: usize) -> Asked
+    ensures { λ r. ⌜ r ≡ withForm lists a crlf counted i ⌝ }
 {
-    if lines {
-        return wished(Wish::Run, launched, true);
+    let launched = a.launched;
+    if lists {
+        return wished(Wish::Run, launched, crlf, counted);
     }
-    wished(Wish::Unknown(i), launched, crlf)
+    wished(Wish::Unknown(i), launched, a.crlf, a.counted)
 }
 
 // The `i`th argument. No word that is known is longer than the buffer.
@@ -89,12 +99,12 @@ fn word_at(i: usize) -> Word {
 }
 
 // What the arguments ask for, up to the first that asks for something else than a run.
-pub fn arguments(lines: bool) -> Asked {
+pub fn arguments(lists: bool) -> Asked {
     let n = os::arg_count();
-    let mut a = wished(Wish::Run, false, false);
+    let mut a = wished(Wish::Run, false, false, false);
     let mut i = 1;
     while i < n {
-        a = with_word(lines, a, word_at(i), i);
+        a = with_word(lists, a, word_at(i), i);
         if !is_run(a) {
             return a;
         }
@@ -182,6 +192,13 @@ fn refuse(a: Asked, name: &[u8], usage: &[u8], i: usize) {
     io::write_all(STDERR_FILENO, b": unknown argument '");
     io::write_all(STDERR_FILENO, &text[0..n]);
     io::write_all(STDERR_FILENO, b"'\n");
+    io::write_all(STDERR_FILENO, usage);
+    write_status(a, b"2\n");
+}
+
+// The line on standard error about arguments that are known and do not go together, and the usage.
+pub fn misused(a: Asked, name: &[u8], what: &[u8], usage: &[u8]) {
+    complain(name, what);
     io::write_all(STDERR_FILENO, usage);
     write_status(a, b"2\n");
 }

@@ -1,7 +1,7 @@
 -- The numbers a caller may get back, in the order in which they are checked (RULES Numbers).
 use Prim.Native.Nat.{ℕ}
 use Rattle.record.specs.declared.Refusal.{Refusal}
-use Rattle.record.specs.declared.Refusal.the-variants.{LineTooLong, BadSetting, NotUtf8, NoReading, TooManyElements, TooManyParams, Unsuitable, NotFound, OutputShort}
+use Rattle.record.specs.declared.Refusal.the-variants.{LineTooLong, BadSetting, NotUtf8, NoReading, TooManyElements, TooManyParams, Unsuitable, NotFound, OutputShort, BadCount, FrameTooLong}
 
 abbrev pub refusalNumber : Refusal → ℕ
 -- line over 8,192 bytes
@@ -20,5 +20,9 @@ refusalNumber TooManyParams = 6
 refusalNumber Unsuitable = 7
 -- lookup finds no such parameter
 refusalNumber NotFound = 9
--- output shorter than the result
+-- output shorter than the result, or a splitter's buffer under 8,192 bytes
 refusalNumber OutputShort = 8
+-- a stream's count is none
+refusalNumber BadCount = 11
+-- a frame of over 8,192 bytes
+refusalNumber FrameTooLong = 12

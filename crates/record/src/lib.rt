@@ -87,6 +87,8 @@ pub enum Refusal {
     Unsuitable,
     NotFound,
     OutputShort,
+    BadCount,
+    FrameTooLong,
 }
 
 // What the loose reader answers: the record and both counts; the whole line as the message, where the rules give no reading; or why not.
@@ -224,6 +226,8 @@ pub fn refusal_number(r: Refusal) -> u32
         Refusal::Unsuitable => 7,
         Refusal::NotFound => 9,
         Refusal::OutputShort => 8,
+        Refusal::BadCount => 11,
+        Refusal::FrameTooLong => 12,
     }
 }
 

@@ -1,16 +1,17 @@
 -- The walk of `is_utf8`: its steps and its ends.
 use Prim.Native.Nat.{ℕ, zero, suc, _+_, _-_, _≤_, _<_}
-use mathlib.Core.Path.{_≡_, refl, sym, subst, _∙_}
+use mathlib.Core.Path.{_≡_, refl, sym, _∙_}
 use mathlib.Core.List.{List, [], _∷_}
-use mathlib.Core.Bool.{Bool, true, false, not, _&&_}
+use mathlib.Core.Bool.{Bool, false, not, _&&_}
 use native.Mathlib.Omega.{arith}
 use lib.Dec.{eqb, ltb}
 use lib.ListN.{length, getD, drop}
 use borrow.Author.Tests.{le-leb, ltb-true}
 use Rattle.base.specs.Choose.{within}
-use Rattle.base.proofs.Tests.{both, told}
+use Rattle.base.specs.Runs.{eight}
 use Rattle.base.proofs.Ranges.{inside, below, above}
 use Rattle.base.proofs.Parts.{step, ended}
+use Rattle.base.proofs.Runs.{eight-on}
 use Rattle.utf8.specs.Lead.{leadOf, utf8From, isUtf8}
 use Rattle.utf8.specs.declared.Lead.{Lead}
 use Rattle.utf8.proofs.Leads.{lead-1}
@@ -72,29 +73,9 @@ module _ (s : List ℕ) (i : ℕ) (w : Walked s 0 0x80 0xBF i) where
   pub front-utf8 : isUtf8 s ≡ isUtf8 (drop i s)
   front-utf8 = w .whole
 
-  module _ (l : i + 8 ≤ length s) where
-    one-on : (k : ℕ) → k < 8 → Walked s 0 0x80 0xBF (i + k) → ltb (getD s (i + k) 0) 128 ≡ true → Walked s 0 0x80 0xBF (i + (k + 1))
-    one-on k h v t = let e : i + k + 1 ≡ i + (k + 1) = omega arith in
-        subst (Walked s 0 0x80 0xBF) e (ascii-next s 0 0x80 0xBF (i + k) v (omega arith) refl (ltb-true (getD s (i + k) 0) 128 t))
-
-    pub eight-on : (b : Bool) → b ≡ (ltb (getD s i 0) 128 && ltb (getD s (i + 1) 0) 128 && ltb (getD s (i + 2) 0) 128 && ltb (getD s (i + 3) 0) 128 && ltb (getD s (i + 4) 0) 128 && ltb (getD s (i + 5) 0) 128 && ltb (getD s (i + 6) 0) 128 && ltb (getD s (i + 7) 0) 128) → not b ≡ false
-        → Walked s 0 0x80 0xBF (i + 8)
-    eight-on b e q =
-        let t₇ = both _ _ (told b _ e q) in
-        let t₆ = both _ _ (t₇ .0) in
-        let t₅ = both _ _ (t₆ .0) in
-        let t₄ = both _ _ (t₅ .0) in
-        let t₃ = both _ _ (t₄ .0) in
-        let t₂ = both _ _ (t₃ .0) in
-        let t₁ = both _ _ (t₂ .0) in
-        let w₁ = ascii-next s 0 0x80 0xBF i w (omega arith) refl (ltb-true (getD s i 0) 128 (t₁ .0)) in
-        let w₂ = one-on 1 (omega arith) w₁ (t₁ .1) in
-        let w₃ = one-on 2 (omega arith) w₂ (t₂ .1) in
-        let w₄ = one-on 3 (omega arith) w₃ (t₃ .1) in
-        let w₅ = one-on 4 (omega arith) w₄ (t₄ .1) in
-        let w₆ = one-on 5 (omega arith) w₅ (t₅ .1) in
-        let w₇ = one-on 6 (omega arith) w₆ (t₆ .1) in
-        one-on 7 (omega arith) w₇ (t₇ .1)
+  pub ascii-eight : i + 8 ≤ length s → (b : Bool) → b ≡ eight (λ x. ltb x 128) s i → not b ≡ false → Walked s 0 0x80 0xBF (i + 8)
+  ascii-eight l =
+      eight-on (λ x. ltb x 128) s (Walked s 0 0x80 0xBF) (λ j h v t. ascii-next s 0 0x80 0xBF j v h refl (ltb-true (getD s j 0) 128 t)) i l w
 
 -- what the needs of `ascii_front` are answered by
 pub ruleset front-laws = (walk-start, front-utf8)

@@ -1,9 +1,9 @@
 // UTF-8: what a lead byte asks for, the character at the front of a part, and whether a text is UTF-8.
 ghost use mathlib.Core.Path.{_≡_};
-ghost use mathlib.Core.Bool.{_&&_};
 ghost use Prim.Native.Nat.{_+_, _≤_};
 ghost use lib.Dec.{ltb};
-ghost use lib.ListN.{length, getD, drop};
+ghost use lib.ListN.{length, drop};
+ghost use Rattle.base.specs.Runs.{eight};
 ghost use Rattle.utf8.specs.Lead.{leadOf, charLen, isUtf8};
 
 // What a lead byte asks for: the length of its character in bytes (0: it begins none), and the range of the byte after it.
@@ -76,7 +76,7 @@ pub fn char_len(s: &[u8]) -> usize
 // Whether the eight bytes from `i` on are ASCII. All eight are looked at, so that the compiler makes one test of them.
 fn eight_ascii(s: &[u8], i: usize) -> bool
     requires { ⌜ i + 8 ≤ length (now s) ⌝ }
-    ensures { λ r. ⌜ r ≡ (ltb (getD (now (s .entry)) i 0) 128 && ltb (getD (now (s .entry)) (i + 1) 0) 128 && ltb (getD (now (s .entry)) (i + 2) 0) 128 && ltb (getD (now (s .entry)) (i + 3) 0) 128 && ltb (getD (now (s .entry)) (i + 4) 0) 128 && ltb (getD (now (s .entry)) (i + 5) 0) 128 && ltb (getD (now (s .entry)) (i + 6) 0) 128 && ltb (getD (now (s .entry)) (i + 7) 0) 128) ⌝ }
+    ensures { λ r. ⌜ r ≡ eight (λ x. ltb x 128) (now (s .entry)) i ⌝ }
 {
     (s[i] < 0x80)
         & (s[i + 1] < 0x80)

@@ -248,6 +248,51 @@ fn a_timestamp_that_is_absent_has_no_digits() {
     assert_eq!(print(memory.lent(LINE), &mut [b'.'; 64]), Written { number: 7, len: 0 });
 }
 
+/// A state that no start makes.
+const ODD: StreamState = StreamState { stage: 2, left: 0, came: 5 };
+
+#[test]
+fn a_stream_of_another_kind_or_of_no_stage_is_refused_with_2_before_8() {
+    for kind in [2, 3, u32::MAX] {
+        let none = StreamState { stage: 0, left: 0, came: 0 };
+        assert_eq!(stream_start(kind), StartAnswer { number: 2, state: none });
+    }
+    for stage in [0, 5, u32::MAX] {
+        let state = StreamState { stage, ..ODD };
+        let refused = FeedAnswer { number: 2, frame: 0, taken: 0, len: 0, state };
+        let mut buffer = [b'.'; 8192];
+        assert_eq!(stream_feed(state, b"1 a", &mut buffer), refused);
+        assert_eq!(stream_feed(state, b"1 a", &mut buffer[..8191]), refused);
+        assert_eq!(buffer, [b'.'; 8192]);
+        assert_eq!(stream_finish(state), FinishAnswer { number: 2, unfinished: 0 });
+    }
+}
+
+#[test]
+fn a_buffer_that_is_too_short_is_refused_with_8() {
+    for state in [stream_start(0).state, stream_start(1).state, StreamState { stage: 4, ..ODD }] {
+        for len in [0, 1, 8191] {
+            let mut buffer = vec![b'.'; len];
+            let refused = FeedAnswer { number: 8, frame: 0, taken: 0, len: 0, state };
+            assert_eq!(stream_feed(state, b"1 a\n", &mut buffer), refused);
+            assert!(buffer.iter().all(|&byte| byte == b'.'));
+        }
+    }
+}
+
+#[test]
+fn what_lies_past_the_content_is_kept() {
+    let mut buffer = vec![b'.'; 9000];
+    let answer = stream_feed(stream_start(0).state, b"3 abc2 de", &mut buffer);
+    let start = stream_start(0).state;
+    assert_eq!(answer, FeedAnswer { number: 0, frame: 1, taken: 5, len: 3, state: start });
+    assert!(&buffer[..3] == b"abc" && buffer[3..].iter().all(|&byte| byte == b'.'));
+    let long = vec![b'x'; 8500];
+    let answer = stream_feed(stream_start(1).state, &long, &mut buffer);
+    assert_eq!(answer.state, StreamState { stage: 3, left: 0, came: 8500 });
+    assert!(buffer[..8192].iter().all(|&byte| byte == b'x') && buffer[8192..].iter().all(|&byte| byte == b'.'));
+}
+
 #[test]
 fn the_archive_has_this_interface() {
     check_interface();
@@ -282,7 +327,7 @@ fn every_number_is_a_refusal_with_that_number() {
     for number in (1..100).chain([u32::MAX]) {
         let refusal = Refusal::check(number).unwrap_err();
         assert_eq!(refusal.number(), number);
-        let known = matches!(number, 1 | 3..=6 | 8 | 9);
+        let known = matches!(number, 1 | 3..=6 | 8 | 9 | 11 | 12);
         assert_eq!(matches!(refusal, Refusal::Unexpected(_)), !known, "{number}");
     }
 }

@@ -1,5 +1,5 @@
 use borrow.Author.Needs.{needs}
-use Rattle.lister.proofs.Ends.{kept-laws}
+use Rattle.lister.proofs.Tasks.{kept-laws}
 use Rattle.lister.proofs.kept_len.Statement.{statement}
 use Rattle.lister.proofs.kept_len.Tie as tie
 

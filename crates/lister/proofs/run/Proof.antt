@@ -58,7 +58,7 @@ module _ (w : World) where
       repeats E.param 256 5 6 held (read-whole E.param) refl gone refl ▹ arrays E.param 256 6 (as-array E.param 256) ▸ room 5 (struct E.param refl) ▸
       calls 0 Tk.ps Tk.r Tr.Asked Tr.Learnt Ts.name (Tr.known w code.env Ts.name Ts.routine code.calls-lister·start (Tm.met (w .𝓤) (w .H) (w .𝓜) (w .𝓖) (w .𝓡))) [] (by-val C.options 4 held refl none) 7 gone tt refl ▹ room 4 (struct C.options refl) ▸ at (head-at κs qs (unmade S.reading)) ▸ (join (head-at κs qs (unmade S.reading)) (
       blocks (loops {Vs = List ℕ × (List (List ℕ) × (List ℕ × (List Param × State)))} (λ vs u. (u .0, (record { ptr = u .1 .0 .ptr; name = u .1 .0 .name; now = vs .0 }, (record { ptr = u .1 .1 .0 .ptr; name = u .1 .1 .0 .name; now = vs .1 .0 }, (record { ptr = u .1 .1 .1 .0 .ptr; name = u .1 .1 .1 .0 .name; now = vs .1 .1 .0 }, (u .1 .1 .1 .1 .0, (u .1 .1 .1 .1 .1 .0, (vs .1 .1 .1 .0, (vs .1 .1 .1 .1, u .1 .1 .1 .1 .1 .1 .1 .1)))))))))
-      (λ u vs. (length (vs .0) ≡ length (u .1 .0 .now)) × ((length (vs .1 .0) ≡ length (u .1 .1 .0 .now)) × ((length (vs .1 .1 .0) ≡ length (u .1 .1 .1 .0 .now)) × ((length (vs .1 .1 .1 .0) ≡ 256) × ((vs .1 .1 .1 .1 .used ≤ length (vs .0)) × (vs .1 .1 .1 .1 .got ≤ length (vs .1 .1 .0))))))) (λ u vs. vs .1 .1 .1 .1 .left) (
+      (λ u vs. (length (vs .0) ≡ length (u .1 .0 .now)) × ((length (vs .1 .0) ≡ length (u .1 .1 .0 .now)) × ((length (vs .1 .1 .0) ≡ length (u .1 .1 .1 .0 .now)) × ((length (vs .1 .1 .1 .0) ≡ 256) × (vs .1 .1 .1 .1 .got ≤ length (vs .1 .1 .0)))))) (λ u vs. vs .1 .1 .1 .1 .left) (
       puts 10 sBool gone (lt unsigned) (lit w64 0 tt) (fld 7 5 (part C.state 5 refl) refl) refl (λ u. refl) (λ u. tt) ▹
       join (head-at κs qs (unmade S.reading)) (branch 10 (λ x. x) (sc sBool) refl (room 10 (over sBool) ▸ nexts tt) (room 10 (over sBool) ▸ exits 1 tt)) (begin 3 _ ▸ begin 4 _ ▸
       lends bytes 1 11 0 3 same gone refl tt refl refl ▹
@@ -95,7 +95,7 @@ module _ (w : World) where
         λ gb. (
           (λ ls. tt),
           λ gs. (
-            ((line .now, (elements .now, (chunk .now, (replicate 256 (gb .1), gs .1)))), refl, (refl, (refl, (refl, (length-replicate 256 (gb .1), (omega (arith, gs .5 .0), omega (arith, gs .5 .1))))))),
+            ((line .now, (elements .now, (chunk .now, (replicate 256 (gb .1), gs .1)))), refl, (refl, (refl, (refl, (length-replicate 256 (gb .1), omega (arith, gs .5)))))),
             λ vs inv.
                 let s = vs .1 .1 .1 .1 in
                 let line-same = inv .0 in
@@ -111,7 +111,7 @@ module _ (w : World) where
                           λ γ′. (
                             refl,
                             (
-                              (λ ls. (inv .1 .1 .1 .1 .0, (inv .1 .1 .1 .1 .1, l))),
+                              (λ ls. (inv .1 .1 .1 .1, l)),
                               λ g. (
                                 refl,
                                 λ k. (
@@ -119,8 +119,8 @@ module _ (w : World) where
                                   λ k′.
                                       let line₁ = g .2 .0 in
                                       let chunk₁ = g .2 .1 .0 in
-                                      let u : g .1 .used ≤ length line₁ = omega (arith, g .5 .0, k′) in
-                                      let c : g .1 .got ≤ length chunk₁ = omega (arith, g .5 .1 .0, k) in (
+                                      let u : g .1 .used ≤ length line₁ = omega (arith, g .5 .1 .0, k′) in
+                                      let c : g .1 .got ≤ length chunk₁ = omega (arith, g .5 .1 .1 .0, k) in (
                                         (λ h. (
                                           tt,
                                           (
@@ -142,9 +142,8 @@ module _ (w : World) where
                                                           λ k₂. (
                                                             (λ ls. tt),
                                                             λ n.
-                                                                let used : n .1 .used ≤ length line₁ = omega (arith, n .5 .0) in
-                                                                let got : n .1 .got ≤ length chunk₁ = omega (arith, n .5 .1 .0, c) in
-                                                                (n .1 .left, omega (arith, n .5 .1 .1, g .5 .1 .1), ((line₁, (r .2 .1 .0, (chunk₁, (r .2 .1 .1 .0, n .1)))), refl, (k′ ∙ line-same, (k₂ ∙ elements-same, (k ∙ chunk-same, (k₃, (used, got))))), refl)),
+                                                                let got : n .1 .got ≤ length chunk₁ = omega (arith, n .5 .got, c) in
+                                                                (n .1 .left, omega (arith, n .5 .left, g .5 .1 .1 .1), ((line₁, (r .2 .1 .0, (chunk₁, (r .2 .1 .1 .0, n .1)))), refl, (k′ ∙ line-same, (k₂ ∙ elements-same, (k ∙ chunk-same, (k₃, got)))), refl)),
                                                           ),
                                                         ),
                                                       ),
@@ -155,7 +154,7 @@ module _ (w : World) where
                                             ),
                                           ),
                                         )),
-                                        (λ h. (g .1 .left, g .5 .1 .1, ((line₁, (vs .1 .0, (chunk₁, (vs .1 .1 .1 .0, g .1)))), refl, (k′ ∙ line-same, (elements-same, (k ∙ chunk-same, (params-same, (u, c))))), refl))),
+                                        (λ h. (g .1 .left, g .5 .1 .1 .1, ((line₁, (vs .1 .0, (chunk₁, (vs .1 .1 .1 .0, g .1)))), refl, (k′ ∙ line-same, (elements-same, (k ∙ chunk-same, (params-same, c)))), refl))),
                                       ),
                                 ),
                               ),

@@ -4,10 +4,10 @@ use Rattle.program.proofs.arguments.Statement.{statement}
 use Rattle.program.proofs.arguments.Tie as tie
 
 abbrev Inv-loop : tie.InvT-loop
-Inv-loop lines n a₀ i₀ a i = i ≤ i
+Inv-loop lists n a₀ i₀ a i = i ≤ i
 
 abbrev μ-loop : tie.MeasureT-loop
-μ-loop lines n a₀ i₀ a i = n - i
+μ-loop lists n a₀ i₀ a i = n - i
 
 arg-count-requires : tie.Need-arg-count-requires Inv-loop μ-loop
 arg-count-requires c κs = search needs

@@ -24,11 +24,17 @@ wished-requires-3 c κs = search needs
 enum-told-4 : tie.Need-enum-told-4
 enum-told-4 c = search needs
 
-with-crlf-requires : tie.Need-with-crlf-requires
-with-crlf-requires c κs = search needs
+with-form-requires : tie.Need-with-form-requires
+with-form-requires c κs = search needs
 
 enum-told-5 : tie.Need-enum-told-5
 enum-told-5 c = search needs
+
+with-form-requires-2 : tie.Need-with-form-requires-2
+with-form-requires-2 c κs = search needs
+
+enum-told-6 : tie.Need-enum-told-6
+enum-told-6 c = search needs
 
 wished-requires-4 : tie.Need-wished-requires-4
 wished-requires-4 c κs = search needs
@@ -48,6 +54,9 @@ returns-4 c = search (with-laws, needs)
 returns-5 : tie.Need-returns-5
 returns-5 c = search (with-laws, needs)
 
+returns-6 : tie.Need-returns-6
+returns-6 c = search (with-laws, needs)
+
 pub with-word-spec : {M : Type 1} → statement M
 with-word-spec =
     tie.close
@@ -59,11 +68,14 @@ with-word-spec =
     enum-told-3
     wished-requires-3
     enum-told-4
-    with-crlf-requires
+    with-form-requires
     enum-told-5
+    with-form-requires-2
+    enum-told-6
     wished-requires-4
     returns
     returns-2
     returns-3
     returns-4
-    returns-5)
+    returns-5
+    returns-6)

@@ -39,8 +39,17 @@ same-text-requires-4 c κs = search needs
 returns-4 : tie.Need-returns-4
 returns-4 c = search (word-laws, needs)
 
+slice-aggregate-same-text-5 : tie.Need-slice-aggregate-same-text-5
+slice-aggregate-same-text-5 c = search needs
+
+same-text-requires-5 : tie.Need-same-text-requires-5
+same-text-requires-5 c κs = search needs
+
 returns-5 : tie.Need-returns-5
 returns-5 c = search (word-laws, needs)
+
+returns-6 : tie.Need-returns-6
+returns-6 c = search (word-laws, needs)
 
 pub word-of-spec : {M : Type 1} → statement M
 word-of-spec =
@@ -58,4 +67,7 @@ word-of-spec =
     slice-aggregate-same-text-4
     same-text-requires-4
     returns-4
-    returns-5)
+    slice-aggregate-same-text-5
+    same-text-requires-5
+    returns-5
+    returns-6)

@@ -2,7 +2,7 @@
 use Prim.Native.Nat.{_-_}
 use lib.ListN.{length}
 use borrow.Author.Needs.{needs}
-use Rattle.utf8.proofs.Walk.{Walked, eight-on, front-laws}
+use Rattle.utf8.proofs.Walk.{Walked, ascii-eight, front-laws}
 use Rattle.utf8.proofs.ascii_front.Statement.{statement}
 use Rattle.utf8.proofs.ascii_front.Tie as tie
 
@@ -31,7 +31,7 @@ loop-less : tie.Need-loop-less Inv-loop μ-loop
 loop-less c = search (front-laws, needs)
 
 loop-again : tie.Need-loop-again Inv-loop μ-loop
-loop-again c = let q = c .before .eight-ascii in eight-on (c .before .before .before .before .before .args .s .now) (c .before .before .before .loop .i) (search needs) (search needs) (q .result) (q .ensures) (search needs)
+loop-again c = let q = c .before .eight-ascii in ascii-eight (c .before .before .before .before .before .args .s .now) (c .before .before .before .loop .i) (search needs) (search needs) (q .result) (q .ensures) (search needs)
 
 returns-2 : tie.Need-returns-2 Inv-loop μ-loop
 returns-2 c = (search (front-laws, needs), search (front-laws, needs))
