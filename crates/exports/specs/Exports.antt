@@ -1,4 +1,4 @@
--- The five functions of include/khamdoriem.h: what each answers, and what it leaves in what it was lent.
+-- The functions of include/khamdoriem.h: what each answers, and what it leaves in what it was lent. Those of a stream are in crates/stream/specs/Numbers.antt.
 use Prim.Native.Nat.{ℕ}
 use mathlib.Core.Path.{_≡_}
 use mathlib.Core.Bool.{true, false}
