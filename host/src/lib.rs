@@ -1,6 +1,7 @@
 //! Safe functions over the archive of Khamdoriem, a proved reader of syslog lines.
 //!
-//! Whatever bytes come in, a call ends with its answer or with a [`Refusal`], and a refused call has changed nothing. There are two
+//! Whatever bytes come in, a call ends with its answer or with a [`Refusal`], and a refused call has changed nothing (but for a
+//! [`Splitter`], which moves on with the two refusals of a stream). There are two
 //! readers: [`Tables::read_loose`] takes RFC 3164 and RFC 5424 by the loose rules of the Rust crate syslog_loose, and says where a
 //! line has no reading and is the message whole ([`LooseAnswer`]); [`Tables::read_strict`] takes what the grammar of RFC 5424
 //! derives and nothing else. Both give a [`Reading`]: fields are parts of the line, and elements and parameters are gone through in
