@@ -32,6 +32,14 @@ SAME(fed_at, offsetof(struct khamdoriem_fed, number) == 0 && offsetof(struct kha
 SAME(finished_size, sizeof(struct khamdoriem_finished) == 8);
 SAME(finished_at,
      offsetof(struct khamdoriem_finished, number) == 0 && offsetof(struct khamdoriem_finished, unfinished) == 4);
+SAME(counts_size, sizeof(khamdoriem_counts) == KHAMDORIEM_TALLY_COLUMNS * 4);
+SAME(tally_size, sizeof(khamdoriem_counts[KHAMDORIEM_TALLY_ROWS]) == sizeof(uint32_t[25][9]));
+SAME(tally_none, KHAMDORIEM_TALLY_NO_FACILITY == KHAMDORIEM_TALLY_ROWS - 1 &&
+                     KHAMDORIEM_TALLY_NO_SEVERITY == KHAMDORIEM_TALLY_COLUMNS - 1);
+SAME(cell_size, sizeof(struct khamdoriem_cell) == 8);
+SAME(cell_at, offsetof(struct khamdoriem_cell, number) == 0 && offsetof(struct khamdoriem_cell, count) == 4);
+SAME(sum_size, sizeof(struct khamdoriem_sum) == 16);
+SAME(sum_at, offsetof(struct khamdoriem_sum, number) == 0 && offsetof(struct khamdoriem_sum, sum) == 8);
 SAME(frame_is_line, KHAMDORIEM_STREAM_BUFFER == KHAMDORIEM_LINE_LIMIT);
 SAME(record_ends, KHAMDORIEM_RECORD == KHAMDORIEM_AT_PARAMS + 8 && KHAMDORIEM_RECORD == KHAMDORIEM_AT_TIMESTAMP_TEXT);
 SAME(strict_ends, KHAMDORIEM_STRICT_RECORD == KHAMDORIEM_AT_HAS_MESSAGE + 8);
@@ -558,14 +566,152 @@ static void check_refused_feeds(void) {
     CHECK(framed(feed_into(0, len, sizeof output), 3, "a") && all(output, 1, sizeof output, 0x5A));
 }
 
+/* ---- a tally, and what it must hold after each call; with rows behind it that no call touches */
+
+enum { ROWS = KHAMDORIEM_TALLY_ROWS, COLUMNS = KHAMDORIEM_TALLY_COLUMNS };
+static khamdoriem_counts tally[ROWS + SPARE], wanted[ROWS + SPARE];
+
+static void start_tally(void) {
+    memset(tally, 0, sizeof tally);
+    memset(tally + ROWS, 0xA5, SPARE * sizeof tally[0]);
+    memcpy(wanted, tally, sizeof tally);
+}
+
+/* Adds, and says whether it was accepted and the one cell rose. */
+static int accepted(uint32_t facility_mark, uint32_t facility, uint32_t severity_mark, uint32_t severity) {
+    wanted[facility_mark ? facility : KHAMDORIEM_TALLY_NO_FACILITY]
+        .count[severity_mark ? severity : KHAMDORIEM_TALLY_NO_SEVERITY]++;
+    return khamdoriem_tally_add(tally, ROWS, facility_mark, facility, severity_mark, severity) == KHAMDORIEM_DONE &&
+           !memcmp(tally, wanted, sizeof tally);
+}
+
+/* The number of an addition to so many rows, where the tally stays as it was; else one that no call answers. */
+static uint32_t not_added(size_t rows, uint32_t facility_mark, uint32_t facility, uint32_t severity_mark,
+                          uint32_t severity) {
+    uint32_t number = khamdoriem_tally_add(tally, rows, facility_mark, facility, severity_mark, severity);
+    return memcmp(tally, wanted, sizeof tally) ? UINT32_MAX : number;
+}
+
+static int holds(size_t rows, uint32_t row, uint32_t column, uint32_t number, uint32_t count) {
+    struct khamdoriem_cell a = khamdoriem_tally_cell(tally, rows, row, column);
+    return a.number == number && a.count == count;
+}
+
+static int row_sums(size_t rows, uint32_t row, uint32_t number, uint64_t sum) {
+    struct khamdoriem_sum a = khamdoriem_tally_row(tally, rows, row);
+    return a.number == number && a.sum == sum;
+}
+
+static int column_sums(size_t rows, uint32_t column, uint32_t number, uint64_t sum) {
+    struct khamdoriem_sum a = khamdoriem_tally_column(tally, rows, column);
+    return a.number == number && a.sum == sum;
+}
+
+static void check_tally_adds(void) {
+    uint32_t i, k;
+    start_tally();
+    for (i = 0; i < 24; i++) {
+        for (k = 0; k < 8; k++) CHECK(accepted(1, i, 1, k) && holds(ROWS, i, k, KHAMDORIEM_DONE, 1));
+        CHECK(accepted(1, i, 0, 0) && holds(ROWS, i, KHAMDORIEM_TALLY_NO_SEVERITY, KHAMDORIEM_DONE, 1));
+    }
+    for (k = 0; k < 8; k++) CHECK(accepted(0, 0, 1, k) && holds(ROWS, KHAMDORIEM_TALLY_NO_FACILITY, k, 0, 1));
+    CHECK(accepted(0, 0, 0, 0) && accepted(0, 0, 0, 0) && holds(ROWS, 24, 8, KHAMDORIEM_DONE, 2));
+    for (i = 0; i < 24; i++) CHECK(row_sums(ROWS, i, KHAMDORIEM_DONE, 9));
+    for (k = 0; k < 8; k++) CHECK(column_sums(ROWS, k, KHAMDORIEM_DONE, 25));
+    CHECK(row_sums(ROWS, 24, KHAMDORIEM_DONE, 10) && column_sums(ROWS, 8, KHAMDORIEM_DONE, 26));
+    /* more rows than 25: the others are of no account */
+    CHECK(khamdoriem_tally_add(tally, ROWS + SPARE, 1, 0, 1, 0) == KHAMDORIEM_DONE);
+    wanted[0].count[0]++;
+    CHECK(!memcmp(tally, wanted, sizeof tally) && column_sums(ROWS + SPARE, 0, KHAMDORIEM_DONE, 26));
+}
+
+static void check_tally_refusals(void) {
+    start_tally();
+    CHECK(not_added(ROWS, 1, 24, 1, 0) == KHAMDORIEM_UNSUITABLE);
+    CHECK(not_added(ROWS, 1, UINT32_MAX, 1, 0) == KHAMDORIEM_UNSUITABLE);
+    CHECK(not_added(ROWS, 1, 256, 1, 0) == KHAMDORIEM_UNSUITABLE);
+    CHECK(not_added(ROWS, 1, 0, 1, 8) == KHAMDORIEM_UNSUITABLE);
+    CHECK(not_added(ROWS, 1, 0, 1, UINT32_MAX) == KHAMDORIEM_UNSUITABLE);
+    CHECK(not_added(ROWS, 0, 1, 0, 0) == KHAMDORIEM_UNSUITABLE);
+    CHECK(not_added(ROWS, 0, 24, 0, 0) == KHAMDORIEM_UNSUITABLE);
+    CHECK(not_added(ROWS, 0, 0, 0, 8) == KHAMDORIEM_UNSUITABLE);
+    CHECK(not_added(ROWS, 2, 0, 1, 0) == KHAMDORIEM_UNSUITABLE);
+    CHECK(not_added(ROWS, 1, 0, 2, 0) == KHAMDORIEM_UNSUITABLE);
+    CHECK(not_added(ROWS, UINT32_MAX, 0, 1, 0) == KHAMDORIEM_UNSUITABLE);
+    /* 7 before 8, 8 before 10 */
+    tally[3].count[4] = wanted[3].count[4] = KHAMDORIEM_TALLY_MOST;
+    CHECK(not_added(0, 1, 24, 1, 0) == KHAMDORIEM_UNSUITABLE);
+    CHECK(not_added(ROWS - 1, 1, 3, 1, 8) == KHAMDORIEM_UNSUITABLE);
+    CHECK(not_added(ROWS - 1, 1, 3, 1, 4) == KHAMDORIEM_OUTPUT_SHORT);
+    CHECK(not_added(0, 1, 0, 1, 0) == KHAMDORIEM_OUTPUT_SHORT);
+    CHECK(not_added(ROWS, 1, 3, 1, 4) == KHAMDORIEM_CELL_FULL);
+    tally[3].count[4] = wanted[3].count[4] = KHAMDORIEM_TALLY_MOST - 1;
+    CHECK(accepted(1, 3, 1, 4) && not_added(ROWS, 1, 3, 1, 4) == KHAMDORIEM_CELL_FULL);
+    CHECK(accepted(1, 3, 1, 5) && accepted(1, 4, 1, 4));
+}
+
+static void check_tally_reads(void) {
+    uint32_t i, k;
+    start_tally();
+    for (i = 0; i < ROWS; i++)
+        for (k = 0; k < COLUMNS; k++) tally[i].count[k] = KHAMDORIEM_TALLY_MOST;
+    CHECK(holds(ROWS, 24, 8, KHAMDORIEM_DONE, KHAMDORIEM_TALLY_MOST));
+    CHECK(row_sums(ROWS, 24, KHAMDORIEM_DONE, UINT64_C(38654705655)));
+    CHECK(column_sums(ROWS, 8, KHAMDORIEM_DONE, UINT64_C(107374182375)));
+    CHECK(holds(ROWS, 25, 0, KHAMDORIEM_UNSUITABLE, 0) && holds(ROWS, 0, 9, KHAMDORIEM_UNSUITABLE, 0));
+    CHECK(holds(ROWS + SPARE, 25, 0, KHAMDORIEM_UNSUITABLE, 0) && holds(ROWS, UINT32_MAX, 0, KHAMDORIEM_UNSUITABLE, 0));
+    CHECK(row_sums(ROWS, 25, KHAMDORIEM_UNSUITABLE, 0) && column_sums(ROWS, 9, KHAMDORIEM_UNSUITABLE, 0));
+    CHECK(row_sums(0, UINT32_MAX, KHAMDORIEM_UNSUITABLE, 0) && column_sums(0, UINT32_MAX, KHAMDORIEM_UNSUITABLE, 0));
+    CHECK(holds(ROWS - 1, 25, 0, KHAMDORIEM_UNSUITABLE, 0) && holds(ROWS - 1, 0, 9, KHAMDORIEM_UNSUITABLE, 0));
+    /* under 25 rows, whatever the row */
+    CHECK(holds(ROWS - 1, 0, 0, KHAMDORIEM_OUTPUT_SHORT, 0) && holds(0, 24, 8, KHAMDORIEM_OUTPUT_SHORT, 0));
+    CHECK(row_sums(ROWS - 1, 0, KHAMDORIEM_OUTPUT_SHORT, 0) && column_sums(ROWS - 1, 0, KHAMDORIEM_OUTPUT_SHORT, 0));
+}
+
+/* A record is added as it stands: what the readers leave, and bytes that are none. */
+static void check_tally_records(void) {
+    start_tally();
+    start("<165>1 - - - - - -");
+    CHECK(strict().number == KHAMDORIEM_DONE);
+    CHECK(khamdoriem_tally_record(tally, ROWS, record) == KHAMDORIEM_DONE && holds(ROWS, 20, 5, 0, 1));
+    CHECK(loose().number == KHAMDORIEM_DONE);
+    CHECK(khamdoriem_tally_record(tally, ROWS, record) == KHAMDORIEM_DONE && holds(ROWS, 20, 5, 0, 2));
+    start("<192>1 - - - - - -");
+    CHECK(loose().whole == 0);
+    CHECK(khamdoriem_tally_record(tally, ROWS, record) == KHAMDORIEM_DONE && holds(ROWS, 24, 0, 0, 1));
+    start("1 - - - - - -");
+    CHECK(loose().whole == 0);
+    CHECK(khamdoriem_tally_record(tally, ROWS, record) == KHAMDORIEM_DONE && holds(ROWS, 24, 8, 0, 1));
+    start("antenna detuned");
+    CHECK(loose().whole == 1);
+    CHECK(khamdoriem_tally_record(tally, ROWS, record) == KHAMDORIEM_DONE && holds(ROWS, 24, 8, 0, 2));
+    CHECK(khamdoriem_tally_record(tally, ROWS - 1, record) == KHAMDORIEM_OUTPUT_SHORT);
+    memcpy(wanted, tally, sizeof tally);
+    put_word(KHAMDORIEM_AT_FACILITY, UINT64_C(1) << 32);
+    CHECK(khamdoriem_tally_record(tally, ROWS, record) == KHAMDORIEM_UNSUITABLE);
+    put_word(KHAMDORIEM_AT_FACILITY, 1), put_word(KHAMDORIEM_AT_FACILITY + 8, UINT64_MAX << 32);
+    CHECK(khamdoriem_tally_record(tally, ROWS, record) == KHAMDORIEM_UNSUITABLE);
+    CHECK(!memcmp(tally, wanted, sizeof tally));
+}
+
 /* ---- words */
+
+static int named(const char *is, const char *name) { return is && !strcmp(is, name); }
+
+static void check_names(void) {
+    CHECK(named(khamdoriem_facility_name(0), "kern") && named(khamdoriem_facility_name(10), "authpriv"));
+    CHECK(named(khamdoriem_facility_name(16), "local0") && named(khamdoriem_facility_name(23), "local7"));
+    CHECK(named(khamdoriem_facility_name(KHAMDORIEM_TALLY_NO_FACILITY), "none") && !khamdoriem_facility_name(25));
+    CHECK(named(khamdoriem_severity_name(0), "emerg") && named(khamdoriem_severity_name(7), "debug"));
+    CHECK(named(khamdoriem_severity_name(KHAMDORIEM_TALLY_NO_SEVERITY), "none") && !khamdoriem_severity_name(9));
+}
 
 static void check_texts(void) {
     uint32_t i, k;
     for (i = 0; i <= 12; i++)
         for (k = 0; k < i; k++) CHECK(strcmp(khamdoriem_refusal_text(i), khamdoriem_refusal_text(k)) != 0);
-    CHECK(khamdoriem_refusal_text(10) == khamdoriem_refusal_text(4294967295u));
-    CHECK(khamdoriem_refusal_text(10) == khamdoriem_refusal_text(13));
+    CHECK(khamdoriem_refusal_text(13) == khamdoriem_refusal_text(4294967295u));
+    CHECK(strcmp(khamdoriem_refusal_text(12), khamdoriem_refusal_text(13)) != 0);
 }
 
 int main(void) {
@@ -588,6 +734,11 @@ int main(void) {
     check_lines_stream();
     check_long_frames();
     check_refused_feeds();
+    check_tally_adds();
+    check_tally_refusals();
+    check_tally_reads();
+    check_tally_records();
+    check_names();
     check_texts();
     printf("checks: %lu passed, %lu failed\n", passed, failed);
     return failed ? EXIT_FAILURE : EXIT_SUCCESS;

@@ -57,6 +57,15 @@ static void feed(void) {
     number = khamdoriem_stream_feed(state, line, len, output, KHAMDORIEM_STREAM_BUFFER).number;
 }
 
+/* The four calls of a tally, one after the other. */
+static void tally(void) {
+    static khamdoriem_counts rows[KHAMDORIEM_TALLY_ROWS];
+    number = khamdoriem_tally_add(rows, KHAMDORIEM_TALLY_ROWS, 1, 23, 1, 7);
+    number += khamdoriem_tally_cell(rows, KHAMDORIEM_TALLY_ROWS, 23, 7).number;
+    number += khamdoriem_tally_row(rows, KHAMDORIEM_TALLY_ROWS, 23).number;
+    number += khamdoriem_tally_column(rows, KHAMDORIEM_TALLY_ROWS, 7).number;
+}
+
 /* The bytes that a call took. The stack grows down. */
 static size_t taken(void (*call)(void)) {
     pthread_attr_t attr;
@@ -126,6 +135,7 @@ int main(void) {
     start("antenna detuned");
     measure("read_loose, no reading", read_loose, KHAMDORIEM_DONE);
     measure("stream_feed", feed, KHAMDORIEM_DONE);
+    measure("tally_add, tally_cell, tally_row, tally_column", tally, KHAMDORIEM_DONE);
     measure_strict("read_strict, 1 element", 1);
     measure_strict("read_strict, 8 elements", 8);
     measure_strict("read_strict, 9 elements", 9);

@@ -22,6 +22,11 @@ struct khamdoriem_started right_stream_start(uint32_t);
 struct khamdoriem_fed right_stream_feed(struct khamdoriem_stream, const uint8_t *, size_t, uint8_t *, size_t);
 struct khamdoriem_finished right_stream_finish(struct khamdoriem_stream);
 
+uint32_t right_tally_add(khamdoriem_counts *, size_t, uint32_t, uint32_t, uint32_t, uint32_t);
+struct khamdoriem_cell right_tally_cell(const khamdoriem_counts *, size_t, uint32_t, uint32_t);
+struct khamdoriem_sum right_tally_row(const khamdoriem_counts *, size_t, uint32_t);
+struct khamdoriem_sum right_tally_column(const khamdoriem_counts *, size_t, uint32_t);
+
 static int fault(void) {
     static int number = -1;
     if (number < 0) number = getenv("FAULT") ? atoi(getenv("FAULT")) : 0;
@@ -149,5 +154,59 @@ struct khamdoriem_fed khamdoriem_stream_feed(struct khamdoriem_stream state, con
 struct khamdoriem_finished khamdoriem_stream_finish(struct khamdoriem_stream state) {
     struct khamdoriem_finished a = right_stream_finish(state);
     if (fault() == 44 && a.unfinished > KHAMDORIEM_LINE_LIMIT) a.unfinished = KHAMDORIEM_LINE_LIMIT;        /* of a frame that is passed over, what is held */
+    return a;
+}
+
+uint32_t khamdoriem_tally_add(khamdoriem_counts *rows, size_t rows_len, uint32_t facility_mark, uint32_t facility, uint32_t severity_mark, uint32_t severity) {
+    /* What comes in is changed here, so that the right function gives a wrong answer; below, what it answers. */
+    switch (fault()) {
+    case 45: if (facility_mark == 1 && facility < 8 && severity_mark == 1 && severity < 8) { uint32_t kept = facility; facility = severity, severity = kept; } break; /* row and column exchanged */
+    case 46: if (facility_mark == 1 && facility == KHAMDORIEM_TALLY_NO_FACILITY) facility_mark = facility = 0; break; /* facility 24 taken for none */
+    case 47: if (severity_mark == 1 && severity == KHAMDORIEM_TALLY_NO_SEVERITY) severity_mark = severity = 0; break; /* severity 8 taken for none */
+    case 48: if (facility_mark == 0) facility = 0; break;                                                   /* a number beside a mark of 0 passed over */
+    case 49: if (severity_mark > 1) severity_mark = 1; break;                                               /* any mark taken for 1 */
+    case 50: facility %= 256; break;                                                                        /* a facility of 8 bits */
+    }
+    uint32_t number = right_tally_add(rows, rows_len, facility_mark, facility, severity_mark, severity);
+    uint32_t row = facility_mark ? facility : KHAMDORIEM_TALLY_NO_FACILITY, column = severity_mark ? severity : KHAMDORIEM_TALLY_NO_SEVERITY;
+    switch (fault()) {
+    case 51: if (number == 0 && column < 8) rows[row].count[column]--, rows[row].count[column + 1]++; break; /* the neighbour raised */
+    case 52: if (number == 10) rows[row].count[column] = 0, number = 0; break;                              /* the limit wraps */
+    case 53: if (number == 10) number = 0; break;                                                           /* a full cell stays full, as if done */
+    case 54: if (number == 0 && rows[row].count[column] == KHAMDORIEM_TALLY_MOST) rows[row].count[column]--, number = 10; break; /* the limit off by one */
+    case 55: if (number == 7 && rows_len < KHAMDORIEM_TALLY_ROWS) number = 8; break;                        /* refusals in another order */
+    case 56: if (number == 7 && rows_len >= KHAMDORIEM_TALLY_ROWS) rows[24].count[8]++; break;              /* a refused call counts as none */
+    case 57: if (number == 0 && rows_len > KHAMDORIEM_TALLY_ROWS) rows[KHAMDORIEM_TALLY_ROWS].count[column]++; break; /* a row past the 25th */
+    }
+    return number;
+}
+
+struct khamdoriem_cell khamdoriem_tally_cell(const khamdoriem_counts *rows, size_t rows_len, uint32_t row, uint32_t column) {
+    struct khamdoriem_cell a = right_tally_cell(rows, rows_len, row, column);
+    switch (fault()) {
+    case 58: if (row < 9 && column < 9) a = right_tally_cell(rows, rows_len, column, row); break;           /* row and column exchanged */
+    case 59: if (a.number == 7 && column == 9) a.number = 0; break;                                         /* column 9 holds 0 */
+    case 60: if (a.number == 8 && row < rows_len) a.count = rows[row].count[column]; break;                 /* a count beside a refusal */
+    }
+    return a;
+}
+
+struct khamdoriem_sum khamdoriem_tally_row(const khamdoriem_counts *rows, size_t rows_len, uint32_t row) {
+    struct khamdoriem_sum a = right_tally_row(rows, rows_len, row);
+    switch (fault()) {
+    case 61: if (a.number == 0) a.sum -= rows[row].count[KHAMDORIEM_TALLY_NO_SEVERITY]; break;              /* a row's sum misses none */
+    case 62: a.sum = (uint32_t)a.sum; break;                                                                /* a sum of 32 bits */
+    case 63: if (row == 25) a = right_tally_row(rows, rows_len, 0); break;                                  /* row 25 taken for row 0 */
+    }
+    return a;
+}
+
+struct khamdoriem_sum khamdoriem_tally_column(const khamdoriem_counts *rows, size_t rows_len, uint32_t column) {
+    struct khamdoriem_sum a = right_tally_column(rows, rows_len, column);
+    switch (fault()) {
+    case 64: if (a.number == 0) a.sum -= rows[KHAMDORIEM_TALLY_NO_FACILITY].count[column]; break;           /* a column's sum misses none */
+    case 65: if (a.number == 0 && rows_len > KHAMDORIEM_TALLY_ROWS) a.sum += rows[KHAMDORIEM_TALLY_ROWS].count[column]; break; /* rows past the 25th in the sum */
+    case 66: if (a.number == 8 && rows_len == KHAMDORIEM_TALLY_ROWS - 1) a.number = 0; break;               /* 24 rows taken for a tally */
+    }
     return a;
 }

@@ -1,26 +1,27 @@
 /* khamdoriem.h - the C boundary of Khamdoriem, a proved reader of syslog lines. For x86-64, from C99 and C++11 on.
 
-   Eight functions, and inline ones that take a record apart. Link with libkhamdoriem.a (pkg-config: khamdoriem).
+   Twelve functions, and inline ones that take a record apart. Link with libkhamdoriem.a (pkg-config: khamdoriem).
    docs/INTERFACE.md says the same at length, with the record byte by byte; examples/ has a program in C, one in C++.
 
    The order of things: compare khamdoriem_interface() once. Lend a reader the line, two tables and memory for a record,
    and look at the number that it answers. Where that is 0, take fields out of the record, walk the tables, print or
    look up. A stream is cut into frames by the three functions of a stream: start one, feed it what comes, and read each
-   frame as a line.
+   frame as a line. A tally counts records by facility and severity: start from zeros, add each record, and read cells
+   and sums.
 
-   RULES FOR WHAT IS LENT. A slice is a pointer and a count: of bytes, or of a table's entries.
+   RULES FOR WHAT IS LENT. A slice is a pointer and a count: of bytes, of a table's entries, or of a tally's rows.
    - No pointer may be null, also where its count is 0; then it may be the address of anything. (gcc and clang warn of a
      null that they see.)
-   - The two tables are aligned for size_t. Bytes may stand anywhere.
+   - The two tables are aligned for size_t, a tally for uint32_t. Bytes may stand anywhere.
    - What a call writes to overlaps nothing else that it is lent: of a reader both tables and the record, of print and
      lookup the output, of khamdoriem_stream_feed the buffer. What a call only reads may overlap: an id may be a part
-     of the line.
+     of the line. (A tally is all that its calls are lent.)
    - Any count may be 0. Nothing past a result is touched: no entry past the counts, no byte past the record or past the
      length of what was written.
    - A call that answers a number other than 0 has changed nothing that it was lent; the one exception is 12 of
      khamdoriem_stream_feed, which leaves the front of the long frame in the buffer.
-   - Nothing is kept after a call and nothing is allocated. There is no state but a stream's, which the caller keeps:
-     threads need no lock.
+   - Nothing is kept after a call and nothing is allocated. There is no state but a stream's and a tally, which the
+     caller keeps: threads need no lock as long as each has its own.
 
    A call takes at most KHAMDORIEM_STACK bytes of stack. The archive calls memset and nothing else, has no writable
    data, and is position-independent: it links into programs of any kind and into shared objects. */
@@ -52,8 +53,8 @@ extern "C" {
 #define KHAMDORIEM_INTERFACE 2
 
 /* The number that a call answers. Which ones, in the order in which they are checked: read_loose 1 2 3 5 6 8,
-   read_strict 1 4 5 6 8, print 1 7 8, lookup 1 2 7 9 8, stream_start 2, stream_feed 2 8 11 12, stream_finish 2.
-   khamdoriem_refusal_text has words for each. */
+   read_strict 1 4 5 6 8, print 1 7 8, lookup 1 2 7 9 8, stream_start 2, stream_feed 2 8 11 12, stream_finish 2,
+   tally_add 7 8 10, tally_cell, tally_row and tally_column 7 8. khamdoriem_refusal_text has words for each. */
 #define KHAMDORIEM_DONE 0
 #define KHAMDORIEM_LINE_TOO_LONG 1     /* the line has over KHAMDORIEM_LINE_LIMIT bytes */
 #define KHAMDORIEM_BAD_SETTING 2       /* variant, year, offset or kind out of range; a stream that was not started */
@@ -61,10 +62,13 @@ extern "C" {
 #define KHAMDORIEM_NO_READING 4        /* the line has no reading (strict reading) */
 #define KHAMDORIEM_TOO_MANY_ELEMENTS 5 /* the reading has more elements than the table */
 #define KHAMDORIEM_TOO_MANY_PARAMS 6   /* the reading has more parameters than the table */
-#define KHAMDORIEM_UNSUITABLE 7        /* the bytes hold no record, or one that does not suit the line: see print */
-#define KHAMDORIEM_OUTPUT_SHORT 8      /* the output is shorter than the result, the record's memory than a record, or a
-                                          stream's buffer than KHAMDORIEM_STREAM_BUFFER */
+#define KHAMDORIEM_UNSUITABLE 7        /* the bytes hold no record, or one that does not suit the line: see print; a
+                                          tally has no such row or column */
+#define KHAMDORIEM_OUTPUT_SHORT 8      /* the output is shorter than the result, the record's memory than a record, a
+                                          stream's buffer than KHAMDORIEM_STREAM_BUFFER, or a tally than
+                                          KHAMDORIEM_TALLY_ROWS */
 #define KHAMDORIEM_NOT_FOUND 9         /* no parameter has this element's id and this name */
+#define KHAMDORIEM_CELL_FULL 10        /* the cell holds KHAMDORIEM_TALLY_MOST, and is not raised */
 #define KHAMDORIEM_BAD_COUNT 11        /* a frame's count is none, and has ended its stream */
 #define KHAMDORIEM_FRAME_TOO_LONG 12   /* a frame of over KHAMDORIEM_LINE_LIMIT bytes was passed over */
 
@@ -93,6 +97,16 @@ extern "C" {
 
 /* What khamdoriem_stream_finish answers where an unfinished frame has so many bytes or more. */
 #define KHAMDORIEM_UNFINISHED_MOST 4294967295u
+
+/* A tally has a row for each facility, 0 to 23, and one for none; in each row a count for each severity, 0 to 7, and
+   one for none. */
+#define KHAMDORIEM_TALLY_ROWS 25
+#define KHAMDORIEM_TALLY_COLUMNS 9
+#define KHAMDORIEM_TALLY_NO_FACILITY 24
+#define KHAMDORIEM_TALLY_NO_SEVERITY 8
+
+/* The most that a cell of a tally holds. */
+#define KHAMDORIEM_TALLY_MOST 4294967295u
 
 /* The most bytes of a line. */
 #define KHAMDORIEM_LINE_LIMIT 8192
@@ -209,6 +223,25 @@ struct khamdoriem_finished {
     uint32_t unfinished;
 };
 
+/* A row of a tally: how many records of its facility had each severity, and at KHAMDORIEM_TALLY_NO_SEVERITY how many
+   had none. A tally is 25 of these, the last of them for no facility, all zeros at the start:
+   khamdoriem_counts tally[KHAMDORIEM_TALLY_ROWS] = {{{0}}}. That is the memory of a uint32_t[25][9]. */
+typedef struct khamdoriem_counts {
+    uint32_t count[KHAMDORIEM_TALLY_COLUMNS];
+} khamdoriem_counts;
+
+/* What khamdoriem_tally_cell answers: 0 and what the cell holds, or the number of a refusal and 0. */
+struct khamdoriem_cell {
+    uint32_t number;
+    uint32_t count;
+};
+
+/* What khamdoriem_tally_row and khamdoriem_tally_column answer: 0 and the sum, or the number of a refusal and 0. */
+struct khamdoriem_sum {
+    uint32_t number;
+    uint64_t sum;
+};
+
 /* ---- the functions */
 
 /* KHAMDORIEM_INTERFACE, as the archive has it. */
@@ -278,6 +311,30 @@ struct khamdoriem_fed khamdoriem_stream_feed(struct khamdoriem_stream state, con
    KHAMDORIEM_UNFINISHED_MOST if more. It is not handed out; its first bytes are in the buffer's front. */
 struct khamdoriem_finished khamdoriem_stream_finish(struct khamdoriem_stream state);
 
+/* Adds one record to a tally: raises the one cell of its facility and severity by one and leaves all others. rows is
+   the tally and rows_len its number of rows, KHAMDORIEM_TALLY_ROWS or more; those past the 25th are kept. A mark of 1
+   says that there is a facility, 0 to 23, or a severity, 0 to 7; a mark of 0 with the number 0 that there is none. A
+   record's memory has them so, and khamdoriem_tally_record takes them from there.
+   - 7: a facility over 23, a severity over 7, a mark of 0 with another number than 0, a mark over 1.
+   - 8: else, under 25 rows.
+   - 10: else, the cell holds KHAMDORIEM_TALLY_MOST.
+   The tally is then as it was. */
+uint32_t khamdoriem_tally_add(khamdoriem_counts *rows, size_t rows_len, uint32_t facility_mark, uint32_t facility,
+                              uint32_t severity_mark, uint32_t severity) KHAMDORIEM_NO_NULL;
+
+/* What a cell holds. row is a facility, 0 to 23, or KHAMDORIEM_TALLY_NO_FACILITY; column a severity, 0 to 7, or
+   KHAMDORIEM_TALLY_NO_SEVERITY. 7: there is no such row or column; 8: else, under 25 rows. */
+struct khamdoriem_cell khamdoriem_tally_cell(const khamdoriem_counts *rows, size_t rows_len, uint32_t row,
+                                             uint32_t column) KHAMDORIEM_NO_NULL;
+
+/* The sum of a row, so how many records had its facility; of a column, how many had its severity. The cell of none is
+   in it, and no sum wraps. All rows together, and all columns, are how many additions were accepted since the tally was
+   zeros. Refused as a cell is. */
+struct khamdoriem_sum khamdoriem_tally_row(const khamdoriem_counts *rows, size_t rows_len,
+                                           uint32_t row) KHAMDORIEM_NO_NULL;
+struct khamdoriem_sum khamdoriem_tally_column(const khamdoriem_counts *rows, size_t rows_len,
+                                              uint32_t column) KHAMDORIEM_NO_NULL;
+
 /* ---- what a reader left, taken apart
 
    line is the line that was read. A text is answered by its address in the line, and its length by *len. Absent and
@@ -323,6 +380,18 @@ static inline int khamdoriem_facility(const uint8_t *record) {
 static inline int khamdoriem_severity(const uint8_t *record) {
     if (!khamdoriem_word(record, KHAMDORIEM_AT_SEVERITY)) return -1;
     return (int)khamdoriem_word(record, KHAMDORIEM_AT_SEVERITY + 8);
+}
+
+/* A word as a number of 32 bits, and the most of them where it is more: no mark, and no facility or severity. */
+static inline uint32_t khamdoriem_narrow(uint64_t word) { return word > UINT32_MAX ? UINT32_MAX : (uint32_t)word; }
+
+/* Adds a record to a tally, by the facility and the severity that it has or has not: khamdoriem_tally_add of what
+   stands in its memory, loose or strict. What a reader left, of a whole line too, is never refused with 7. */
+static inline uint32_t khamdoriem_tally_record(khamdoriem_counts *rows, size_t rows_len, const uint8_t *record) {
+    return khamdoriem_tally_add(rows, rows_len, khamdoriem_narrow(khamdoriem_word(record, KHAMDORIEM_AT_FACILITY)),
+                                khamdoriem_narrow(khamdoriem_word(record, KHAMDORIEM_AT_FACILITY + 8)),
+                                khamdoriem_narrow(khamdoriem_word(record, KHAMDORIEM_AT_SEVERITY)),
+                                khamdoriem_narrow(khamdoriem_word(record, KHAMDORIEM_AT_SEVERITY + 8)));
 }
 
 /* A timestamp: seconds since 1970-01-01T00:00:00Z, negative before it; nanoseconds past that second, before 1970 too;
@@ -416,6 +485,22 @@ static inline struct khamdoriem_written khamdoriem_unescape(const uint8_t *line,
                              output, output_len);
 }
 
+/* A facility by its name, or a row of a tally: "none" for KHAMDORIEM_TALLY_NO_FACILITY, a null pointer above. */
+static inline const char *khamdoriem_facility_name(uint32_t row) {
+    static const char *const names[KHAMDORIEM_TALLY_ROWS] = {
+        "kern",   "user",   "mail",   "daemon", "auth",   "syslog", "lpr",    "news",   "uucp",
+        "cron",   "authpriv", "ftp",  "ntp",    "audit",  "alert",  "clockd", "local0", "local1",
+        "local2", "local3", "local4", "local5", "local6", "local7", "none"};
+    return row < KHAMDORIEM_TALLY_ROWS ? names[row] : NULL;
+}
+
+/* A severity by its name, or a column of a tally: "none" for KHAMDORIEM_TALLY_NO_SEVERITY, a null pointer above. */
+static inline const char *khamdoriem_severity_name(uint32_t column) {
+    static const char *const names[KHAMDORIEM_TALLY_COLUMNS] = {"emerg",  "alert", "crit",  "err", "warning",
+                                                                "notice", "info",  "debug", "none"};
+    return column < KHAMDORIEM_TALLY_COLUMNS ? names[column] : NULL;
+}
+
 /* A number that a call answered, in words. */
 static inline const char *khamdoriem_refusal_text(uint32_t number) {
     switch (number) {
@@ -426,9 +511,10 @@ static inline const char *khamdoriem_refusal_text(uint32_t number) {
     case KHAMDORIEM_NO_READING: return "the line has no reading";
     case KHAMDORIEM_TOO_MANY_ELEMENTS: return "the reading has more elements than the table";
     case KHAMDORIEM_TOO_MANY_PARAMS: return "the reading has more parameters than the table";
-    case KHAMDORIEM_UNSUITABLE: return "the record, the counts or the tables do not suit the line";
+    case KHAMDORIEM_UNSUITABLE: return "record, counts or tables do not suit the line, or a tally has no such cell";
     case KHAMDORIEM_OUTPUT_SHORT: return "the output is shorter than the result";
     case KHAMDORIEM_NOT_FOUND: return "there is no parameter of this element and name";
+    case KHAMDORIEM_CELL_FULL: return "the cell of the tally holds 4,294,967,295 already";
     case KHAMDORIEM_BAD_COUNT: return "the count of a frame is none, and the stream has ended";
     case KHAMDORIEM_FRAME_TOO_LONG: return "a frame of over 8,192 bytes was passed over";
     default: return "a number that this interface does not have";

@@ -2,7 +2,7 @@
 use crate::gate;
 use crate::readers::{interface, rust, Lent};
 use crate::shapes::{Shape, GROWING, IDS, LENGTHS, SLOW};
-use crate::streams;
+use crate::{streams, tallies};
 
 // Words of the record (docs/INTERFACE.md). In interface 1 it has no word of digits.
 const SECONDS: usize = 7;
@@ -95,5 +95,6 @@ pub fn check(text: &str) -> Result<(), String> {
     for shape in &IDS {
         ids(shape, &mut lent)?;
     }
-    streams::check()
+    streams::check()?;
+    tallies::check()
 }

@@ -10,13 +10,14 @@ mod report;
 mod results;
 mod shapes;
 mod streams;
+mod tallies;
 
 use readers::{Lent, Reader};
 use std::process::ExitCode;
 use std::time::Instant;
 
 const USAGE: &str = "usage: driver make FILE LINES SEED | check FILE | pass READER KIND FILE TIMES | shape READER NAME BYTES TIMES \
-                     | stream splitter NAME TIMES | time KIND FILE READER.. | report RESULTS FOLDER";
+                     | stream splitter NAME TIMES | tally table NAME TIMES | time KIND FILE READER.. | report RESULTS FOLDER";
 
 fn number<T: std::str::FromStr>(text: &str) -> Result<T, String> {
     text.parse().map_err(|_| format!("'{text}' is no number, or too large"))
@@ -84,6 +85,11 @@ fn stream(name: &str, times: &str) -> Result<(), String> {
     Ok(())
 }
 
+fn tally(name: &str, times: &str) -> Result<(), String> {
+    let kind = tallies::named(name).ok_or(format!("'{name}' is no call of a tally"))?;
+    (0..number::<usize>(times)?).try_for_each(|_| tallies::pass(kind))
+}
+
 fn report(results: &str, folder: &str) -> Result<(), String> {
     let results = results::Results::of(&text_of(results)?);
     write(&format!("{folder}/BENCH.md"), &report::page(&results)?)?;
@@ -99,6 +105,7 @@ fn run(args: &[&str]) -> Result<(), String> {
         ["pass", name, kind, file, times] => passes(&[*name], kind, file, number(times)?).map(|_| ()),
         ["shape", name, what, bytes, times] => shape(name, what, bytes, times),
         ["stream", "splitter", name, times] => stream(name, times),
+        ["tally", "table", name, times] => tally(name, times),
         ["time", kind, file, names @ ..] => time(kind, file, names),
         ["report", results, folder] => report(results, folder),
         _ => Err(USAGE.to_string()),

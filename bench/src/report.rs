@@ -3,6 +3,7 @@ use crate::price::price;
 use crate::results::Results;
 use crate::shapes::{GROWING, LENGTHS, SLOW};
 use crate::streams::CUTS;
+use crate::tallies;
 use std::fmt::Write;
 
 pub const KINDS: [(&str, &str); 3] = [("all", "all, variant 0"), ("3164", "RFC 3164, variant 1"), ("5424", "RFC 5424, variant 2")];
@@ -154,6 +155,18 @@ fn streams(results: &Results) -> Result<String, String> {
     Ok(page + "\n")
 }
 
+fn tallies(results: &Results) -> Result<String, String> {
+    let mut page = String::from(
+        "## Tallies\n\nAdding to a tally and reading it, in instructions a call in the functions of the archive. Nothing is allocated or cleared.\n\n",
+    );
+    add(&mut page, "| call | calls | a call |\n|---|---|---|");
+    for kind in &tallies::KINDS {
+        let (calls, spent) = (results.number(&["tally", kind.name], 0)?, results.number(&["tallying", kind.name], 0)?);
+        add(&mut page, &format!("| {} | {} | {:.1} |", kind.what, commas(calls), spent / calls));
+    }
+    Ok(page + "\n")
+}
+
 /// A line of prose as lines of at most 120 columns; a row of a table as it is.
 fn folded(line: &str) -> String {
     if line.starts_with('|') {
@@ -174,7 +187,7 @@ fn folded(line: &str) -> String {
 }
 
 pub fn page(results: &Results) -> Result<String, String> {
-    let page = intro(results)? + &lines(results)? + &times(results)? + &growing(results)? + &slow(results)? + &price(results)? + &streams(results)? + &functions(results)?;
+    let page = intro(results)? + &lines(results)? + &times(results)? + &growing(results)? + &slow(results)? + &price(results)? + &streams(results)? + &tallies(results)? + &functions(results)?;
     Ok(page.lines().map(|line| folded(line) + "\n").collect())
 }
 

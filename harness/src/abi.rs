@@ -1,4 +1,4 @@
-//! The archive's eight functions, as include/khamdoriem.h declares them.
+//! The archive's twelve functions, as include/khamdoriem.h declares them.
 
 pub type Element = [usize; 2];
 pub type Param = [usize; 5];
@@ -95,6 +95,23 @@ pub struct Finished {
     pub unfinished: u32,
 }
 
+/// A row of a tally.
+pub type Row = [u32; 9];
+
+#[repr(C)]
+#[derive(Clone, Copy, Debug, PartialEq)]
+pub struct Cell {
+    pub number: u32,
+    pub count: u32,
+}
+
+#[repr(C)]
+#[derive(Clone, Copy, Debug, PartialEq)]
+pub struct Sum {
+    pub number: u32,
+    pub sum: u64,
+}
+
 #[derive(Clone, Copy, Debug, PartialEq)]
 pub enum Reader {
     Loose,
@@ -110,7 +127,7 @@ pub struct Given<'a> {
     pub params: &'a [Param],
 }
 
-#[link(name = "exports", kind = "static")]
+#[link(name = "khamdoriem", kind = "static")]
 extern "C" {
     fn khamdoriem_interface() -> u32;
     fn khamdoriem_read_loose(
@@ -133,6 +150,10 @@ extern "C" {
     fn khamdoriem_stream_start(kind: u32) -> Started;
     fn khamdoriem_stream_feed(state: State, bytes: *const u8, bytes_len: usize, buffer: *mut u8, buffer_len: usize) -> Fed;
     fn khamdoriem_stream_finish(state: State) -> Finished;
+    fn khamdoriem_tally_add(rows: *mut Row, rows_len: usize, facility_mark: u32, facility: u32, severity_mark: u32, severity: u32) -> u32;
+    fn khamdoriem_tally_cell(rows: *const Row, rows_len: usize, row: u32, column: u32) -> Cell;
+    fn khamdoriem_tally_row(rows: *const Row, rows_len: usize, row: u32) -> Sum;
+    fn khamdoriem_tally_column(rows: *const Row, rows_len: usize, column: u32) -> Sum;
 }
 
 /// The number of the archive's interface.
@@ -179,4 +200,20 @@ pub fn stream_feed(state: State, bytes: &[u8], buffer: &mut [u8]) -> Fed {
 
 pub fn stream_finish(state: State) -> Finished {
     unsafe { khamdoriem_stream_finish(state) }
+}
+
+pub fn tally_add(rows: &mut [Row], facility_mark: u32, facility: u32, severity_mark: u32, severity: u32) -> u32 {
+    unsafe { khamdoriem_tally_add(rows.as_mut_ptr(), rows.len(), facility_mark, facility, severity_mark, severity) }
+}
+
+pub fn tally_cell(rows: &[Row], row: u32, column: u32) -> Cell {
+    unsafe { khamdoriem_tally_cell(rows.as_ptr(), rows.len(), row, column) }
+}
+
+pub fn tally_row(rows: &[Row], row: u32) -> Sum {
+    unsafe { khamdoriem_tally_row(rows.as_ptr(), rows.len(), row) }
+}
+
+pub fn tally_column(rows: &[Row], column: u32) -> Sum {
+    unsafe { khamdoriem_tally_column(rows.as_ptr(), rows.len(), column) }
 }

@@ -2,6 +2,7 @@
 //!
 //!     harness [--seed N] [--cases N] [--part I/N] [--lines KIND]     compares, and ends with one line
 //!     harness --streams N [--seed N] [--part I/N]     compares N streams with a machine by hand, and ends with one line
+//!     harness --tallies N [--seed N] [--part I/N]     compares N additions to tallies, and all reads, with a tally by hand, and ends with one line
 //!     harness --replay N                              writes a list of N cases with the Rust's answers
 //!     harness --stored FOLDER                         compares the stored output of the program `cases`
 
@@ -21,6 +22,7 @@ mod shrink;
 mod stored;
 mod streams;
 mod strict;
+mod tallies;
 
 use compare::{Counts, Desk};
 use lines::Lines;
@@ -29,6 +31,7 @@ use std::panic::{catch_unwind, AssertUnwindSafe};
 use std::process::ExitCode;
 use std::time::{Duration, Instant};
 use streams::Streams;
+use tallies::Tallies;
 
 struct Wanted {
     seed: u64,
@@ -37,12 +40,13 @@ struct Wanted {
     parts: u64,
     ids: bool,
     streams: Option<u64>,
+    tallies: Option<u64>,
     replay: Option<usize>,
     stored: Option<String>,
 }
 
 fn arguments() -> Result<Wanted, String> {
-    let mut wanted = Wanted { seed: 1, cases: 100_000, part: 0, parts: 1, ids: false, streams: None, replay: None, stored: None };
+    let mut wanted = Wanted { seed: 1, cases: 100_000, part: 0, parts: 1, ids: false, streams: None, tallies: None, replay: None, stored: None };
     let mut args = std::env::args().skip(1);
     while let Some(name) = args.next() {
         let value = args.next().ok_or(format!("{name} asks for a value"))?;
@@ -51,6 +55,7 @@ fn arguments() -> Result<Wanted, String> {
             "--seed" => wanted.seed = number(&value)?,
             "--cases" => wanted.cases = number(&value)?,
             "--streams" => wanted.streams = Some(number(&value)?),
+            "--tallies" => wanted.tallies = Some(number(&value)?),
             "--replay" => wanted.replay = Some(number(&value)? as usize),
             "--lines" => match value.as_str() {
                 "all" => wanted.ids = false,
@@ -162,6 +167,39 @@ fn compared_streams(wanted: &Wanted, count: u64) -> ExitCode {
     ExitCode::SUCCESS
 }
 
+fn tally_summary(wanted: &Wanted, counts: &tallies::Counts, unexplained: u64) -> String {
+    let tallies::Counts { additions, accepted, unsuitable, short, full, reads } = counts;
+    format!(
+        "seed {} part {}/{}: {additions} additions ({accepted} accepted, {unsuitable} refusals 7, {short} refusals 8, {full} refusals 10, {reads} reads), {unexplained} unexplained",
+        wanted.seed, wanted.part + 1, wanted.parts
+    )
+}
+
+/// Additions to tallies and reads of them against one by hand; the first difference ends it.
+fn compared_tallies(wanted: &Wanted, count: u64) -> ExitCode {
+    let mut tallies = Tallies::new(wanted.seed, wanted.part);
+    let (start, mut told) = (Instant::now(), Instant::now());
+    while tallies.counts.additions < count {
+        let ends = tallies.counts.additions + 1 == count;
+        let seen = tallies.next();
+        if let Err(difference) = if ends { seen.and_then(|()| tallies.read()) } else { seen } {
+            println!("harness: {} differs in a tally", difference.what);
+            println!("  call     {:?}", difference.last);
+            println!("  ours     {}", difference.ours);
+            println!("  wanted   {}", difference.wanted);
+            println!("harness: {}", tally_summary(wanted, &tallies.counts, 1));
+            return ExitCode::FAILURE;
+        }
+        if tallies.counts.additions % 1024 == 0 && told.elapsed() >= Duration::from_secs(5) {
+            told = Instant::now();
+            let rate = tallies.counts.additions as f64 / start.elapsed().as_secs_f64();
+            eprintln!("harness: {} ({rate:.0} additions a second)", tally_summary(wanted, &tallies.counts, 0));
+        }
+    }
+    println!("harness: {}", tally_summary(wanted, &tallies.counts, 0));
+    ExitCode::SUCCESS
+}
+
 fn main() -> ExitCode {
     match arguments() {
         Err(error) => {
@@ -171,6 +209,7 @@ fn main() -> ExitCode {
         Ok(Wanted { replay: Some(count), .. }) => replay::write(count),
         Ok(Wanted { stored: Some(folder), .. }) => stored::compare(&folder),
         Ok(wanted @ Wanted { streams: Some(count), .. }) => compared_streams(&wanted, count),
+        Ok(wanted @ Wanted { tallies: Some(count), .. }) => compared_tallies(&wanted, count),
         Ok(wanted) => compared(&wanted),
     }
 }

@@ -29,6 +29,8 @@
 //! A stream that comes over TCP is cut into frames, each to be read as a line, by a [`Splitter`], which is fed whatever came; with the
 //! feature `std`, [`Frames`] goes through those of a reader.
 //!
+//! A [`Tally`] counts readings by facility and severity, and writes itself as a table for a person.
+//!
 //! Texts are parts of the line, as bytes and, with `_str` behind the name, as `str`. No call allocates: tables own their memory
 //! ([`Tables::new`], with the feature `std`, which is on by default) or are laid over what is lent ([`Tables::over`]).
 //!
@@ -56,6 +58,7 @@ mod splitter;
 #[allow(unsafe_code)]
 mod sys;
 mod tables;
+mod tally;
 #[allow(unsafe_code)]
 mod texts;
 mod timestamp;
@@ -72,6 +75,7 @@ pub use settings::{Offset, Settings, Variant, Year};
 pub use splitter::{Event, Fed, Framing, Splitter};
 pub use sys::{ElementEntry, ParamEntry};
 pub use tables::Tables;
+pub use tally::{Tally, TallyCell, TallyCells};
 pub use timestamp::Timestamp;
 
 // The examples of the README are tried with those of the documentation.

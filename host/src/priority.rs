@@ -12,6 +12,9 @@ macro_rules! levels {
         }
 
         impl $name {
+            /// All of them, in the order of their numbers.
+            pub const ALL: &'static [$name] = &[$($name::$level,)+];
+
             /// The one with this number, if there is one.
             pub const fn from_number(number: u8) -> Option<$name> {
                 match number {

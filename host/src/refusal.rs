@@ -12,7 +12,8 @@ macro_rules! refusals {
         /// Number 2 is for settings out of range, and the types of [`Settings`](crate::Settings), [`Unescape`](crate::Unescape) and
         /// [`Framing`](crate::Framing) hold none. Number 7 is for a record or tables that do not suit the line, and a
         /// [`Reading`](crate::Reading) holds the line, the record and the tables of one reading together and lets nobody
-        /// change them.
+        /// change them; and for a facility or a severity that a tally has no place for, and [`Facility`](crate::Facility) and
+        /// [`Severity`](crate::Severity) have none of those.
         ///
         /// More are to come with further calls, so a match has an arm for the rest; without one it does not compile:
         ///
@@ -22,7 +23,7 @@ macro_rules! refusals {
         /// fn number(refusal: Refusal) -> u32 {
         ///     match refusal {
         ///         LineTooLong | NotUtf8 | NoReading | TooManyElements | TooManyParams | OutputTooShort | NoSuchParam => 1,
-        ///         BadCount | FrameTooLong => 2,
+        ///         CellFull | BadCount | FrameTooLong => 2,
         ///         Unexpected(number) => number,
         ///     }
         /// }
@@ -82,6 +83,8 @@ refusals! {
     8 OutputTooShort "the output is shorter than the result"
     /// Number 9: there is no parameter of this element and name.
     9 NoSuchParam "there is no parameter of this element and name"
+    /// Number 10: the cell of a [`Tally`](crate::Tally) holds `u32::MAX`, and is not raised.
+    10 CellFull "the cell of the tally holds 4,294,967,295 already"
     /// Number 11: in the place of a frame's count there is none. The stream has ended.
     11 BadCount "the count of a frame is none, and the stream has ended"
     /// Number 12: a frame of over [`MAX_LINE`](crate::MAX_LINE) bytes. It was passed over, and the stream goes on behind it.

@@ -1,9 +1,9 @@
-//! The eight functions of the archive, each behind a safe function over slices and numbers.
+//! The twelve functions of the archive, each behind a safe function over slices and numbers.
 //!
 //! This and `texts` are the only modules with `unsafe`. What makes each call safe is the same: the archive's functions are total, whatever
 //! the bytes, numbers and lengths. They read and write within the counts that they are given and keep nothing after the call.
 //! A Rust slice gives what they ask of a pointer: it is never null (an empty slice's is dangling), it is aligned for its type,
-//! and what is behind a `&mut` overlaps nothing else of the call. Whatever numbers they store are values of `usize` and `u8`.
+//! and what is behind a `&mut` overlaps nothing else of the call. Whatever numbers they store are values of `usize`, `u32` and `u8`.
 //! The declarations follow `include/khamdoriem.h`: a slice is a pointer and then a count.
 
 /// The number of the interface that this crate is written for, `KHAMDORIEM_INTERFACE` of the header: where each field of a record
@@ -86,6 +86,25 @@ pub(crate) struct FinishAnswer {
     pub(crate) unfinished: u32,
 }
 
+/// A row of a tally: a count for each severity, and for none.
+pub(crate) type Row = [u32; 9];
+
+/// What the read of a cell answers: 0 and what it holds, or the number of a refusal and 0.
+#[repr(C)]
+#[derive(Clone, Copy, Debug, PartialEq, Eq)]
+pub(crate) struct CellAnswer {
+    pub(crate) number: u32,
+    pub(crate) count: u32,
+}
+
+/// What the sum of a row or of a column answers: 0 and the sum, or the number of a refusal and 0.
+#[repr(C)]
+#[derive(Clone, Copy, Debug, PartialEq, Eq)]
+pub(crate) struct SumAnswer {
+    pub(crate) number: u32,
+    pub(crate) sum: u64,
+}
+
 extern "C" {
     fn khamdoriem_interface() -> u32;
 
@@ -156,6 +175,28 @@ extern "C" {
     ) -> FeedAnswer;
 
     fn khamdoriem_stream_finish(state: StreamState) -> FinishAnswer;
+
+    fn khamdoriem_tally_add(
+        rows: *mut Row,
+        rows_len: usize,
+        facility_mark: u32,
+        facility: u32,
+        severity_mark: u32,
+        severity: u32,
+    ) -> u32;
+
+    fn khamdoriem_tally_cell(rows: *const Row, rows_len: usize, row: u32, column: u32) -> CellAnswer;
+
+    fn khamdoriem_tally_row(rows: *const Row, rows_len: usize, row: u32) -> SumAnswer;
+
+    fn khamdoriem_tally_column(rows: *const Row, rows_len: usize, column: u32) -> SumAnswer;
+}
+
+/// A facility or a severity as the archive has it: mark 1 and the number, or mark 0 and 0 for none.
+#[derive(Clone, Copy)]
+pub(crate) struct Marked {
+    pub(crate) mark: u32,
+    pub(crate) number: u32,
 }
 
 /// The settings of the loose reader, as numbers.
@@ -295,6 +336,31 @@ pub(crate) fn stream_feed(state: StreamState, bytes: &[u8], buffer: &mut [u8]) -
 pub(crate) fn stream_finish(state: StreamState) -> FinishAnswer {
     // SAFETY: the module's: the function is given numbers and answers numbers.
     unsafe { khamdoriem_stream_finish(state) }
+}
+
+/// One record more in a tally.
+pub(crate) fn tally_add(rows: &mut [Row], facility: Marked, severity: Marked) -> u32 {
+    let (rows, len) = (rows.as_mut_ptr(), rows.len());
+    // SAFETY: the module's: pointer and count are those of one slice, which is borrowed mutably.
+    unsafe { khamdoriem_tally_add(rows, len, facility.mark, facility.number, severity.mark, severity.number) }
+}
+
+/// What a cell of a tally holds.
+pub(crate) fn tally_cell(rows: &[Row], row: u32, column: u32) -> CellAnswer {
+    // SAFETY: the module's: pointer and count are those of one slice, which is only read.
+    unsafe { khamdoriem_tally_cell(rows.as_ptr(), rows.len(), row, column) }
+}
+
+/// The sum of a row of a tally.
+pub(crate) fn tally_row(rows: &[Row], row: u32) -> SumAnswer {
+    // SAFETY: the module's: pointer and count are those of one slice, which is only read.
+    unsafe { khamdoriem_tally_row(rows.as_ptr(), rows.len(), row) }
+}
+
+/// The sum of a column of a tally.
+pub(crate) fn tally_column(rows: &[Row], column: u32) -> SumAnswer {
+    // SAFETY: the module's: pointer and count are those of one slice, which is only read.
+    unsafe { khamdoriem_tally_column(rows.as_ptr(), rows.len(), column) }
 }
 
 #[cfg(test)]

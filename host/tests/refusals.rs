@@ -211,6 +211,7 @@ fn refusals_have_numbers_and_words() {
         (Refusal::TooManyParams, 6, "the reading has more parameters than the table"),
         (Refusal::OutputTooShort, 8, "the output is shorter than the result"),
         (Refusal::NoSuchParam, 9, "there is no parameter of this element and name"),
+        (Refusal::CellFull, 10, "the cell of the tally holds 4,294,967,295 already"),
         (Refusal::BadCount, 11, "the count of a frame is none, and the stream has ended"),
         (Refusal::FrameTooLong, 12, "a frame of over 8,192 bytes was passed over"),
     ];

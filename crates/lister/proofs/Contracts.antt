@@ -6,10 +6,10 @@ use borrow.Fn.Kinds.{rBool}
 use borrow.Fn.Read.{all-models, reads}
 use borrow.Kind.MutSlice.{pMutS}
 use Rattle.derivation.specs.Derive.{Struct, Contract, plainly, bytes, pair, pS}
-use Rattle.lister.proofs.Options as Op
-use Rattle.lister.proofs.Options.Laws as Op′
-use Rattle.lister.proofs.State as St
-use Rattle.lister.proofs.State.Laws as St′
+use Rattle.frames.proofs.Options as Op
+use Rattle.frames.proofs.Options.Laws as Op′
+use Rattle.frames.proofs.State as St
+use Rattle.frames.proofs.State.Laws as St′
 use Rattle.lister.proofs.run as r
 
 abbrev pub state : Struct

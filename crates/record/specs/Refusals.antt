@@ -1,7 +1,7 @@
 -- The numbers a caller may get back, in the order in which they are checked (RULES Numbers).
 use Prim.Native.Nat.{ℕ}
 use Rattle.record.specs.declared.Refusal.{Refusal}
-use Rattle.record.specs.declared.Refusal.the-variants.{LineTooLong, BadSetting, NotUtf8, NoReading, TooManyElements, TooManyParams, Unsuitable, NotFound, OutputShort, BadCount, FrameTooLong}
+use Rattle.record.specs.declared.Refusal.the-variants.{LineTooLong, BadSetting, NotUtf8, NoReading, TooManyElements, TooManyParams, Unsuitable, NotFound, OutputShort, CellFull, BadCount, FrameTooLong}
 
 abbrev pub refusalNumber : Refusal → ℕ
 -- line over 8,192 bytes
@@ -16,12 +16,14 @@ refusalNumber NoReading = 4
 refusalNumber TooManyElements = 5
 -- more parameters than the parameter table
 refusalNumber TooManyParams = 6
--- the record, counts or tables do not suit the line
+-- the record, counts or tables do not suit the line; a facility over 23 or a severity over 7, a row or a column that is none
 refusalNumber Unsuitable = 7
 -- lookup finds no such parameter
 refusalNumber NotFound = 9
--- output shorter than the result, or a splitter's buffer under 8,192 bytes
+-- output shorter than the result, a splitter's buffer under 8,192 bytes, or a tally of under 25 rows
 refusalNumber OutputShort = 8
+-- the cell of a tally holds 4,294,967,295
+refusalNumber CellFull = 10
 -- a stream's count is none
 refusalNumber BadCount = 11
 -- a frame of over 8,192 bytes

@@ -87,6 +87,7 @@ pub enum Refusal {
     Unsuitable,
     NotFound,
     OutputShort,
+    CellFull,
     BadCount,
     FrameTooLong,
 }
@@ -226,6 +227,7 @@ pub fn refusal_number(r: Refusal) -> u32
         Refusal::Unsuitable => 7,
         Refusal::NotFound => 9,
         Refusal::OutputShort => 8,
+        Refusal::CellFull => 10,
         Refusal::BadCount => 11,
         Refusal::FrameTooLong => 12,
     }

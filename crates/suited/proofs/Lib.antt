@@ -5,3 +5,4 @@ pub mod Records
 pub mod Strict
 pub mod Suited
 pub mod AfterReading
+pub mod Tallied

@@ -293,6 +293,71 @@ fn what_lies_past_the_content_is_kept() {
     assert!(buffer[..8192].iter().all(|&byte| byte == b'x') && buffer[8192..].iter().all(|&byte| byte == b'.'));
 }
 
+/// A tally of so many rows, with a count in each cell that tells its place.
+fn tally(rows: usize) -> Vec<Row> {
+    (0..rows as u32).map(|i| core::array::from_fn(|j| 100 * i + j as u32)).collect()
+}
+
+const NONE: Marked = Marked { mark: 0, number: 0 };
+
+fn level(number: u32) -> Marked {
+    Marked { mark: 1, number }
+}
+
+#[test]
+fn an_addition_without_a_cell_is_refused_with_7_before_8_before_10() {
+    let odd = [Marked { mark: 0, number: 1 }, Marked { mark: 2, number: 0 }, Marked { mark: u32::MAX, number: 0 }];
+    let facilities = [24, 25, 256, u32::MAX].map(level);
+    let severities = [8, 9, 256, u32::MAX].map(level);
+    for rows in [0, 24, 25, 27] {
+        let mut full = tally(rows);
+        full.iter_mut().for_each(|row| *row = [u32::MAX; 9]);
+        let untouched = full.clone();
+        for facility in facilities.into_iter().chain(odd) {
+            assert_eq!(tally_add(&mut full, facility, level(0)), 7);
+        }
+        for severity in severities.into_iter().chain(odd) {
+            assert_eq!(tally_add(&mut full, level(0), severity), 7);
+        }
+        let number = if rows < 25 { 8 } else { 10 };
+        assert_eq!(tally_add(&mut full, level(23), level(7)), number);
+        assert_eq!(tally_add(&mut full, NONE, NONE), number);
+        assert_eq!(full, untouched);
+    }
+}
+
+#[test]
+fn rows_past_the_25th_are_kept_and_not_counted() {
+    let mut rows = tally(27);
+    assert_eq!(tally_add(&mut rows, NONE, NONE), 0);
+    assert_eq!(tally_add(&mut rows, level(23), NONE), 0);
+    let mut expected = tally(27);
+    expected[24][8] += 1;
+    expected[23][8] += 1;
+    assert_eq!(rows, expected);
+    let sum = expected[..25].iter().map(|row| u64::from(row[8])).sum();
+    assert_eq!(tally_column(&rows, 8), SumAnswer { number: 0, sum });
+}
+
+#[test]
+fn a_read_past_the_last_row_or_column_is_refused_with_7_before_8() {
+    for rows in [0, 24, 25, 27] {
+        let rows = tally(rows);
+        for past in [25, 26, 256, u32::MAX] {
+            assert_eq!(tally_cell(&rows, past, 0), CellAnswer { number: 7, count: 0 });
+            assert_eq!(tally_row(&rows, past), SumAnswer { number: 7, sum: 0 });
+        }
+        for past in [9, 24, 256, u32::MAX] {
+            assert_eq!(tally_cell(&rows, 0, past), CellAnswer { number: 7, count: 0 });
+            assert_eq!(tally_column(&rows, past), SumAnswer { number: 7, sum: 0 });
+        }
+        let (number, kept) = if rows.len() < 25 { (8, 0) } else { (0, 1) };
+        assert_eq!(tally_cell(&rows, 1, 8), CellAnswer { number, count: kept * 108 });
+        assert_eq!(tally_row(&rows, 24), SumAnswer { number, sum: u64::from(kept) * 21_636 });
+        assert_eq!(tally_column(&rows, 1), SumAnswer { number, sum: u64::from(kept) * 30_025 });
+    }
+}
+
 #[test]
 fn the_archive_has_this_interface() {
     check_interface();
@@ -327,7 +392,7 @@ fn every_number_is_a_refusal_with_that_number() {
     for number in (1..100).chain([u32::MAX]) {
         let refusal = Refusal::check(number).unwrap_err();
         assert_eq!(refusal.number(), number);
-        let known = matches!(number, 1 | 3..=6 | 8 | 9 | 11 | 12);
+        let known = matches!(number, 1 | 3..=6 | 8..=12);
         assert_eq!(matches!(refusal, Refusal::Unexpected(_)), !known, "{number}");
     }
 }

@@ -1,13 +1,16 @@
 use borrow.Author.Needs.{needs}
-use Rattle.lister.proofs.Tasks.{next-laws}
+use Rattle.frames.proofs.States.{keeping-laws}
 use Rattle.lister.proofs.advance.Statement.{statement}
 use Rattle.lister.proofs.advance.Tie as tie
 
-sub-t8 : tie.Need-sub-t8
-sub-t8 c = search needs
+advance-requires : tie.Need-advance-requires
+advance-requires c κs = search needs
 
-take-requires : tie.Need-take-requires
-take-requires c κs = search needs
+said-requires : tie.Need-said-requires
+said-requires c κs = search needs
+
+kept-requires : tie.Need-kept-requires
+kept-requires c κs = search needs
 
 same-length : tie.Need-same-length
 same-length c = search needs
@@ -16,26 +19,9 @@ same-length-2 : tie.Need-same-length-2
 same-length-2 c = search needs
 
 returns : tie.Need-returns
-returns c = (search (next-laws, needs), (search (next-laws, needs), (search (next-laws, needs), search (next-laws, needs))))
-
-refill-requires : tie.Need-refill-requires
-refill-requires c κs = search needs
-
-same-length-3 : tie.Need-same-length-3
-same-length-3 c = search needs
-
-returns-2 : tie.Need-returns-2
-returns-2 c = (search (next-laws, needs), (search (next-laws, needs), (search (next-laws, needs), search (next-laws, needs))))
+returns c = (search (keeping-laws, needs), (search (keeping-laws, needs), search (keeping-laws, needs)))
 
 pub advance-spec : {M : Type 1} → statement M
 advance-spec =
     tie.close
-    (tie.spec
-    sub-t8
-    take-requires
-    same-length
-    same-length-2
-    returns
-    refill-requires
-    same-length-3
-    returns-2)
+    (tie.spec advance-requires said-requires kept-requires same-length same-length-2 returns)

@@ -10,7 +10,9 @@ use Rattle.strict.proofs.Contracts as S
 use Rattle.strict.proofs.read.Symbol as Ss
 use Rattle.strict.proofs.read.Met as Sm
 use Rattle.lister.proofs.Contracts as C
-use Rattle.lister.specs.declared.State.{State}
+use Rattle.frames.specs.declared.State.{State}
+use Rattle.frames.specs.Tasks.{toRead}
+use Rattle.frames.proofs.States.{kept-got, kept-left}
 use Rattle.lister.proofs.run.Key
 use Rattle.lister.proofs.run.Statement as stated
 use Rattle.lister.proofs.run.Code as code
@@ -18,14 +20,22 @@ use Rattle.record.proofs.blank.Kinds as Bk
 use Rattle.record.proofs.blank.Reads as Br
 use Rattle.record.proofs.blank.Symbol as Bs
 use Rattle.record.proofs.blank.Met as Bm
-use Rattle.lister.proofs.start.Kinds as Tk
-use Rattle.lister.proofs.start.Reads as Tr
-use Rattle.lister.proofs.start.Symbol as Ts
-use Rattle.lister.proofs.start.Met as Tm
+use Rattle.frames.proofs.start.Kinds as Tk
+use Rattle.frames.proofs.start.Reads as Tr
+use Rattle.frames.proofs.start.Symbol as Ts
+use Rattle.frames.proofs.start.Met as Tm
 use Rattle.lister.proofs.advance.Kinds as Ak
 use Rattle.lister.proofs.advance.Reads as Ar
 use Rattle.lister.proofs.advance.Symbol as As
 use Rattle.lister.proofs.advance.Met as Am
+use Rattle.frames.proofs.is_read.Kinds as Ik
+use Rattle.frames.proofs.is_read.Reads as Ir
+use Rattle.frames.proofs.is_read.Symbol as Is
+use Rattle.frames.proofs.is_read.Met as Im
+use Rattle.frames.proofs.to_read.Kinds as Uk
+use Rattle.frames.proofs.to_read.Reads as Ur
+use Rattle.frames.proofs.to_read.Symbol as Us
+use Rattle.frames.proofs.to_read.Met as Um
 use Rattle.lister.proofs.answered.Kinds as Nk
 use Rattle.lister.proofs.answered.Reads as Nr
 use Rattle.lister.proofs.answered.Symbol as Ns
@@ -34,7 +44,7 @@ use Rattle.lister.proofs.answered.Met as Nm
 module _ (w : World) where
   -- the context, by the rows of the line, the elements, the chunk, the parameters, `used`, the answer, and what is lent of each slice
   abbrev run-at : Row → Row → Row → Row → Row → Row → Row → Row → Row → Row → Row → List Life → Cx
-  run-at l e c p n r l′ c′ s e′ p′ ls = cx (any-gone tyBool ∷ l ∷ e ∷ c ∷ lost C.options ∷ lost E.param ∷ p ∷ here C.state ∷ n ∷ r ∷ any-gone tyBool ∷ any-gone (eT bytes) ∷ l′ ∷ any-gone (eT bytes) ∷ c′ ∷ any-gone tyPtr ∷ any-gone (tyInt w64) ∷ any-gone iT ∷ s ∷ any-gone (eT pair) ∷ e′ ∷ any-gone (aT (R· E.param) 256) ∷ p′ ∷ []) ls
+  run-at l e c p n r l′ c′ s e′ p′ ls = cx (any-gone tyBool ∷ l ∷ e ∷ c ∷ lost C.options ∷ lost E.param ∷ p ∷ here C.state ∷ n ∷ r ∷ any-gone tyBool ∷ any-gone (eT bytes) ∷ l′ ∷ any-gone (eT bytes) ∷ c′ ∷ any-gone tyBool ∷ any-gone tyPtr ∷ any-gone (tyInt w64) ∷ any-gone iT ∷ s ∷ any-gone (eT pair) ∷ e′ ∷ any-gone (aT (R· E.param) 256) ∷ p′ ∷ []) ls
 
   -- nothing is lent
   abbrev head-at : Lfts 3 → Shares 3 → Row → Cx
@@ -56,10 +66,10 @@ module _ (w : World) where
   derived κs qs bs =
       calls 0 Bk.ps Bk.r Br.Asked Br.Learnt Bs.name (Br.known w code.env Bs.name Bs.routine code.calls-record·blank (Bm.met (w .𝓤) (w .H) (w .𝓜) (w .𝓖) (w .𝓡))) [] none 5 gone tt refl ▹
       repeats E.param 256 5 6 held (read-whole E.param) refl gone refl ▹ arrays E.param 256 6 (as-array E.param 256) ▸ room 5 (struct E.param refl) ▸
-      calls 0 Tk.ps Tk.r Tr.Asked Tr.Learnt Ts.name (Tr.known w code.env Ts.name Ts.routine code.calls-lister·start (Tm.met (w .𝓤) (w .H) (w .𝓜) (w .𝓖) (w .𝓡))) [] (by-val C.options 4 held refl none) 7 gone tt refl ▹ room 4 (struct C.options refl) ▸ at (head-at κs qs (unmade S.reading)) ▸ (join (head-at κs qs (unmade S.reading)) (
+      calls 0 Tk.ps Tk.r Tr.Asked Tr.Learnt Ts.name (Tr.known w code.env Ts.name Ts.routine code.calls-frames·start (Tm.met (w .𝓤) (w .H) (w .𝓜) (w .𝓖) (w .𝓡))) [] (by-val C.options 4 held refl none) 7 gone tt refl ▹ room 4 (struct C.options refl) ▸ at (head-at κs qs (unmade S.reading)) ▸ (join (head-at κs qs (unmade S.reading)) (
       blocks (loops {Vs = List ℕ × (List (List ℕ) × (List ℕ × (List Param × State)))} (λ vs u. (u .0, (record { ptr = u .1 .0 .ptr; name = u .1 .0 .name; now = vs .0 }, (record { ptr = u .1 .1 .0 .ptr; name = u .1 .1 .0 .name; now = vs .1 .0 }, (record { ptr = u .1 .1 .1 .0 .ptr; name = u .1 .1 .1 .0 .name; now = vs .1 .1 .0 }, (u .1 .1 .1 .1 .0, (u .1 .1 .1 .1 .1 .0, (vs .1 .1 .1 .0, (vs .1 .1 .1 .1, u .1 .1 .1 .1 .1 .1 .1 .1)))))))))
       (λ u vs. (length (vs .0) ≡ length (u .1 .0 .now)) × ((length (vs .1 .0) ≡ length (u .1 .1 .0 .now)) × ((length (vs .1 .1 .0) ≡ length (u .1 .1 .1 .0 .now)) × ((length (vs .1 .1 .1 .0) ≡ 256) × (vs .1 .1 .1 .1 .got ≤ length (vs .1 .1 .0)))))) (λ u vs. vs .1 .1 .1 .1 .left) (
-      puts 10 sBool gone (lt unsigned) (lit w64 0 tt) (fld 7 5 (part C.state 5 refl) refl) refl (λ u. refl) (λ u. tt) ▹
+      puts 10 sBool gone (lt unsigned) (lit w64 0 tt) (fld 7 4 (part C.state 4 refl) refl) refl (λ u. refl) (λ u. tt) ▹
       join (head-at κs qs (unmade S.reading)) (branch 10 (λ x. x) (sc sBool) refl (room 10 (over sBool) ▸ nexts tt) (room 10 (over sBool) ▸ exits 1 tt)) (begin 3 _ ▸ begin 4 _ ▸
       lends bytes 1 11 0 3 same gone refl tt refl refl ▹
       packs bytes 11 12 3 same gone (fld 1 1 (owed bytes 0 3 (lease (κs .0) (qs .0))) refl) refl refl ▹
@@ -67,24 +77,24 @@ module _ (w : World) where
       packs bytes 13 14 4 same gone (fld 3 1 (owed bytes 2 4 (lease (κs .1 .1 .0) (qs .1 .1 .0))) refl) refl refl ▹ at (turn-at κs qs (leased bytes 3) (leased bytes 4)) ▸
       calls 2 Ak.ps Ak.r Ar.Asked Ar.Learnt As.name (Ar.known w code.env As.name As.routine code.calls-lister·advance (Am.met (w .𝓤) (w .H) (w .𝓜) (w .𝓖) (w .𝓡))) (3 ∷ 4 ∷ []) (by-mut bytes 0 tt 12 lent refl (by-mut bytes 1 tt 14 lent refl (by-val C.state 7 held refl none))) 7 (struct C.state refl) (tt, (tt, tt)) refl ▹ at (turn-at κs qs (spent bytes) (spent bytes)) ▸
       finish 4 refl ▸ back bytes 14 3 2 4 (lease (κs .1 .1 .0) (qs .1 .1 .0)) same same refl refl ▸ lose 4 refl ▸ finish 3 refl ▸ back bytes 12 1 0 3 (lease (κs .0) (qs .0)) same same refl refl ▸ lose 3 refl ▸ at (head-at κs qs (unmade S.reading)) ▸
-      put 10 sBool gone (fld 7 2 (part C.state 2 refl) refl) refl (λ u. refl) (λ u. tt) ▹
-      branch 10 (λ x. x) (sc sBool) refl (
-      room 10 (over sBool) ▸ at (head-at κs qs (unmade S.reading)) ▸
-      put 8 i64 gone (fld 7 0 (part C.state 0 refl) refl) refl (λ u. refl) (λ u. tt) ▹
-      puts 15 sPtr gone offset (fld 1 0 (ptr bytes 0) refl) (lit w64 0 tt) refl (λ u. refl) (λ u. tt) ▹
-      puts 16 i64 gone (sub unsigned) (num 8 (sc i64) refl) (lit w64 0 tt) refl (λ u. refl) (λ u. tt) ▹ begin 3 _ ▸ shares 1 0 3 same refl tt ▸
-      cuts 1 15 17 0 3 (lease (κs .0) (qs .0)) (λ u. 0) (λ u. u .1 .1 .1 .1 .1 .1 .1 .1 .0) same same gone refl tt refl refl ▹ room 15 (over sPtr) ▸
-      packs-part 17 18 3 same gone (num 16 (sc i64) refl) refl refl ▹ room 16 (over i64) ▸ at (cut-at κs qs (unmade S.reading)) ▸ begin 4 _ ▸ begin 5 _ ▸
-      lends pair 2 19 1 4 same gone refl tt refl refl ▹
-      packs pair 19 20 4 same gone (fld 2 1 (owed pair 1 4 (lease (κs .1 .0) (qs .1 .0))) refl) refl refl ▹
-      borrows E.param 256 6 21 5 same gone refl (lit< tt, lit< tt) ▹
-      packs-all E.param 256 21 22 5 same gone tt refl refl ▹ at (read-at κs qs (unmade S.reading) (leased pair 4) (leased (R· E.param) 5)) ▸
-      calls 3 (S.read .ps) (S.read .r) (Asked S.read) (Learnt S.read) Ss.name (cites S.read w code.env Ss.name Ss.routine code.calls-strict·read (Sm.met (w .𝓤) (w .H) (w .𝓜) (w .𝓖) (w .𝓡))) (3 ∷ 4 ∷ 5 ∷ []) (by-part 0 tt 18 part-lend refl (by-mut pair 1 tt 20 lent refl (by-mut (R· E.param) 2 tt 22 lent refl none))) 9 gone (tt, (tt, (tt, tt))) refl ▹ at (read-at κs qs (made S.reading) (spent pair) (spent (R· E.param))) ▸
-      finish 5 refl ▸ returned E.param 256 22 6 5 same same refl ▸ lose 5 refl ▸ finish 4 refl ▸ back pair 20 2 1 4 (lease (κs .1 .0) (qs .1 .0)) same same refl refl ▸ lose 4 refl ▸ at (cut-at κs qs (made S.reading)) ▸
-      room 18 (unshared 3) ▸ room 8 (over i64) ▸ finish 3 refl ▸ unshares 1 0 3 (lease (κs .0) (qs .0)) same refl refl ▸ lose 3 refl ▸ at (head-at κs qs (made S.reading)) ▸
+      calls 0 Ik.ps Ik.r Ir.Asked Ir.Learnt Is.name (Ir.known w code.env Is.name Is.routine code.calls-frames·is-read (Im.met (w .𝓤) (w .H) (w .𝓜) (w .𝓖) (w .𝓡))) [] (by-val C.state 7 held refl none) 15 gone tt refl ▹
+      branch 15 (λ x. x) (sc sBool) refl (
+      room 15 (over sBool) ▸ at (head-at κs qs (unmade S.reading)) ▸
+      calls 0 Uk.ps Uk.r Ur.Asked Ur.Learnt Us.name (Ur.known w code.env Us.name Us.routine code.calls-frames·to-read (Um.met (w .𝓤) (w .H) (w .𝓜) (w .𝓖) (w .𝓡))) [] (by-val C.state 7 held refl none) 8 gone tt refl ▹
+      puts 16 sPtr gone offset (fld 1 0 (ptr bytes 0) refl) (lit w64 0 tt) refl (λ u. refl) (λ u. tt) ▹
+      puts 17 i64 gone (sub unsigned) (num 8 (sc i64) refl) (lit w64 0 tt) refl (λ u. refl) (λ u. tt) ▹ begin 3 _ ▸ shares 1 0 3 same refl tt ▸
+      cuts 1 16 18 0 3 (lease (κs .0) (qs .0)) (λ u. 0) (λ u. u .1 .1 .1 .1 .1 .1 .1 .1 .0) same same gone refl tt refl refl ▹ room 16 (over sPtr) ▸
+      packs-part 18 19 3 same gone (num 17 (sc i64) refl) refl refl ▹ room 17 (over i64) ▸ at (cut-at κs qs (unmade S.reading)) ▸ begin 4 _ ▸ begin 5 _ ▸
+      lends pair 2 20 1 4 same gone refl tt refl refl ▹
+      packs pair 20 21 4 same gone (fld 2 1 (owed pair 1 4 (lease (κs .1 .0) (qs .1 .0))) refl) refl refl ▹
+      borrows E.param 256 6 22 5 same gone refl (lit< tt, lit< tt) ▹
+      packs-all E.param 256 22 23 5 same gone tt refl refl ▹ at (read-at κs qs (unmade S.reading) (leased pair 4) (leased (R· E.param) 5)) ▸
+      calls 3 (S.read .ps) (S.read .r) (Asked S.read) (Learnt S.read) Ss.name (cites S.read w code.env Ss.name Ss.routine code.calls-strict·read (Sm.met (w .𝓤) (w .H) (w .𝓜) (w .𝓖) (w .𝓡))) (3 ∷ 4 ∷ 5 ∷ []) (by-part 0 tt 19 part-lend refl (by-mut pair 1 tt 21 lent refl (by-mut (R· E.param) 2 tt 23 lent refl none))) 9 gone (tt, (tt, (tt, tt))) refl ▹ at (read-at κs qs (made S.reading) (spent pair) (spent (R· E.param))) ▸
+      finish 5 refl ▸ returned E.param 256 23 6 5 same same refl ▸ lose 5 refl ▸ finish 4 refl ▸ back pair 21 2 1 4 (lease (κs .1 .0) (qs .1 .0)) same same refl refl ▸ lose 4 refl ▸ at (cut-at κs qs (made S.reading)) ▸
+      room 19 (unshared 3) ▸ room 8 (over i64) ▸ finish 3 refl ▸ unshares 1 0 3 (lease (κs .0) (qs .0)) same refl refl ▸ lose 3 refl ▸ at (head-at κs qs (made S.reading)) ▸
       last tt (calls 0 Nk.ps Nk.r Nr.Asked Nr.Learnt Ns.name (Nr.known w code.env Ns.name Ns.routine code.calls-lister·answered (Nm.met (w .𝓤) (w .H) (w .𝓜) (w .𝓖) (w .𝓡))) [] (by-val C.state 7 held refl (by-choice S.reading 9 chosen-held refl none)) 7 (struct C.state refl) tt refl ◂ room 9 (choice S.reading refl))) (
-      room 10 (over sBool) ▸ nexts tt))))) (
-      put 0 sBool gone (fld 7 6 (part C.state 6 refl) refl) refl (λ u. refl) (λ u. tt) ▹ room 6 (array E.param 256 refl) ▸ room 7 (struct C.state refl) ▸ returns tt))
+      room 15 (over sBool) ▸ nexts tt))))) (
+      put 0 sBool gone (fld 7 5 (part C.state 5 refl) refl) refl (λ u. refl) (λ u. tt) ▹ room 6 (array E.param 256 refl) ▸ room 7 (struct C.state refl) ▸ returns tt))
 
   laid : Laid C.run w code.env Key.name 3 code.function derived
   laid κs qs a good pre bs =
@@ -95,7 +105,7 @@ module _ (w : World) where
         λ gb. (
           (λ ls. tt),
           λ gs. (
-            ((line .now, (elements .now, (chunk .now, (replicate 256 (gb .1), gs .1)))), refl, (refl, (refl, (refl, (length-replicate 256 (gb .1), omega (arith, gs .5)))))),
+            ((line .now, (elements .now, (chunk .now, (replicate 256 (gb .1), gs .1)))), refl, (refl, (refl, (refl, (length-replicate 256 (gb .1), let z : gs .1 .got ≡ 0 = ap (λ (q : State). q .got) (gs .5) in omega (arith, z)))))),
             λ vs inv.
                 let s = vs .1 .1 .1 .1 in
                 let line-same = inv .0 in
@@ -119,31 +129,36 @@ module _ (w : World) where
                                   λ k′.
                                       let line₁ = g .2 .0 in
                                       let chunk₁ = g .2 .1 .0 in
-                                      let u : g .1 .used ≤ length line₁ = omega (arith, g .5 .1 .0, k′) in
-                                      let c : g .1 .got ≤ length chunk₁ = omega (arith, g .5 .1 .1 .0, k) in (
-                                        (λ h. (
-                                          tt,
-                                          (
-                                            omega arith,
-                                            λ γ″. (
-                                              (refl, refl, omega arith, u),
-                                              λ part. (
-                                                ap (vint w64) (part .1),
-                                                λ γ₂. (
-                                                  refl,
-                                                  λ γ₃. (
-                                                    ap (vint w64) (sym params-same),
-                                                    (
-                                                      (λ ls. tt),
-                                                      λ r. (
-                                                        refl,
-                                                        λ k₃. (
-                                                          refl,
-                                                          λ k₂. (
-                                                            (λ ls. tt),
-                                                            λ n.
-                                                                let got : n .1 .got ≤ length chunk₁ = omega (arith, n .5 .got, c) in
-                                                                (n .1 .left, omega (arith, n .5 .left, g .5 .1 .1 .1), ((line₁, (r .2 .1 .0, (chunk₁, (r .2 .1 .1 .0, n .1)))), refl, (k′ ∙ line-same, (k₂ ∙ elements-same, (k ∙ chunk-same, (k₃, got)))), refl)),
+                                      let u : toRead (g .1 .task) ≤ length line₁ = omega (arith, g .5 .0, k′) in
+                                      let c : g .1 .got ≤ length chunk₁ = omega (arith, g .5 .1 .0, k) in (
+                                        (λ ls. tt),
+                                        λ i. (
+                                          (λ h. (
+                                            (λ ls. tt),
+                                            λ x. (
+                                              tt,
+                                              (
+                                                omega arith,
+                                                λ γ″. (
+                                                  (refl, refl, omega arith, rw (x .5) u),
+                                                  λ part. (
+                                                    ap (vint w64) (part .1),
+                                                    λ γ₂. (
+                                                      refl,
+                                                      λ γ₃. (
+                                                        ap (vint w64) (sym params-same),
+                                                        (
+                                                          (λ ls. tt),
+                                                          λ r. (
+                                                            refl,
+                                                            λ k₃. (
+                                                              refl,
+                                                              λ k₂. (
+                                                                (λ ls. tt),
+                                                                λ n.
+                                                                    (n .1 .left, kept-left (g .1) (n .1) (s .left) (g .5 .1 .1) (n .5), ((line₁, (r .2 .1 .0, (chunk₁, (r .2 .1 .1 .0, n .1)))), refl, (k′ ∙ line-same, (k₂ ∙ elements-same, (k ∙ chunk-same, (k₃, kept-got (g .1) (n .1) (length chunk₁) c (n .5))))), refl)),
+                                                              ),
+                                                            ),
                                                           ),
                                                         ),
                                                       ),
@@ -152,9 +167,9 @@ module _ (w : World) where
                                                 ),
                                               ),
                                             ),
-                                          ),
-                                        )),
-                                        (λ h. (g .1 .left, g .5 .1 .1 .1, ((line₁, (vs .1 .0, (chunk₁, (vs .1 .1 .1 .0, g .1)))), refl, (k′ ∙ line-same, (elements-same, (k ∙ chunk-same, (params-same, c)))), refl))),
+                                          )),
+                                          (λ h. (g .1 .left, g .5 .1 .1, ((line₁, (vs .1 .0, (chunk₁, (vs .1 .1 .1 .0, g .1)))), refl, (k′ ∙ line-same, (elements-same, (k ∙ chunk-same, (params-same, c)))), refl))),
+                                        ),
                                       ),
                                 ),
                               ),

@@ -1,0 +1,4 @@
+pub mod Tasks
+pub mod States
+pub mod Words
+pub mod Examples

@@ -1,0 +1,3 @@
+pub mod Tasks
+pub mod States
+pub mod Words

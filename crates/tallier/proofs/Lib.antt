@@ -1,0 +1,3 @@
+pub mod Texts
+pub mod Counted
+pub mod Examples
