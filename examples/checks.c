@@ -40,6 +40,15 @@ SAME(cell_size, sizeof(struct khamdoriem_cell) == 8);
 SAME(cell_at, offsetof(struct khamdoriem_cell, number) == 0 && offsetof(struct khamdoriem_cell, count) == 4);
 SAME(sum_size, sizeof(struct khamdoriem_sum) == 16);
 SAME(sum_at, offsetof(struct khamdoriem_sum, number) == 0 && offsetof(struct khamdoriem_sum, sum) == 8);
+SAME(settings_size, sizeof(struct khamdoriem_settings) == 40);
+SAME(settings_at,
+     offsetof(struct khamdoriem_settings, number) == 0 && offsetof(struct khamdoriem_settings, version) == 4 &&
+         offsetof(struct khamdoriem_settings, gate) == 8 && offsetof(struct khamdoriem_settings, year) == 12 &&
+         offsetof(struct khamdoriem_settings, offset) == 16 && offsetof(struct khamdoriem_settings, variant) == 20 &&
+         offsetof(struct khamdoriem_settings, host_start) == 24 && offsetof(struct khamdoriem_settings, host_len) == 32);
+SAME(site_size, sizeof(struct khamdoriem_site) == 24);
+SAME(site_at, offsetof(struct khamdoriem_site, number) == 0 && offsetof(struct khamdoriem_site, holder) == 4 &&
+                  offsetof(struct khamdoriem_site, host_start) == 8 && offsetof(struct khamdoriem_site, host_len) == 16);
 SAME(frame_is_line, KHAMDORIEM_STREAM_BUFFER == KHAMDORIEM_LINE_LIMIT);
 SAME(record_ends, KHAMDORIEM_RECORD == KHAMDORIEM_AT_PARAMS + 8 && KHAMDORIEM_RECORD == KHAMDORIEM_AT_TIMESTAMP_TEXT);
 SAME(strict_ends, KHAMDORIEM_STRICT_RECORD == KHAMDORIEM_AT_HAS_MESSAGE + 8);
@@ -694,6 +703,230 @@ static void check_tally_records(void) {
     CHECK(!memcmp(tally, wanted, sizeof tally));
 }
 
+/* ---- a settings file: records that are written one behind the other, and a part behind them that is not lent */
+
+enum { RECORDS = 8, BYTES = KHAMDORIEM_SETTINGS_RECORD };
+static uint8_t file[RECORDS * BYTES + SPARE];
+static size_t file_len;
+
+static uint32_t put_settings(uint32_t version, uint32_t gate, uint32_t year, int32_t offset, uint32_t variant,
+                             const char *host) {
+    struct khamdoriem_written a =
+        khamdoriem_settings_write(version, gate, year, offset, variant, (const uint8_t *)host, strlen(host),
+                                  file + file_len, sizeof file - file_len);
+    file_len += a.len;
+    return a.number;
+}
+
+/* Starts the file anew, with one record. */
+static uint32_t one_record(uint32_t version, uint32_t gate, uint32_t year, int32_t offset, uint32_t variant,
+                           const char *host) {
+    memset(file, 0x5A, sizeof file);
+    file_len = 0;
+    return put_settings(version, gate, year, offset, variant, host);
+}
+
+static int is_settings(struct khamdoriem_settings a, uint32_t version, uint32_t gate, uint32_t year, int32_t offset,
+                       uint32_t variant, const char *host) {
+    size_t n;
+    const uint8_t *text = khamdoriem_settings_host(file, &a, &n);
+    return a.number == KHAMDORIEM_DONE && a.version == version && a.gate == gate && a.year == year &&
+           a.offset == offset && a.variant == variant && (*host ? same(text, n, host) : absent(text, n));
+}
+
+/* Refused with this number, and all else is zero. */
+static int is_refused(struct khamdoriem_settings a, uint32_t number) {
+    return a.number == number && a.version == 0 && a.gate == 0 && a.year == 0 && a.offset == 0 && a.variant == 0 &&
+           a.host_start == 0 && a.host_len == 0;
+}
+
+static int settings_refused(uint32_t gate, uint32_t number) {
+    return is_refused(khamdoriem_settings_read(file, file_len, gate), number);
+}
+
+/* What both readers answer with one byte of the file changed. */
+static int with_byte(size_t at, uint8_t byte, uint32_t number) {
+    uint8_t kept = file[at];
+    uint32_t answered;
+    file[at] = byte;
+    answered = khamdoriem_settings_read(file, file_len, 7).number;
+    file[at] = kept;
+    return answered == number;
+}
+
+static void check_settings_bytes(void) {
+    static const uint8_t expected[BYTES] = {2,   5,   0xEA, 7, 0xD4, 0xFE, 7, 0, 'd', 'e', 'p', 'o', 't', 0, 0, 0,
+                                            0,   0,   0,    0, 0,    0,    0, 0, 0,   0,   0,   0,   1,   0, 0, 0};
+    CHECK(one_record(2, 7, 2026, -300, KHAMDORIEM_VARIANT_RFC3164, "depot") == KHAMDORIEM_DONE && file_len == BYTES);
+    CHECK(!memcmp(file, expected, BYTES) && all(file, BYTES, sizeof file, 0x5A));
+    CHECK(is_settings(khamdoriem_settings_read(file, file_len, 7), 2, 7, 2026, -300, 1, "depot"));
+    CHECK(khamdoriem_settings_read(file, file_len, 7).host_start == 8);
+    CHECK(is_refused(khamdoriem_settings_read_1(file, file_len, 7), KHAMDORIEM_UNKNOWN_VERSION));
+    /* every field at its limits, and no host */
+    CHECK(one_record(1, KHAMDORIEM_LAST_GATE, KHAMDORIEM_LAST_YEAR, KHAMDORIEM_LAST_OFFSET, 0, "!~") == 0);
+    CHECK(put_settings(2, 0, 0, -KHAMDORIEM_LAST_OFFSET, 2, "12345678901234567890") == KHAMDORIEM_DONE);
+    CHECK(put_settings(1, 1, 0, 0, 0, "") == KHAMDORIEM_DONE && file_len == 3 * BYTES);
+    CHECK(is_settings(khamdoriem_settings_read(file, file_len, 65535), 1, 65535, 9999, 1439, 0, "!~"));
+    CHECK(is_settings(khamdoriem_settings_read_1(file, file_len, 65535), 1, 65535, 9999, 1439, 0, "!~"));
+    CHECK(is_settings(khamdoriem_settings_read(file, file_len, 0), 2, 0, 0, -1439, 2, "12345678901234567890"));
+    CHECK(is_settings(khamdoriem_settings_read(file, file_len, 1), 1, 1, 0, 0, 0, ""));
+}
+
+static void check_settings_files(void) {
+    size_t n;
+    CHECK(one_record(1, 7, 2025, 0, 0, "first") == 0 && put_settings(1, 8, 2025, 0, 0, "other") == 0);
+    CHECK(put_settings(2, 7, 2026, 60, 0, "last") == 0 && put_settings(2, 9, 2025, 0, 0, "other") == 0);
+    /* the last record of the gate counts, for the reader of version 1 too */
+    CHECK(is_settings(khamdoriem_settings_read(file, file_len, 7), 2, 7, 2026, 60, 0, "last"));
+    CHECK(is_refused(khamdoriem_settings_read_1(file, file_len, 7), KHAMDORIEM_UNKNOWN_VERSION));
+    CHECK(is_settings(khamdoriem_settings_read_1(file, file_len, 8), 1, 8, 2025, 0, 0, "other"));
+    /* others are not judged: but for their gate they may hold anything */
+    memset(file, 0xFF, 6), memset(file + 8, 0xFF, BYTES - 8);
+    memset(file + 3 * BYTES, 0xFF, 6), memset(file + 3 * BYTES + 8, 0xFF, BYTES - 8);
+    CHECK(is_settings(khamdoriem_settings_read(file, file_len, 7), 2, 7, 2026, 60, 0, "last"));
+    /* and the last one is, though one before it is good */
+    CHECK(settings_refused(9, KHAMDORIEM_UNKNOWN_VERSION));
+    file[2 * BYTES] = 2, file[2 * BYTES + 31] = 1;
+    CHECK(settings_refused(7, KHAMDORIEM_BAD_FIELD));
+    CHECK(settings_refused(10, KHAMDORIEM_NOT_FOUND) && settings_refused(65536 + 7, KHAMDORIEM_NOT_FOUND));
+    CHECK(settings_refused(UINT32_MAX, KHAMDORIEM_NOT_FOUND));
+    /* every length; 13 comes before 9 */
+    for (n = 0; n <= 4 * BYTES; n++) {
+        struct khamdoriem_settings a = khamdoriem_settings_read(file, n, 11);
+        CHECK(is_refused(a, n % BYTES ? KHAMDORIEM_BAD_LENGTH : KHAMDORIEM_NOT_FOUND));
+        CHECK(is_refused(khamdoriem_settings_read_1(file, n, 11), a.number));
+    }
+}
+
+static void check_settings_fields(void) {
+    size_t at;
+    CHECK(one_record(2, 7, 2026, 60, 0, "depot") == KHAMDORIEM_DONE);
+    CHECK(with_byte(0, 0, KHAMDORIEM_UNKNOWN_VERSION) && with_byte(0, 3, KHAMDORIEM_UNKNOWN_VERSION));
+    CHECK(with_byte(0, 255, KHAMDORIEM_UNKNOWN_VERSION) && with_byte(0, 1, KHAMDORIEM_DONE));
+    CHECK(with_byte(1, 4, KHAMDORIEM_BAD_FIELD) && with_byte(1, 6, KHAMDORIEM_BAD_FIELD));
+    CHECK(with_byte(1, 21, KHAMDORIEM_BAD_FIELD) && with_byte(1, 255, KHAMDORIEM_BAD_FIELD));
+    CHECK(with_byte(3, 0x27, KHAMDORIEM_BAD_FIELD) && with_byte(3, 0x26, KHAMDORIEM_DONE)); /* 10,218 and 9,962 */
+    CHECK(with_byte(5, 0x05, KHAMDORIEM_DONE) && with_byte(5, 0x06, KHAMDORIEM_BAD_FIELD));  /* 1,340 and 1,596 */
+    CHECK(with_byte(5, 0xFB, KHAMDORIEM_DONE) && with_byte(5, 0xFA, KHAMDORIEM_BAD_FIELD));  /* -1,220 and -1,476 */
+    CHECK(with_byte(6, 8, KHAMDORIEM_NOT_FOUND) && with_byte(7, 1, KHAMDORIEM_NOT_FOUND));
+    CHECK(with_byte(8, 33, KHAMDORIEM_DONE) && with_byte(8, 32, KHAMDORIEM_BAD_FIELD));
+    CHECK(with_byte(12, 126, KHAMDORIEM_DONE) && with_byte(12, 127, KHAMDORIEM_BAD_FIELD));
+    CHECK(with_byte(8, 0, KHAMDORIEM_BAD_FIELD));
+    for (at = 13; at < 28; at++) CHECK(with_byte(at, 'x', KHAMDORIEM_BAD_FIELD));
+    CHECK(with_byte(28, 1, KHAMDORIEM_DONE) && with_byte(28, 2, KHAMDORIEM_DONE));
+    CHECK(with_byte(28, 3, KHAMDORIEM_BAD_FIELD) && with_byte(28, 255, KHAMDORIEM_BAD_FIELD));
+    for (at = 29; at < BYTES; at++) CHECK(with_byte(at, 1, KHAMDORIEM_BAD_FIELD));
+    file[0] = 1;
+    CHECK(with_byte(28, 0, KHAMDORIEM_DONE) && with_byte(28, 1, KHAMDORIEM_BAD_FIELD));
+}
+
+static void check_settings_writes(void) {
+    uint8_t long_host[] = "123456789012345678901";
+    CHECK(one_record(0, 7, 2026, 0, 0, "h") == KHAMDORIEM_UNKNOWN_VERSION);
+    CHECK(one_record(3, 65536, 10000, 1440, 3, " ") == KHAMDORIEM_UNKNOWN_VERSION);
+    CHECK(one_record(UINT32_MAX, 7, 2026, 0, 0, "h") == KHAMDORIEM_UNKNOWN_VERSION);
+    CHECK(one_record(2, 65536, 2026, 0, 0, "h") == KHAMDORIEM_BAD_FIELD);
+    CHECK(one_record(2, 7, 10000, 0, 0, "h") == KHAMDORIEM_BAD_FIELD);
+    CHECK(one_record(2, 7, 2026, 1440, 0, "h") == KHAMDORIEM_BAD_FIELD);
+    CHECK(one_record(2, 7, 2026, -1440, 0, "h") == KHAMDORIEM_BAD_FIELD);
+    CHECK(one_record(2, 7, 2026, 0, 3, "h") == KHAMDORIEM_BAD_FIELD);
+    CHECK(one_record(1, 7, 2026, 0, 1, "h") == KHAMDORIEM_BAD_FIELD);
+    CHECK(one_record(2, 7, 2026, 0, 0, "a b") == KHAMDORIEM_BAD_FIELD);
+    CHECK(one_record(2, 7, 2026, 0, 0, "a\x7F") == KHAMDORIEM_BAD_FIELD);
+    CHECK(one_record(2, 7, 2026, 0, 0, "\xC3\xA9") == KHAMDORIEM_BAD_FIELD);
+    CHECK(one_record(2, 7, 2026, 0, 0, (const char *)long_host) == KHAMDORIEM_BAD_FIELD);
+    /* 15 before 8; and an output that is a byte short */
+    CHECK(khamdoriem_settings_write(2, 7, 2026, 0, 3, long_host, 20, file, 0).number == KHAMDORIEM_BAD_FIELD);
+    CHECK(khamdoriem_settings_write(2, 7, 2026, 0, 0, long_host, 20, file, 0).number == KHAMDORIEM_OUTPUT_SHORT);
+    CHECK(khamdoriem_settings_write(2, 7, 2026, 0, 0, long_host, 20, file, BYTES - 1).number ==
+          KHAMDORIEM_OUTPUT_SHORT);
+    CHECK(file_len == 0 && all(file, 0, sizeof file, 0x5A));
+    CHECK(khamdoriem_settings_write(2, 7, 2026, 0, 0, long_host, 20, file, BYTES).len == BYTES);
+    CHECK(all(file, BYTES, sizeof file, 0x5A));
+}
+
+/* ---- reading with settings */
+
+static struct khamdoriem_site with_settings_into(uint32_t gate, size_t e, size_t p, size_t room) {
+    return khamdoriem_read_with_settings(file, file_len, gate, line, len, elements, e, params, p, record, room);
+}
+
+static struct khamdoriem_site with_settings(uint32_t gate) { return with_settings_into(gate, 4, 4, KHAMDORIEM_RECORD); }
+
+/* Read, with this host in this slice. */
+static int has_host(struct khamdoriem_site a, uint32_t holder, const char *host) {
+    size_t n;
+    const uint8_t *text = khamdoriem_site_host(file, line, &a, &n);
+    return a.number == KHAMDORIEM_DONE && a.holder == holder && (holder ? same(text, n, host) : absent(text, n));
+}
+
+static int site_refused(struct khamdoriem_site a, uint32_t number) {
+    return a.number == number && a.holder == 0 && a.host_start == 0 && a.host_len == 0;
+}
+
+static void start_site(void) {
+    CHECK(one_record(2, 7, 2026, 60, KHAMDORIEM_VARIANT_EITHER, "depot") == KHAMDORIEM_DONE);
+    CHECK(put_settings(1, 8, 2026, 60, 0, "") == KHAMDORIEM_DONE);
+    CHECK(put_settings(2, 9, 2026, 60, KHAMDORIEM_VARIANT_RFC5424, "depot") == KHAMDORIEM_DONE);
+}
+
+static void check_site_hosts(void) {
+    uint8_t kept[KHAMDORIEM_RECORD];
+    struct khamdoriem_instant t = {0, 0, 0, 0};
+    const uint8_t *text;
+    size_t n;
+    start_site();
+    start("<13>1 - gate7 reader 42 TAP [a x=\"1\"] ok");
+    CHECK(has_host(with_settings(7), KHAMDORIEM_HOST_IN_LINE, "gate7"));
+    CHECK(has_host(with_settings(8), KHAMDORIEM_HOST_IN_LINE, "gate7"));
+    start("<13>1 - - reader 42 TAP [a x=\"1\"] ok");
+    CHECK(has_host(with_settings(7), KHAMDORIEM_HOST_IN_FILE, "depot"));
+    CHECK(has_host(with_settings(8), KHAMDORIEM_HOST_NOWHERE, ""));
+    /* the record has the line's host alone, and all is as the loose reader leaves it */
+    CHECK(with_settings(7).host_start == 8);
+    text = khamdoriem_host(line, record, &n), CHECK(absent(text, n));
+    memcpy(kept, record, sizeof kept);
+    fill(0xA5);
+    CHECK(loose().number == KHAMDORIEM_DONE && !memcmp(record, kept, sizeof kept));
+    fill(0xA5);
+    CHECK(with_settings(7).number == KHAMDORIEM_DONE && !memcmp(record, kept, sizeof kept));
+    CHECK(all(record, KHAMDORIEM_RECORD, sizeof record, 0xA5) && all(elements, sizeof *elements, sizeof elements, 0xA5));
+    CHECK(all(params, sizeof *params, sizeof params, 0xA5));
+    /* year and offset are the record's: 2026-12-31T22:59:59Z */
+    start("Dec 31 23:59:59 reader[1]: m");
+    CHECK(has_host(with_settings(7), KHAMDORIEM_HOST_IN_FILE, "depot") && khamdoriem_timestamp(record, &t) == 1);
+    CHECK(t.seconds == 1798757999 && t.offset == 60);
+}
+
+static void check_site_refusals(void) {
+    start_site();
+    fill(0x5A);
+    start("\xFF");
+    CHECK(site_refused(with_settings(7), KHAMDORIEM_NOT_UTF8));
+    CHECK(site_refused(with_settings(6), KHAMDORIEM_NOT_FOUND));
+    file[0] = 3, file[2 * BYTES + 28] = 3;
+    CHECK(site_refused(with_settings(7), KHAMDORIEM_UNKNOWN_VERSION));
+    CHECK(site_refused(with_settings(9), KHAMDORIEM_BAD_FIELD));
+    file_len--;
+    CHECK(site_refused(with_settings(8), KHAMDORIEM_BAD_LENGTH));
+    start_site();
+    start("");
+    add("x", KHAMDORIEM_LINE_LIMIT + 1);
+    CHECK(site_refused(with_settings(7), KHAMDORIEM_LINE_TOO_LONG));
+    /* no reading, of either protocol or of the record's alone */
+    start("antenna detuned");
+    CHECK(site_refused(with_settings(7), KHAMDORIEM_NO_READING));
+    CHECK(site_refused(with_settings_into(7, 0, 0, 0), KHAMDORIEM_NO_READING));
+    start("Dec 31 23:59:59 gate7 reader[1]: m");
+    CHECK(site_refused(with_settings(9), KHAMDORIEM_NO_READING));
+    start("<13>1 - - reader 42 TAP [a x=\"1\"] ok");
+    CHECK(site_refused(with_settings_into(7, 0, 0, 0), KHAMDORIEM_TOO_MANY_ELEMENTS));
+    CHECK(site_refused(with_settings_into(7, 1, 0, 0), KHAMDORIEM_TOO_MANY_PARAMS));
+    CHECK(site_refused(with_settings_into(7, 1, 1, KHAMDORIEM_RECORD - 1), KHAMDORIEM_OUTPUT_SHORT));
+    CHECK(filled(0x5A));
+    CHECK(has_host(with_settings_into(7, 1, 1, KHAMDORIEM_RECORD), KHAMDORIEM_HOST_IN_FILE, "depot"));
+}
+
 /* ---- words */
 
 static int named(const char *is, const char *name) { return is && !strcmp(is, name); }
@@ -708,10 +941,10 @@ static void check_names(void) {
 
 static void check_texts(void) {
     uint32_t i, k;
-    for (i = 0; i <= 12; i++)
+    for (i = 0; i <= 15; i++)
         for (k = 0; k < i; k++) CHECK(strcmp(khamdoriem_refusal_text(i), khamdoriem_refusal_text(k)) != 0);
-    CHECK(khamdoriem_refusal_text(13) == khamdoriem_refusal_text(4294967295u));
-    CHECK(strcmp(khamdoriem_refusal_text(12), khamdoriem_refusal_text(13)) != 0);
+    CHECK(khamdoriem_refusal_text(16) == khamdoriem_refusal_text(4294967295u));
+    CHECK(strcmp(khamdoriem_refusal_text(15), khamdoriem_refusal_text(16)) != 0);
 }
 
 int main(void) {
@@ -738,6 +971,12 @@ int main(void) {
     check_tally_refusals();
     check_tally_reads();
     check_tally_records();
+    check_settings_bytes();
+    check_settings_files();
+    check_settings_fields();
+    check_settings_writes();
+    check_site_hosts();
+    check_site_refusals();
     check_names();
     check_texts();
     printf("checks: %lu passed, %lu failed\n", passed, failed);

@@ -66,6 +66,21 @@ static void tally(void) {
     number += khamdoriem_tally_column(rows, KHAMDORIEM_TALLY_ROWS, 7).number;
 }
 
+static uint8_t site[KHAMDORIEM_SETTINGS_RECORD];
+
+/* The writer and both readers of a settings file, one after the other. */
+static void settings(void) {
+    number = khamdoriem_settings_write(1, 7, 2026, 60, 0, (const uint8_t *)"depot", 5, site, sizeof site).number;
+    number += khamdoriem_settings_read(site, sizeof site, 7).number;
+    number += khamdoriem_settings_read_1(site, sizeof site, 7).number;
+}
+
+static void read_with(void) {
+    number = khamdoriem_read_with_settings(site, sizeof site, 7, line, len, elements, KHAMDORIEM_ELEMENTS_ENOUGH,
+                                           params, KHAMDORIEM_PARAMS_ENOUGH, record, sizeof record)
+                 .number;
+}
+
 /* The bytes that a call took. The stack grows down. */
 static size_t taken(void (*call)(void)) {
     pthread_attr_t attr;
@@ -132,6 +147,8 @@ int main(void) {
     add_elements(2726);
     measure("read_loose, RFC 5424, 8,192 bytes of elements", read_loose, KHAMDORIEM_DONE);
     measure("print of that", print, KHAMDORIEM_DONE);
+    measure("settings_write, settings_read, settings_read_1", settings, KHAMDORIEM_DONE);
+    measure("read_with_settings of that line", read_with, KHAMDORIEM_DONE);
     start("antenna detuned");
     measure("read_loose, no reading", read_loose, KHAMDORIEM_DONE);
     measure("stream_feed", feed, KHAMDORIEM_DONE);

@@ -27,6 +27,12 @@ struct khamdoriem_cell right_tally_cell(const khamdoriem_counts *, size_t, uint3
 struct khamdoriem_sum right_tally_row(const khamdoriem_counts *, size_t, uint32_t);
 struct khamdoriem_sum right_tally_column(const khamdoriem_counts *, size_t, uint32_t);
 
+struct khamdoriem_settings right_settings_read(const uint8_t *, size_t, uint32_t);
+struct khamdoriem_settings right_settings_read_1(const uint8_t *, size_t, uint32_t);
+struct khamdoriem_written right_settings_write(uint32_t, uint32_t, uint32_t, int32_t, uint32_t, const uint8_t *, size_t, uint8_t *, size_t);
+struct khamdoriem_site right_read_with_settings(const uint8_t *, size_t, uint32_t, const uint8_t *, size_t, khamdoriem_element *, size_t, khamdoriem_param *,
+                                                size_t, uint8_t *, size_t);
+
 static int fault(void) {
     static int number = -1;
     if (number < 0) number = getenv("FAULT") ? atoi(getenv("FAULT")) : 0;
@@ -207,6 +213,118 @@ struct khamdoriem_sum khamdoriem_tally_column(const khamdoriem_counts *rows, siz
     case 64: if (a.number == 0) a.sum -= rows[KHAMDORIEM_TALLY_NO_FACILITY].count[column]; break;           /* a column's sum misses none */
     case 65: if (a.number == 0 && rows_len > KHAMDORIEM_TALLY_ROWS) a.sum += rows[KHAMDORIEM_TALLY_ROWS].count[column]; break; /* rows past the 25th in the sum */
     case 66: if (a.number == 8 && rows_len == KHAMDORIEM_TALLY_ROWS - 1) a.number = 0; break;               /* 24 rows taken for a tally */
+    }
+    return a;
+}
+
+enum { BYTES = KHAMDORIEM_SETTINGS_RECORD, HOST_AT = 8, VARIANT_AT = 28 };
+
+static uint32_t gate_of(const uint8_t *record) { return record[6] + 256u * record[7]; }
+
+/* The byte at which the first or the last record of a gate starts, of a file that has one. */
+static size_t record_of(const uint8_t *file, size_t file_len, uint32_t gate, int first) {
+    size_t at, found = 0;
+    for (at = 0; at + BYTES <= file_len; at += BYTES) {
+        if (gate_of(file + at) != gate) continue;
+        found = at;
+        if (first) break;
+    }
+    return found;
+}
+
+/* The answer to one record, which starts there in its file. */
+static struct khamdoriem_settings of_record(const uint8_t *record, size_t at, uint32_t gate) {
+    struct khamdoriem_settings a = right_settings_read(record, BYTES, gate);
+    if (a.number == 0) a.host_start += at;
+    return a;
+}
+
+/* The answer where the gate's record is judged with some of its bytes made good. */
+static struct khamdoriem_settings lenient(const uint8_t *file, size_t file_len, uint32_t gate) {
+    size_t at = record_of(file, file_len, gate, 0), i, len;
+    uint8_t record[BYTES];
+    memcpy(record, file + at, BYTES);
+    len = record[1] <= KHAMDORIEM_SETTINGS_HOST ? record[1] : KHAMDORIEM_SETTINGS_HOST;
+    switch (fault()) {
+    case 77: memset(record + HOST_AT + len, 0, KHAMDORIEM_SETTINGS_HOST - len); break;
+    case 78: memset(record + VARIANT_AT + 1, 0, 3); break;
+    case 79: if (record[0] == 1) record[VARIANT_AT] = 0; break;
+    case 80: for (i = 0; i < len; i++) if (record[HOST_AT + i] == 127) record[HOST_AT + i] = 'h'; break;
+    }
+    return of_record(record, at, gate);
+}
+
+static int is_any_marked(const uint8_t *file, size_t file_len) {
+    for (; file_len; file += BYTES, file_len -= BYTES) if (file[BYTES - 1]) return 1;
+    return 0;
+}
+
+struct khamdoriem_settings khamdoriem_settings_read(const uint8_t *file, size_t file_len, uint32_t gate) {
+    struct khamdoriem_settings a = right_settings_read(file, file_len, gate);
+    uint32_t n = a.number;
+    size_t at;
+    switch (fault()) {
+    case 67: if (n == 0) at = record_of(file, file_len, gate, 1), a = of_record(file + at, at, gate); break;    /* the first record of a gate in place of the last */
+    case 68: if (n == 0 && is_any_marked(file, file_len)) a.number = 15; break;                             /* other records judged */
+    case 69: if (n == 0) a.offset = (int16_t)((uint16_t)a.offset << 8 | (uint16_t)a.offset >> 8); break;    /* the offset's high byte first */
+    case 70: if (n == 13) a = right_settings_read(file, file_len - file_len % BYTES, gate); break;          /* what is left of a file passed over */
+    case 71: if (n == 13 && file_len < BYTES) a.number = 9; break;                                          /* 9 before 13 */
+    case 72: if (n == 14 && file[record_of(file, file_len, gate, 0) + BYTES - 1]) a.number = 15; break;     /* 15 before 14 */
+    case 73: if (n == 9) a = right_settings_read(file, file_len, gate & 0xFF); break;                       /* a gate by its low byte */
+    case 74: if (n == 9) a = right_settings_read(file, file_len, gate & 0xFFFF); break;                     /* a gate by its low 16 bits */
+    case 75: if (n == 0 && a.year == KHAMDORIEM_LAST_YEAR) a.number = 15; break;                            /* the last year refused */
+    case 76: if (n == 0 && a.offset == -KHAMDORIEM_LAST_OFFSET) a.number = 15; break;                       /* the furthest west refused */
+    case 77: case 78: case 79: case 80: if (n == 15) a = lenient(file, file_len, gate); break;              /* bytes behind the host; the last three; a variant in version 1; byte 127 */
+    case 81: if (n == 0) a.host_start = HOST_AT; break;                                                     /* the host's place in its record */
+    case 82: if (n == 15) a.gate = gate; break;                                                             /* something beside a refusal */
+    case 83: if (n == 9 && file_len == 0) a.number = 13; break;                                             /* the empty file refused with 13 */
+    }
+    return a;
+}
+
+struct khamdoriem_settings khamdoriem_settings_read_1(const uint8_t *file, size_t file_len, uint32_t gate) {
+    if (fault() == 84) return right_settings_read(file, file_len, gate);                                    /* the reader of version 1 takes version 2 */
+    return right_settings_read_1(file, file_len, gate);
+}
+
+struct khamdoriem_written khamdoriem_settings_write(uint32_t version, uint32_t gate, uint32_t year, int32_t offset, uint32_t variant, const uint8_t *host,
+                                                    size_t host_len, uint8_t *output, size_t output_len) {
+    uint8_t last = output_len < BYTES ? 0 : output[HOST_AT + KHAMDORIEM_SETTINGS_HOST - 1];
+    struct khamdoriem_written w = right_settings_write(version, gate, year, offset, variant, host, host_len, output, output_len);
+    uint32_t n = w.number;
+    switch (fault()) {
+    case 85: if (n == 14 && host_len > KHAMDORIEM_SETTINGS_HOST) w.number = 15; break;                      /* 15 before 14 */
+    case 86: if (n == 15 && output_len < BYTES) w.number = 8; break;                                        /* 8 before 15 */
+    case 87: if (n == 15 && version == 1 && variant) w = right_settings_write(version, gate, year, offset, 0, host, host_len, output, output_len); break; /* a variant in version 1 lost */
+    case 88: if (n == 15 && host_len == 21) w = right_settings_write(version, gate, year, offset, variant, host, 20, output, output_len); break; /* a long host cut */
+    case 89: if (n == 0) { uint8_t low = output[4]; output[4] = output[5], output[5] = low; } break;        /* the offset's high byte first */
+    case 90: if (n == 0 && output_len > BYTES) output[BYTES] = 0; break;                                    /* a byte past the record */
+    case 91: if (n == 8 && output_len) output[0] = (uint8_t)version; break;                                 /* a refused call writes */
+    case 92: if (n == 0 && host_len < KHAMDORIEM_SETTINGS_HOST) output[HOST_AT + KHAMDORIEM_SETTINGS_HOST - 1] = last; break; /* a byte behind the host kept */
+    case 93: if (n == 15 && gate == 65536) w = right_settings_write(version, 0, year, offset, variant, host, host_len, output, output_len); break; /* gate 65,536 wraps */
+    }
+    return w;
+}
+
+struct khamdoriem_site khamdoriem_read_with_settings(const uint8_t *file, size_t file_len, uint32_t gate, const uint8_t *line, size_t line_len,
+                                                     khamdoriem_element *elements, size_t elements_len, khamdoriem_param *params, size_t params_len,
+                                                     uint8_t *record, size_t record_len) {
+    struct khamdoriem_settings s = right_settings_read(file, file_len, gate);
+    struct khamdoriem_site a =
+        right_read_with_settings(file, file_len, gate, line, line_len, elements, elements_len, params, params_len, record, record_len);
+    uint32_t n = a.number;
+    switch (fault()) {
+    case 94: if (n == 0 && s.host_len) a = (struct khamdoriem_site){0, 2, s.host_start, s.host_len}; break; /* the default over the line's own host */
+    case 95: if (n == 0 && a.holder == 0) a = (struct khamdoriem_site){0, 2, s.host_start, 0}; break;       /* an empty default taken for a host */
+    case 96: if (n == 4) a.number = right_read_loose(line, line_len, s.variant, s.year, s.offset, elements, elements_len, params, params_len, record, record_len).number; break; /* the whole line in place of 4 */
+    case 97: if (n > 8 && line_len > KHAMDORIEM_LINE_LIMIT) a.number = 1; break;                            /* the line's refusals before the settings' */
+    case 98: if (n == 0) right_read_loose(line, line_len, s.variant, s.year, 0, elements, elements_len, params, params_len, record, record_len); break; /* another offset */
+    case 99: if (n == 0) right_read_loose(line, line_len, s.variant, 2024, s.offset, elements, elements_len, params, params_len, record, record_len); break; /* another year */
+    case 100: if (n == 4 && right_read_loose(line, line_len, 0, s.year, s.offset, elements, elements_len, params, params_len, record, record_len).number == 0) a.number = 0; break; /* either protocol */
+    case 101: if (n == 0 && a.holder == 2) WORD(record, HOST) = 1; break;                                   /* the default in the record */
+    case 102: if ((n == 5 || n == 6) && record_len < KHAMDORIEM_RECORD) a.number = 8; break;                /* 8 before 5 and 6 */
+    case 103: if (a.holder == 2) a.host_start = HOST_AT; break;                                             /* the host's place in its record */
+    case 104: if (n == 5 && elements_len) elements[0].id_start = 0; break;                                  /* a refused call fills a table */
     }
     return a;
 }

@@ -1,21 +1,22 @@
 /* khamdoriem.h - the C boundary of Khamdoriem, a proved reader of syslog lines. For x86-64, from C99 and C++11 on.
 
-   Twelve functions, and inline ones that take a record apart. Link with libkhamdoriem.a (pkg-config: khamdoriem).
+   Sixteen functions, and inline ones that take a record apart. Link with libkhamdoriem.a (pkg-config: khamdoriem).
    docs/INTERFACE.md says the same at length, with the record byte by byte; examples/ has a program in C, one in C++.
 
    The order of things: compare khamdoriem_interface() once. Lend a reader the line, two tables and memory for a record,
    and look at the number that it answers. Where that is 0, take fields out of the record, walk the tables, print or
    look up. A stream is cut into frames by the three functions of a stream: start one, feed it what comes, and read each
    frame as a line. A tally counts records by facility and severity: start from zeros, add each record, and read cells
-   and sums.
+   and sums. A settings file has the year, offset, variant and default host of each gate of a site:
+   khamdoriem_read_with_settings reads a line as its gate's record says.
 
    RULES FOR WHAT IS LENT. A slice is a pointer and a count: of bytes, of a table's entries, or of a tally's rows.
    - No pointer may be null, also where its count is 0; then it may be the address of anything. (gcc and clang warn of a
      null that they see.)
    - The two tables are aligned for size_t, a tally for uint32_t. Bytes may stand anywhere.
-   - What a call writes to overlaps nothing else that it is lent: of a reader both tables and the record, of print and
-     lookup the output, of khamdoriem_stream_feed the buffer. What a call only reads may overlap: an id may be a part
-     of the line. (A tally is all that its calls are lent.)
+   - What a call writes to overlaps nothing else that it is lent: of a reader both tables and the record, of print,
+     lookup and khamdoriem_settings_write the output, of khamdoriem_stream_feed the buffer. What a call only reads may
+     overlap: an id may be a part of the line. (A tally is all that its calls are lent.)
    - Any count may be 0. Nothing past a result is touched: no entry past the counts, no byte past the record or past the
      length of what was written.
    - A call that answers a number other than 0 has changed nothing that it was lent; the one exception is 12 of
@@ -54,12 +55,13 @@ extern "C" {
 
 /* The number that a call answers. Which ones, in the order in which they are checked: read_loose 1 2 3 5 6 8,
    read_strict 1 4 5 6 8, print 1 7 8, lookup 1 2 7 9 8, stream_start 2, stream_feed 2 8 11 12, stream_finish 2,
-   tally_add 7 8 10, tally_cell, tally_row and tally_column 7 8. khamdoriem_refusal_text has words for each. */
+   tally_add 7 8 10, tally_cell, tally_row and tally_column 7 8, settings_read and settings_read_1 13 9 14 15,
+   settings_write 14 15 8, read_with_settings 13 9 14 15 1 3 4 5 6 8. khamdoriem_refusal_text has words for each. */
 #define KHAMDORIEM_DONE 0
 #define KHAMDORIEM_LINE_TOO_LONG 1     /* the line has over KHAMDORIEM_LINE_LIMIT bytes */
 #define KHAMDORIEM_BAD_SETTING 2       /* variant, year, offset or kind out of range; a stream that was not started */
 #define KHAMDORIEM_NOT_UTF8 3          /* the line is not UTF-8 (loose reading) */
-#define KHAMDORIEM_NO_READING 4        /* the line has no reading (strict reading) */
+#define KHAMDORIEM_NO_READING 4        /* the line has no reading (strict reading, and reading with settings) */
 #define KHAMDORIEM_TOO_MANY_ELEMENTS 5 /* the reading has more elements than the table */
 #define KHAMDORIEM_TOO_MANY_PARAMS 6   /* the reading has more parameters than the table */
 #define KHAMDORIEM_UNSUITABLE 7        /* the bytes hold no record, or one that does not suit the line: see print; a
@@ -67,10 +69,15 @@ extern "C" {
 #define KHAMDORIEM_OUTPUT_SHORT 8      /* the output is shorter than the result, the record's memory than a record, a
                                           stream's buffer than KHAMDORIEM_STREAM_BUFFER, or a tally than
                                           KHAMDORIEM_TALLY_ROWS */
-#define KHAMDORIEM_NOT_FOUND 9         /* no parameter has this element's id and this name */
+#define KHAMDORIEM_NOT_FOUND 9         /* no parameter has this element's id and this name; a settings file has no
+                                          record of the gate */
 #define KHAMDORIEM_CELL_FULL 10        /* the cell holds KHAMDORIEM_TALLY_MOST, and is not raised */
 #define KHAMDORIEM_BAD_COUNT 11        /* a frame's count is none, and has ended its stream */
 #define KHAMDORIEM_FRAME_TOO_LONG 12   /* a frame of over KHAMDORIEM_LINE_LIMIT bytes was passed over */
+#define KHAMDORIEM_BAD_LENGTH 13       /* the length of a settings file is no multiple of KHAMDORIEM_SETTINGS_RECORD */
+#define KHAMDORIEM_UNKNOWN_VERSION 14  /* the version of a settings record is not known to this call */
+#define KHAMDORIEM_BAD_FIELD 15        /* a field of a settings record is out of range, or a byte that says nothing is
+                                          not 0 */
 
 /* variant: by which rules a line is read loosely. */
 #define KHAMDORIEM_VARIANT_EITHER 0    /* RFC 5424's, and where they give no reading RFC 3164's */
@@ -107,6 +114,16 @@ extern "C" {
 
 /* The most that a cell of a tally holds. */
 #define KHAMDORIEM_TALLY_MOST 4294967295u
+
+/* Bytes of a record in a settings file, and the most of the host that it has. A gate is 0 to KHAMDORIEM_LAST_GATE. */
+#define KHAMDORIEM_SETTINGS_RECORD 32
+#define KHAMDORIEM_SETTINGS_HOST 20
+#define KHAMDORIEM_LAST_GATE 65535
+
+/* holder: which slice holds the host of a line that was read with settings. */
+#define KHAMDORIEM_HOST_NOWHERE 0      /* the line has none, and the settings' is empty */
+#define KHAMDORIEM_HOST_IN_LINE 1      /* the line's own */
+#define KHAMDORIEM_HOST_IN_FILE 2      /* the line has none: the settings' */
 
 /* The most bytes of a line. */
 #define KHAMDORIEM_LINE_LIMIT 8192
@@ -184,7 +201,8 @@ struct khamdoriem_read {
     size_t reach;
 };
 
-/* What print and lookup answer: 0 and the length of the result, or the number of a refusal and 0. */
+/* What print, lookup and khamdoriem_settings_write answer: 0 and the length of the result, or the number of a refusal
+   and 0. */
 struct khamdoriem_written {
     uint32_t number;
     size_t len;
@@ -240,6 +258,28 @@ struct khamdoriem_cell {
 struct khamdoriem_sum {
     uint32_t number;
     uint64_t sum;
+};
+
+/* What khamdoriem_settings_read answers: 0 and the settings of the gate, or the number of a refusal and zeros. The host
+   is a place in the file, of length 0 where there is no default: khamdoriem_settings_host. */
+struct khamdoriem_settings {
+    uint32_t number;
+    uint32_t version;
+    uint32_t gate;
+    uint32_t year;
+    int32_t offset;
+    uint32_t variant;
+    size_t host_start;
+    size_t host_len;
+};
+
+/* What khamdoriem_read_with_settings answers: 0, which slice holds the host (KHAMDORIEM_HOST_*) and its place there; or
+   the number of a refusal and zeros. khamdoriem_site_host takes the host. */
+struct khamdoriem_site {
+    uint32_t number;
+    uint32_t holder;
+    size_t host_start;
+    size_t host_len;
 };
 
 /* ---- the functions */
@@ -335,6 +375,43 @@ struct khamdoriem_sum khamdoriem_tally_row(const khamdoriem_counts *rows, size_t
 struct khamdoriem_sum khamdoriem_tally_column(const khamdoriem_counts *rows, size_t rows_len,
                                               uint32_t column) KHAMDORIEM_NO_NULL;
 
+/* The settings of a gate. file is a settings file: records of KHAMDORIEM_SETTINGS_RECORD bytes, one behind the other,
+   numbers low byte first; the empty file has none. Of a record, byte by byte: 0 version, 1 or 2; 1 length of the host,
+   0 to 20; 2 and 3 year; 4 and 5 offset in minutes, two's complement; 6 and 7 gate; 8 to 27 host, bytes 33 to 126, and
+   zeros behind it; 28 variant, in version 1 0; 29 to 31 zeros. The last record of the gate counts, and no other is
+   judged, whatever it holds.
+   - 13: file_len is no multiple of 32.
+   - 9: else, no record has the gate; so of a gate over KHAMDORIEM_LAST_GATE.
+   - 14: else, the version of its last record is not 1 or 2.
+   - 15: else, a field of that record is out of range, or a byte that says nothing is not 0. */
+struct khamdoriem_settings khamdoriem_settings_read(const uint8_t *file, size_t file_len,
+                                                    uint32_t gate) KHAMDORIEM_NO_NULL;
+
+/* The same by the reader that knows version 1 alone: version 2 is 14 to it. */
+struct khamdoriem_settings khamdoriem_settings_read_1(const uint8_t *file, size_t file_len,
+                                                      uint32_t gate) KHAMDORIEM_NO_NULL;
+
+/* Writes settings as a record, the first KHAMDORIEM_SETTINGS_RECORD bytes of output. host_len is 0 for no default. What
+   is written is read back, and is the only record that means these settings.
+   - 14: version not 1 or 2.
+   - 15: else, a gate over KHAMDORIEM_LAST_GATE, a year over KHAMDORIEM_LAST_YEAR, an offset outside
+     -KHAMDORIEM_LAST_OFFSET to KHAMDORIEM_LAST_OFFSET, a variant over 2 or in version 1 over 0, a host of over
+     KHAMDORIEM_SETTINGS_HOST bytes or with one outside 33 to 126.
+   - 8: else, output_len under KHAMDORIEM_SETTINGS_RECORD. */
+struct khamdoriem_written khamdoriem_settings_write(uint32_t version, uint32_t gate, uint32_t year, int32_t offset,
+                                                    uint32_t variant, const uint8_t *host, size_t host_len,
+                                                    uint8_t *output, size_t output_len) KHAMDORIEM_NO_NULL;
+
+/* Reads a line as khamdoriem_read_loose does, with the variant, year and offset of the gate's record, and says whose
+   host it has: the line's own, or where it has none the settings'. Tables and record are as khamdoriem_read_loose
+   leaves them: its record has no host but the line's. The refusals of khamdoriem_settings_read come first, then 1 and
+   3; a line that has no reading is 4; then 5, 6 and 8. */
+struct khamdoriem_site khamdoriem_read_with_settings(const uint8_t *file, size_t file_len, uint32_t gate,
+                                                     const uint8_t *line, size_t line_len,
+                                                     khamdoriem_element *elements, size_t elements_len,
+                                                     khamdoriem_param *params, size_t params_len,
+                                                     uint8_t *record, size_t record_len) KHAMDORIEM_NO_NULL;
+
 /* ---- what a reader left, taken apart
 
    line is the line that was read. A text is answered by its address in the line, and its length by *len. Absent and
@@ -429,6 +506,22 @@ static inline const uint8_t *khamdoriem_message_id(const uint8_t *line, const ui
     return khamdoriem_text(line, record, KHAMDORIEM_AT_MESSAGE_ID, len);
 }
 
+/* The default host of settings that were read from the file; a null pointer and 0 where there is none. */
+static inline const uint8_t *khamdoriem_settings_host(const uint8_t *file, const struct khamdoriem_settings *settings,
+                                                      size_t *len) {
+    *len = settings->host_len;
+    return settings->host_len ? file + settings->host_start : NULL;
+}
+
+/* The host of a line that was read with settings, in whichever of the two slices holds it; a null pointer and 0 where
+   there is none. */
+static inline const uint8_t *khamdoriem_site_host(const uint8_t *file, const uint8_t *line,
+                                                  const struct khamdoriem_site *site, size_t *len) {
+    *len = site->host_len;
+    if (site->holder == KHAMDORIEM_HOST_NOWHERE) return NULL;
+    return (site->holder == KHAMDORIEM_HOST_IN_LINE ? line : file) + site->host_start;
+}
+
 /* Never null: an absent message is empty. khamdoriem_has_message tells the two apart in a strict record. */
 static inline const uint8_t *khamdoriem_message(const uint8_t *line, const uint8_t *record, size_t *len) {
     *len = (size_t)khamdoriem_word(record, KHAMDORIEM_AT_MESSAGE + 8);
@@ -513,10 +606,13 @@ static inline const char *khamdoriem_refusal_text(uint32_t number) {
     case KHAMDORIEM_TOO_MANY_PARAMS: return "the reading has more parameters than the table";
     case KHAMDORIEM_UNSUITABLE: return "record, counts or tables do not suit the line, or a tally has no such cell";
     case KHAMDORIEM_OUTPUT_SHORT: return "the output is shorter than the result";
-    case KHAMDORIEM_NOT_FOUND: return "there is no parameter of this element and name";
+    case KHAMDORIEM_NOT_FOUND: return "there is no parameter of this element and name, or no record of the gate";
     case KHAMDORIEM_CELL_FULL: return "the cell of the tally holds 4,294,967,295 already";
     case KHAMDORIEM_BAD_COUNT: return "the count of a frame is none, and the stream has ended";
     case KHAMDORIEM_FRAME_TOO_LONG: return "a frame of over 8,192 bytes was passed over";
+    case KHAMDORIEM_BAD_LENGTH: return "the length of the settings file is no multiple of 32";
+    case KHAMDORIEM_UNKNOWN_VERSION: return "the version of the settings record is not known";
+    case KHAMDORIEM_BAD_FIELD: return "a field of the settings record is out of range, or a reserved byte is not zero";
     default: return "a number that this interface does not have";
     }
 }

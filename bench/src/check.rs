@@ -2,7 +2,7 @@
 use crate::gate;
 use crate::readers::{interface, rust, Lent};
 use crate::shapes::{Shape, GROWING, IDS, LENGTHS, SLOW};
-use crate::{streams, tallies};
+use crate::{sites, streams, tallies};
 
 // Words of the record (docs/INTERFACE.md). In interface 1 it has no word of digits.
 const SECONDS: usize = 7;
@@ -96,5 +96,6 @@ pub fn check(text: &str) -> Result<(), String> {
         ids(shape, &mut lent)?;
     }
     streams::check()?;
-    tallies::check()
+    tallies::check()?;
+    sites::check()
 }

@@ -9,6 +9,7 @@ mod readers;
 mod report;
 mod results;
 mod shapes;
+mod sites;
 mod streams;
 mod tallies;
 
@@ -17,7 +18,7 @@ use std::process::ExitCode;
 use std::time::Instant;
 
 const USAGE: &str = "usage: driver make FILE LINES SEED | check FILE | pass READER KIND FILE TIMES | shape READER NAME BYTES TIMES \
-                     | stream splitter NAME TIMES | tally table NAME TIMES | time KIND FILE READER.. | report RESULTS FOLDER";
+                     | stream splitter NAME TIMES | tally table NAME TIMES | site file NAME TIMES | time KIND FILE READER.. | report RESULTS FOLDER";
 
 fn number<T: std::str::FromStr>(text: &str) -> Result<T, String> {
     text.parse().map_err(|_| format!("'{text}' is no number, or too large"))
@@ -90,6 +91,11 @@ fn tally(name: &str, times: &str) -> Result<(), String> {
     (0..number::<usize>(times)?).try_for_each(|_| tallies::pass(kind))
 }
 
+fn site(name: &str, times: &str) -> Result<(), String> {
+    let kind = sites::named(name).ok_or(format!("'{name}' is no call of a settings file"))?;
+    sites::passes(kind, number(times)?)
+}
+
 fn report(results: &str, folder: &str) -> Result<(), String> {
     let results = results::Results::of(&text_of(results)?);
     write(&format!("{folder}/BENCH.md"), &report::page(&results)?)?;
@@ -106,6 +112,7 @@ fn run(args: &[&str]) -> Result<(), String> {
         ["shape", name, what, bytes, times] => shape(name, what, bytes, times),
         ["stream", "splitter", name, times] => stream(name, times),
         ["tally", "table", name, times] => tally(name, times),
+        ["site", "file", name, times] => site(name, times),
         ["time", kind, file, names @ ..] => time(kind, file, names),
         ["report", results, folder] => report(results, folder),
         _ => Err(USAGE.to_string()),

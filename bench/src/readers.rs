@@ -74,6 +74,33 @@ extern "C" {
     ) -> Answer;
 }
 
+/// What reading with settings answers.
+#[cfg(not(no_settings))]
+#[repr(C)]
+pub struct Site {
+    number: u32,
+    holder: u32,
+    host_start: usize,
+    host_len: usize,
+}
+
+#[cfg(not(no_settings))]
+extern "C" {
+    fn khamdoriem_read_with_settings(
+        file: *const u8,
+        file_len: usize,
+        gate: u32,
+        line: *const u8,
+        line_len: usize,
+        elements: *mut [usize; 2],
+        elements_len: usize,
+        params: *mut [usize; 5],
+        params_len: usize,
+        record: *mut u8,
+        record_len: usize,
+    ) -> Site;
+}
+
 /// The number of the archive's interface; one that is older than the call has 1.
 pub fn interface() -> u32 {
     #[cfg(interface_1)]
@@ -129,6 +156,35 @@ impl Lent {
                 r.as_mut_ptr(),
                 r.len(),
             )
+        }
+    }
+
+    /// The number of a reading with settings. An archive of before there were settings files (bench/run, --before) has none.
+    #[inline]
+    pub fn with_settings(&mut self, file: &[u8], gate: u32, line: &[u8]) -> u32 {
+        #[cfg(no_settings)]
+        return black_box((file, gate, line)).1;
+        #[cfg(not(no_settings))]
+        {
+            let (e, p, r) = (&mut self.elements, &mut self.params, &mut self.record);
+            // SAFETY: as above.
+            let site = unsafe {
+                khamdoriem_read_with_settings(
+                    file.as_ptr(),
+                    file.len(),
+                    gate,
+                    line.as_ptr(),
+                    line.len(),
+                    e.as_mut_ptr(),
+                    e.len(),
+                    p.as_mut_ptr(),
+                    p.len(),
+                    r.as_mut_ptr(),
+                    r.len(),
+                )
+            };
+            black_box((site.holder, site.host_start, site.host_len));
+            site.number
         }
     }
 

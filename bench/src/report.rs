@@ -2,6 +2,7 @@
 use crate::price::price;
 use crate::results::Results;
 use crate::shapes::{GROWING, LENGTHS, SLOW};
+use crate::sites;
 use crate::streams::CUTS;
 use crate::tallies;
 use std::fmt::Write;
@@ -167,6 +168,19 @@ fn tallies(results: &Results) -> Result<String, String> {
     Ok(page + "\n")
 }
 
+fn sites(results: &Results) -> Result<String, String> {
+    let mut page = String::from(
+        "## Settings files\n\nThe settings of a gate, which are sought from the end of the file on, a record written, and a line read with them beside the loose \
+         reading of that line, in instructions a call in the functions of the archive. Nothing is allocated or kept.\n\n",
+    );
+    add(&mut page, "| call | calls | a call |\n|---|---|---|");
+    for kind in &sites::KINDS {
+        let (calls, spent) = (results.number(&["site", kind.name], 0)?, results.number(&["sited", kind.name], 0)?);
+        add(&mut page, &format!("| {} | {} | {:.1} |", kind.what, commas(calls), spent / calls));
+    }
+    Ok(page + "\n")
+}
+
 /// A line of prose as lines of at most 120 columns; a row of a table as it is.
 fn folded(line: &str) -> String {
     if line.starts_with('|') {
@@ -187,7 +201,7 @@ fn folded(line: &str) -> String {
 }
 
 pub fn page(results: &Results) -> Result<String, String> {
-    let page = intro(results)? + &lines(results)? + &times(results)? + &growing(results)? + &slow(results)? + &price(results)? + &streams(results)? + &tallies(results)? + &functions(results)?;
+    let page = intro(results)? + &lines(results)? + &times(results)? + &growing(results)? + &slow(results)? + &price(results)? + &streams(results)? + &tallies(results)? + &sites(results)? + &functions(results)?;
     Ok(page.lines().map(|line| folded(line) + "\n").collect())
 }
 

@@ -12,6 +12,8 @@
 //!     cutting NAME COUNT               instructions of cutting it once, in the functions of the archive
 //!     tally NAME CALLS                 how often a call of a tally is made in a pass
 //!     tallying NAME COUNT              instructions of the pass, in the functions of the archive
+//!     site NAME CALLS                  how often a call of a settings file is made in a pass
+//!     sited NAME COUNT                 instructions of the pass, in the functions of the archive
 //!     function KIND READER NAME COUNT  instructions of a pass in one function
 //!     about NAME WORDS..               the seed, the machine, the versions; native: the machine of the nanoseconds, timed: of what they are
 //!

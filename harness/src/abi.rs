@@ -1,4 +1,4 @@
-//! The archive's twelve functions, as include/khamdoriem.h declares them.
+//! The archive's sixteen functions, as include/khamdoriem.h declares them.
 
 pub type Element = [usize; 2];
 pub type Param = [usize; 5];
@@ -112,6 +112,30 @@ pub struct Sum {
     pub sum: u64,
 }
 
+/// The settings of a gate, with the place of its host in the file.
+#[repr(C)]
+#[derive(Clone, Copy, Debug, Default, PartialEq)]
+pub struct GateSettings {
+    pub number: u32,
+    pub version: u32,
+    pub gate: u32,
+    pub year: u32,
+    pub offset: i32,
+    pub variant: u32,
+    pub host_start: usize,
+    pub host_len: usize,
+}
+
+/// Whose host a line has that was read with settings, and where.
+#[repr(C)]
+#[derive(Clone, Copy, Debug, Default, PartialEq)]
+pub struct Site {
+    pub number: u32,
+    pub holder: u32,
+    pub host_start: usize,
+    pub host_len: usize,
+}
+
 #[derive(Clone, Copy, Debug, PartialEq)]
 pub enum Reader {
     Loose,
@@ -154,6 +178,15 @@ extern "C" {
     fn khamdoriem_tally_cell(rows: *const Row, rows_len: usize, row: u32, column: u32) -> Cell;
     fn khamdoriem_tally_row(rows: *const Row, rows_len: usize, row: u32) -> Sum;
     fn khamdoriem_tally_column(rows: *const Row, rows_len: usize, column: u32) -> Sum;
+    fn khamdoriem_settings_read(file: *const u8, file_len: usize, gate: u32) -> GateSettings;
+    fn khamdoriem_settings_read_1(file: *const u8, file_len: usize, gate: u32) -> GateSettings;
+    fn khamdoriem_settings_write(
+        version: u32, gate: u32, year: u32, offset: i32, variant: u32, host: *const u8, host_len: usize, output: *mut u8, output_len: usize,
+    ) -> Written;
+    fn khamdoriem_read_with_settings(
+        file: *const u8, file_len: usize, gate: u32, line: *const u8, line_len: usize,
+        elements: *mut Element, elements_len: usize, params: *mut Param, params_len: usize, record: *mut u8, record_len: usize,
+    ) -> Site;
 }
 
 /// The number of the archive's interface.
@@ -216,4 +249,23 @@ pub fn tally_row(rows: &[Row], row: u32) -> Sum {
 
 pub fn tally_column(rows: &[Row], column: u32) -> Sum {
     unsafe { khamdoriem_tally_column(rows.as_ptr(), rows.len(), column) }
+}
+
+pub fn settings_read(file: &[u8], gate: u32) -> GateSettings {
+    unsafe { khamdoriem_settings_read(file.as_ptr(), file.len(), gate) }
+}
+
+pub fn settings_read_1(file: &[u8], gate: u32) -> GateSettings {
+    unsafe { khamdoriem_settings_read_1(file.as_ptr(), file.len(), gate) }
+}
+
+pub fn settings_write(version: u32, gate: u32, s: Settings, host: &[u8], output: &mut [u8]) -> Written {
+    unsafe { khamdoriem_settings_write(version, gate, s.year, s.offset, s.variant, host.as_ptr(), host.len(), output.as_mut_ptr(), output.len()) }
+}
+
+pub fn read_with_settings(file: &[u8], gate: u32, line: &[u8], elements: &mut [Element], params: &mut [Param], record: &mut [u8]) -> Site {
+    let (e, p, r) = (elements.as_mut_ptr(), params.as_mut_ptr(), record.as_mut_ptr());
+    unsafe {
+        khamdoriem_read_with_settings(file.as_ptr(), file.len(), gate, line.as_ptr(), line.len(), e, elements.len(), p, params.len(), r, record.len())
+    }
 }

@@ -4,7 +4,7 @@
 use crate::abi::{self, word, Element, Given, Param, Read, Reader, Settings, Written, RECORD, STRICT_RECORD, STRICT_WORDS, WORDS};
 use crate::classes::{self, Class, CLASSES};
 use crate::forge::Forged;
-use crate::lent::Lent;
+use crate::lent::{canary, Lent};
 use crate::oracle::{self, Answer};
 use crate::random::Random;
 use crate::records;
@@ -47,10 +47,6 @@ pub struct Desk {
     answer: Answer,
     forged: Forged,
     before: Forged,
-}
-
-fn canary<const N: usize>(at: usize) -> [usize; N] {
-    std::array::from_fn(|i| 0xA5C3_0000_0000_0000 + 8 * at + i)
 }
 
 fn name_of(reader: Reader) -> &'static str {

@@ -2,6 +2,11 @@
 
 const GUARD: usize = 8;
 
+/// The canary of a table's entry.
+pub fn canary<const N: usize>(at: usize) -> [usize; N] {
+    std::array::from_fn(|i| 0xA5C3_0000_0000_0000 + 8 * at + i)
+}
+
 pub struct Lent<T> {
     cells: Vec<T>,
     kept: Vec<T>,

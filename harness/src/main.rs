@@ -3,6 +3,7 @@
 //!     harness [--seed N] [--cases N] [--part I/N] [--lines KIND]     compares, and ends with one line
 //!     harness --streams N [--seed N] [--part I/N]     compares N streams with a machine by hand, and ends with one line
 //!     harness --tallies N [--seed N] [--part I/N]     compares N additions to tallies, and all reads, with a tally by hand, and ends with one line
+//!     harness --settings N [--seed N] [--part I/N]    compares N settings files, writes and lines read with them, and ends with one line
 //!     harness --replay N                              writes a list of N cases with the Rust's answers
 //!     harness --stored FOLDER                         compares the stored output of the program `cases`
 
@@ -17,6 +18,7 @@ mod oracle;
 mod random;
 mod records;
 mod replay;
+mod settings;
 mod short;
 mod shrink;
 mod stored;
@@ -30,6 +32,7 @@ use shrink::{escaped, shrink, Shown};
 use std::panic::{catch_unwind, AssertUnwindSafe};
 use std::process::ExitCode;
 use std::time::{Duration, Instant};
+use settings::Files;
 use streams::Streams;
 use tallies::Tallies;
 
@@ -41,12 +44,13 @@ struct Wanted {
     ids: bool,
     streams: Option<u64>,
     tallies: Option<u64>,
+    settings: Option<u64>,
     replay: Option<usize>,
     stored: Option<String>,
 }
 
 fn arguments() -> Result<Wanted, String> {
-    let mut wanted = Wanted { seed: 1, cases: 100_000, part: 0, parts: 1, ids: false, streams: None, tallies: None, replay: None, stored: None };
+    let mut wanted = Wanted { seed: 1, cases: 100_000, part: 0, parts: 1, ids: false, streams: None, tallies: None, settings: None, replay: None, stored: None };
     let mut args = std::env::args().skip(1);
     while let Some(name) = args.next() {
         let value = args.next().ok_or(format!("{name} asks for a value"))?;
@@ -56,6 +60,7 @@ fn arguments() -> Result<Wanted, String> {
             "--cases" => wanted.cases = number(&value)?,
             "--streams" => wanted.streams = Some(number(&value)?),
             "--tallies" => wanted.tallies = Some(number(&value)?),
+            "--settings" => wanted.settings = Some(number(&value)?),
             "--replay" => wanted.replay = Some(number(&value)? as usize),
             "--lines" => match value.as_str() {
                 "all" => wanted.ids = false,
@@ -200,6 +205,37 @@ fn compared_tallies(wanted: &Wanted, count: u64) -> ExitCode {
     ExitCode::SUCCESS
 }
 
+fn settings_summary(wanted: &Wanted, counts: &settings::Counts, unexplained: u64) -> String {
+    let settings::Counts { cases, reads, taken, refused: [length, gate, version, field], writes, written, lines, read, defaults } = counts;
+    format!(
+        "seed {} part {}/{}: {cases} cases ({reads} reads of files, {taken} taken, {length} refusals 13, {gate} refusals 9, {version} refusals 14, {field} refusals 15, {writes} writes, {written} written, {lines} lines, {read} readings, {defaults} default hosts), {unexplained} unexplained",
+        wanted.seed, wanted.part + 1, wanted.parts
+    )
+}
+
+/// Settings files, writes and lines against those by hand; the first difference ends it.
+fn compared_settings(wanted: &Wanted, count: u64) -> ExitCode {
+    let mut files = Files::new(wanted.seed, wanted.part, wanted.parts);
+    let (start, mut told) = (Instant::now(), Instant::now());
+    while files.counts.cases < count {
+        if let Err(difference) = files.next() {
+            println!("harness: {} differs in settings", difference.what);
+            println!("  call     {}", difference.call);
+            println!("  ours     {}", difference.ours);
+            println!("  wanted   {}", difference.wanted);
+            println!("harness: {}", settings_summary(wanted, &files.counts, 1));
+            return ExitCode::FAILURE;
+        }
+        if files.counts.cases % 1024 == 0 && told.elapsed() >= Duration::from_secs(5) {
+            told = Instant::now();
+            let rate = files.counts.cases as f64 / start.elapsed().as_secs_f64();
+            eprintln!("harness: {} ({rate:.0} cases a second)", settings_summary(wanted, &files.counts, 0));
+        }
+    }
+    println!("harness: {}", settings_summary(wanted, &files.counts, 0));
+    ExitCode::SUCCESS
+}
+
 fn main() -> ExitCode {
     match arguments() {
         Err(error) => {
@@ -210,6 +246,7 @@ fn main() -> ExitCode {
         Ok(Wanted { stored: Some(folder), .. }) => stored::compare(&folder),
         Ok(wanted @ Wanted { streams: Some(count), .. }) => compared_streams(&wanted, count),
         Ok(wanted @ Wanted { tallies: Some(count), .. }) => compared_tallies(&wanted, count),
+        Ok(wanted @ Wanted { settings: Some(count), .. }) => compared_settings(&wanted, count),
         Ok(wanted) => compared(&wanted),
     }
 }

@@ -31,6 +31,9 @@
 //!
 //! A [`Tally`] counts readings by facility and severity, and writes itself as a table for a person.
 //!
+//! A [`SettingsFile`] has the year, offset, variant and default host of each gate of a site, and [`Tables::read_with`] reads a line as
+//! the record of its gate says.
+//!
 //! Texts are parts of the line, as bytes and, with `_str` behind the name, as `str`. No call allocates: tables own their memory
 //! ([`Tables::new`], with the feature `std`, which is on by default) or are laid over what is lent ([`Tables::over`]).
 //!
@@ -54,6 +57,8 @@ mod reading;
 mod record;
 mod refusal;
 mod settings;
+mod settings_file;
+mod site_reading;
 mod splitter;
 #[allow(unsafe_code)]
 mod sys;
@@ -72,6 +77,8 @@ pub use reading::{Loose, Reading, Strict};
 pub use record::Protocol;
 pub use refusal::Refusal;
 pub use settings::{Offset, Settings, Variant, Year};
+pub use settings_file::{Gate, GateSettings, SettingsFile, SettingsVersion};
+pub use site_reading::SiteReading;
 pub use splitter::{Event, Fed, Framing, Splitter};
 pub use sys::{ElementEntry, ParamEntry};
 pub use tables::Tables;

@@ -2,7 +2,7 @@
 
 use core::fmt;
 
-/// The refusals, one row each: number, name and words. All else here follows from the rows.
+/// The refusals, one row each: number, name and words. All else here follows from the rows, but for the second meaning of 9.
 macro_rules! refusals {
     ($($(#[$doc:meta])+ $number:literal $name:ident $words:literal)+) => {
         /// Why a call was refused. A refused call has changed nothing that it was lent. (A [`Splitter`](crate::Splitter) moves on with
@@ -23,7 +23,7 @@ macro_rules! refusals {
         /// fn number(refusal: Refusal) -> u32 {
         ///     match refusal {
         ///         LineTooLong | NotUtf8 | NoReading | TooManyElements | TooManyParams | OutputTooShort | NoSuchParam => 1,
-        ///         CellFull | BadCount | FrameTooLong => 2,
+        ///         NoSuchGate | CellFull | BadCount | FrameTooLong | BadLength | UnknownVersion | BadField => 2,
         ///         Unexpected(number) => number,
         ///     }
         /// }
@@ -32,6 +32,8 @@ macro_rules! refusals {
         #[non_exhaustive]
         pub enum Refusal {
             $($(#[$doc])+ $name,)+
+            /// Number 9 of a [`SettingsFile`](crate::SettingsFile): it has no record of the gate.
+            NoSuchGate,
             /// Any other number. The proved archive gives none to a call of this crate, so another one has been linked.
             Unexpected(u32),
         }
@@ -41,6 +43,7 @@ macro_rules! refusals {
             pub const fn number(self) -> u32 {
                 match self {
                     $(Refusal::$name => $number,)+
+                    Refusal::NoSuchGate => Refusal::NoSuchParam.number(),
                     Refusal::Unexpected(number) => number,
                 }
             }
@@ -53,12 +56,21 @@ macro_rules! refusals {
                     _ => Err(Refusal::Unexpected(number)),
                 }
             }
+
+            /// The same of a call that reads a settings file.
+            pub(crate) const fn check_settings(number: u32) -> Result<(), Refusal> {
+                match Refusal::check(number) {
+                    Err(Refusal::NoSuchParam) => Err(Refusal::NoSuchGate),
+                    checked => checked,
+                }
+            }
         }
 
         impl fmt::Display for Refusal {
             fn fmt(&self, f: &mut fmt::Formatter<'_>) -> fmt::Result {
                 match self {
                     $(Refusal::$name => f.pad($words),)+
+                    Refusal::NoSuchGate => f.pad("the settings file has no record of the gate"),
                     Refusal::Unexpected(number) => {
                         write!(f, "the archive answered {number}, which no call of khamdoriem brings about")
                     }
@@ -73,7 +85,8 @@ refusals! {
     1 LineTooLong "the line has over 8,192 bytes"
     /// Number 3: the line is not UTF-8. The loose reader asks for that, and a reading that is to pass for one of its.
     3 NotUtf8 "the line is not UTF-8"
-    /// Number 4: there is no reading. The strict reader gives it, and [`LooseAnswer::exact`](crate::LooseAnswer::exact).
+    /// Number 4: there is no reading. The strict reader gives it, the reading [with settings](crate::Tables::read_with), and
+    /// [`LooseAnswer::exact`](crate::LooseAnswer::exact).
     4 NoReading "the line has no reading"
     /// Number 5: the reading has more elements than the table.
     5 TooManyElements "the reading has more elements than the table"
@@ -89,6 +102,12 @@ refusals! {
     11 BadCount "the count of a frame is none, and the stream has ended"
     /// Number 12: a frame of over [`MAX_LINE`](crate::MAX_LINE) bytes. It was passed over, and the stream goes on behind it.
     12 FrameTooLong "a frame of over 8,192 bytes was passed over"
+    /// Number 13: the length of a [`SettingsFile`](crate::SettingsFile) is no multiple of 32.
+    13 BadLength "the length of the settings file is no multiple of 32"
+    /// Number 14: the version of the gate's record is not known to the reader.
+    14 UnknownVersion "the version of the settings record is not known"
+    /// Number 15: a field of the gate's record is out of range, or a byte that says nothing is not zero.
+    15 BadField "a field of the settings record is out of range, or a reserved byte is not zero"
 }
 
 #[cfg(feature = "std")]

@@ -23,6 +23,15 @@ impl Variant {
             Variant::Rfc5424 => 2,
         }
     }
+
+    pub(crate) const fn from_number(number: u32) -> Option<Variant> {
+        match number {
+            0 => Some(Variant::Either),
+            1 => Some(Variant::Rfc3164),
+            2 => Some(Variant::Rfc5424),
+            _ => None,
+        }
+    }
 }
 
 /// The year of a timestamp that names none, as those of RFC 3164: 0 to 9999.

@@ -1,4 +1,4 @@
-//! The twelve functions of the archive, each behind a safe function over slices and numbers.
+//! The sixteen functions of the archive, each behind a safe function over slices and numbers.
 //!
 //! This and `texts` are the only modules with `unsafe`. What makes each call safe is the same: the archive's functions are total, whatever
 //! the bytes, numbers and lengths. They read and write within the counts that they are given and keep nothing after the call.
@@ -105,6 +105,31 @@ pub(crate) struct SumAnswer {
     pub(crate) sum: u64,
 }
 
+/// What a reader of a settings file answers: 0 and the settings, or the number of a refusal and zeros. The host is a place in the file.
+#[repr(C)]
+#[derive(Clone, Copy, Debug, Default, PartialEq, Eq)]
+pub(crate) struct SettingsAnswer {
+    pub(crate) number: u32,
+    pub(crate) version: u32,
+    pub(crate) gate: u32,
+    pub(crate) year: u32,
+    pub(crate) offset: i32,
+    pub(crate) variant: u32,
+    pub(crate) host_start: usize,
+    pub(crate) host_len: usize,
+}
+
+/// What reading with settings answers: 0 and the place of the host, in the line where `holder` is 1 and in the file where it is 2; or
+/// the number of a refusal and zeros.
+#[repr(C)]
+#[derive(Clone, Copy, Debug, Default, PartialEq, Eq)]
+pub(crate) struct SiteAnswer {
+    pub(crate) number: u32,
+    pub(crate) holder: u32,
+    pub(crate) host_start: usize,
+    pub(crate) host_len: usize,
+}
+
 extern "C" {
     fn khamdoriem_interface() -> u32;
 
@@ -190,6 +215,36 @@ extern "C" {
     fn khamdoriem_tally_row(rows: *const Row, rows_len: usize, row: u32) -> SumAnswer;
 
     fn khamdoriem_tally_column(rows: *const Row, rows_len: usize, column: u32) -> SumAnswer;
+
+    fn khamdoriem_settings_read(file: *const u8, file_len: usize, gate: u32) -> SettingsAnswer;
+
+    fn khamdoriem_settings_read_1(file: *const u8, file_len: usize, gate: u32) -> SettingsAnswer;
+
+    fn khamdoriem_settings_write(
+        version: u32,
+        gate: u32,
+        year: u32,
+        offset: i32,
+        variant: u32,
+        host: *const u8,
+        host_len: usize,
+        output: *mut u8,
+        output_len: usize,
+    ) -> Written;
+
+    fn khamdoriem_read_with_settings(
+        file: *const u8,
+        file_len: usize,
+        gate: u32,
+        line: *const u8,
+        line_len: usize,
+        elements: *mut ElementEntry,
+        elements_len: usize,
+        params: *mut ParamEntry,
+        params_len: usize,
+        record: *mut u8,
+        record_len: usize,
+    ) -> SiteAnswer;
 }
 
 /// A facility or a severity as the archive has it: mark 1 and the number, or mark 0 and 0 for none.
@@ -361,6 +416,63 @@ pub(crate) fn tally_row(rows: &[Row], row: u32) -> SumAnswer {
 pub(crate) fn tally_column(rows: &[Row], column: u32) -> SumAnswer {
     // SAFETY: the module's: pointer and count are those of one slice, which is only read.
     unsafe { khamdoriem_tally_column(rows.as_ptr(), rows.len(), column) }
+}
+
+/// The settings of a gate.
+pub(crate) fn settings_read(file: &[u8], gate: u32) -> SettingsAnswer {
+    // SAFETY: the module's: pointer and count are those of one slice, which is only read.
+    unsafe { khamdoriem_settings_read(file.as_ptr(), file.len(), gate) }
+}
+
+/// The settings of a gate, by the reader of version 1.
+pub(crate) fn settings_read_1(file: &[u8], gate: u32) -> SettingsAnswer {
+    // SAFETY: the module's: pointer and count are those of one slice, which is only read.
+    unsafe { khamdoriem_settings_read_1(file.as_ptr(), file.len(), gate) }
+}
+
+/// A record of a settings file.
+pub(crate) fn settings_write(version: u32, gate: u32, settings: Numbers, host: &[u8], output: &mut [u8]) -> Written {
+    // SAFETY: the module's: each pointer and count are those of one slice, and the output, borrowed mutably, is all that is written.
+    unsafe {
+        khamdoriem_settings_write(
+            version,
+            gate,
+            settings.year,
+            settings.offset,
+            settings.variant,
+            host.as_ptr(),
+            host.len(),
+            output.as_mut_ptr(),
+            output.len(),
+        )
+    }
+}
+
+/// Loose reading with the settings of a gate.
+pub(crate) fn read_with_settings(
+    file: &[u8],
+    gate: u32,
+    line: &[u8],
+    elements: &mut [ElementEntry],
+    params: &mut [ParamEntry],
+    record: &mut [u8],
+) -> SiteAnswer {
+    // SAFETY: the module's: each pointer and count are those of one slice, and the three that are written are borrowed mutably.
+    unsafe {
+        khamdoriem_read_with_settings(
+            file.as_ptr(),
+            file.len(),
+            gate,
+            line.as_ptr(),
+            line.len(),
+            elements.as_mut_ptr(),
+            elements.len(),
+            params.as_mut_ptr(),
+            params.len(),
+            record.as_mut_ptr(),
+            record.len(),
+        )
+    }
 }
 
 #[cfg(test)]

@@ -8,6 +8,8 @@ use crate::reading::{Reading, Strict};
 use crate::record::Record;
 use crate::refusal::Refusal;
 use crate::settings::Settings;
+use crate::settings_file::{Gate, SettingsFile};
+use crate::site_reading::SiteReading;
 use crate::sys::{self, ElementEntry, ParamEntry};
 
 /// The tables that a reader fills: one of elements, one of parameters, and the record beside them.
@@ -130,11 +132,48 @@ impl<'memory> Tables<'memory> {
     ) -> Result<LooseAnswer<'line, 'tables>, Refusal> {
         let record = self.record.memory();
         let answer = sys::read_loose(line, settings.numbers(), &mut self.elements, &mut self.params, record);
-        let reading = self.reading(line, answer.number)?;
+        Refusal::check(answer.number)?;
+        let reading = self.reading(line);
         Ok(match answer.whole {
             0 => LooseAnswer::Read(reading),
             _ => LooseAnswer::Whole(WholeLine::new(reading)),
         })
+    }
+
+    /// Reads a line by the loose rules, with the settings that a site's file has for its gate. Variant, year and offset are the
+    /// record's; the host is the line's own, or where it has none the record's.
+    ///
+    /// # Errors
+    ///
+    /// Those of [`SettingsFile::gate`], and then [`LineTooLong`](Refusal::LineTooLong), [`NotUtf8`](Refusal::NotUtf8),
+    /// [`NoReading`](Refusal::NoReading), [`TooManyElements`](Refusal::TooManyElements), [`TooManyParams`](Refusal::TooManyParams):
+    /// the first that applies.
+    ///
+    /// ```
+    /// use khamdoriem::{Gate, SettingsFile, Tables};
+    ///
+    /// let file = *b"\x01\x05\xEA\x07\x3C\x00\x07\x00depot\0\0\0\0\0\0\0\0\0\0\0\0\0\0\0\0\0\0\0";
+    /// let file = SettingsFile::new(&file);
+    /// let mut tables = Tables::new(4, 16);
+    ///
+    /// let own = tables.read_with(file, Gate(7), b"<13>1 - gate7 reader 42 TAP - ok")?;
+    /// assert_eq!((own.host_str(), own.is_default()), (Some("gate7"), false));
+    ///
+    /// let none = tables.read_with(file, Gate(7), b"<13>1 - - reader 42 TAP - ok")?;
+    /// assert_eq!((none.host_str(), none.is_default()), (Some("depot"), true));
+    /// assert_eq!(none.reading().app_name_str(), Some("reader"));
+    /// # Ok::<(), khamdoriem::Refusal>(())
+    /// ```
+    pub fn read_with<'lent, 'tables>(
+        &'tables mut self,
+        file: SettingsFile<'lent>,
+        gate: Gate,
+        line: &'lent [u8],
+    ) -> Result<SiteReading<'lent, 'tables>, Refusal> {
+        let (elements, params, record) = (&mut self.elements, &mut self.params, self.record.memory());
+        let answer = sys::read_with_settings(file.bytes(), gate.0.into(), line, elements, params, record);
+        Refusal::check_settings(answer.number)?;
+        Ok(SiteReading::new(self.reading(line), file, answer))
     }
 
     /// Reads a line by the grammar of RFC 5424, section 6: it is taken exactly when the grammar derives it.
@@ -148,7 +187,8 @@ impl<'memory> Tables<'memory> {
         line: &'line [u8],
     ) -> Result<Reading<'line, 'tables, Strict>, Refusal> {
         let answer = sys::read_strict(line, &mut self.elements, &mut self.params, self.record.memory());
-        self.reading(line, answer.number)
+        Refusal::check(answer.number)?;
+        Ok(self.reading(line))
     }
 
     /// Reads a line strictly where the grammar of RFC 5424 derives it, and else by the loose rules.
@@ -196,19 +236,18 @@ impl<'memory> Tables<'memory> {
         settings: Settings,
     ) -> Result<Answer<'line, 'tables>, Refusal> {
         let answer = sys::read_strict(line, &mut self.elements, &mut self.params, self.record.memory());
-        if answer.number == Refusal::NoReading.number() {
-            self.read_loose(line, settings).map(Answer::Loose)
-        } else {
-            self.reading(line, answer.number).map(Answer::Strict)
+        match Refusal::check(answer.number) {
+            Ok(()) => Ok(Answer::Strict(self.reading(line))),
+            Err(Refusal::NoReading) => self.read_loose(line, settings).map(Answer::Loose),
+            Err(refusal) => Err(refusal),
         }
     }
 
-    /// The reading that a reader of this kind has left here, or its refusal.
-    fn reading<'line, Kind>(&self, line: &'line [u8], number: u32) -> Result<Reading<'line, '_, Kind>, Refusal> {
-        Refusal::check(number)?;
+    /// The reading that a reader of this kind has left here.
+    fn reading<'line, Kind>(&self, line: &'line [u8]) -> Reading<'line, '_, Kind> {
         let elements = &self.elements[..self.record.elements()];
         let params = &self.params[..self.record.params()];
-        Ok(Reading::new(line, &self.record, elements, params))
+        Reading::new(line, &self.record, elements, params)
     }
 }
 

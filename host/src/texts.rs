@@ -10,6 +10,7 @@
 //! - **Unescaped**. Of a value that is UTF-8 either unescaping makes UTF-8: `WholeCharacters`, `lookup`. It asks that of all texts,
 //!   but what lookup writes depends on those of the tables alone (`Looks` in `crates/lookup/specs/Lookup.antt`), so a strict reading's
 //!   message is of no account.
+//! - **Settings**. The host of a settings record is bytes of 33 to 126: `inRange` in `crates/settings/specs/Record.antt`.
 //! - **Printed**. Of texts that are UTF-8 printing makes UTF-8: `WholeCharacters`, `print`.
 //!
 //! A reading lets nobody change its line, its record or its tables, so what held when it was read holds while it lives. The archive
@@ -21,6 +22,7 @@ use crate::answer::WholeLine;
 use crate::elements::{Element, Param, Unescape};
 use crate::reading::{Loose, Reading, Strict};
 use crate::refusal::Refusal;
+use crate::site_reading::SiteReading;
 
 /// The text that these bytes are.
 ///
@@ -112,6 +114,14 @@ impl<'line> WholeLine<'line, '_> {
     pub fn message_str(&self) -> &'line str {
         // SAFETY: Loose.
         unsafe { text(self.message()) }
+    }
+}
+
+impl<'lent> SiteReading<'lent, '_> {
+    /// The [`host`](SiteReading::host).
+    pub fn host_str(&self) -> Option<&'lent str> {
+        // SAFETY: Loose, Settings.
+        self.host().map(|host| unsafe { text(host) })
     }
 }
 

@@ -214,6 +214,10 @@ fn refusals_have_numbers_and_words() {
         (Refusal::CellFull, 10, "the cell of the tally holds 4,294,967,295 already"),
         (Refusal::BadCount, 11, "the count of a frame is none, and the stream has ended"),
         (Refusal::FrameTooLong, 12, "a frame of over 8,192 bytes was passed over"),
+        (Refusal::NoSuchGate, 9, "the settings file has no record of the gate"),
+        (Refusal::BadLength, 13, "the length of the settings file is no multiple of 32"),
+        (Refusal::UnknownVersion, 14, "the version of the settings record is not known"),
+        (Refusal::BadField, 15, "a field of the settings record is out of range, or a reserved byte is not zero"),
     ];
     for (refusal, number, words) in all {
         let error: Box<dyn std::error::Error> = Box::new(refusal);

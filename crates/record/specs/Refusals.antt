@@ -1,7 +1,7 @@
 -- The numbers a caller may get back, in the order in which they are checked (RULES Numbers).
 use Prim.Native.Nat.{ℕ}
 use Rattle.record.specs.declared.Refusal.{Refusal}
-use Rattle.record.specs.declared.Refusal.the-variants.{LineTooLong, BadSetting, NotUtf8, NoReading, TooManyElements, TooManyParams, Unsuitable, NotFound, OutputShort, CellFull, BadCount, FrameTooLong}
+use Rattle.record.specs.declared.Refusal.the-variants.{LineTooLong, BadSetting, NotUtf8, NoReading, TooManyElements, TooManyParams, Unsuitable, NotFound, OutputShort, CellFull, BadCount, FrameTooLong, BadLength, UnknownVersion, BadField}
 
 abbrev pub refusalNumber : Refusal → ℕ
 -- line over 8,192 bytes
@@ -28,3 +28,9 @@ refusalNumber CellFull = 10
 refusalNumber BadCount = 11
 -- a frame of over 8,192 bytes
 refusalNumber FrameTooLong = 12
+-- a settings file whose length is no multiple of 32
+refusalNumber BadLength = 13
+-- a version of settings that is not known
+refusalNumber UnknownVersion = 14
+-- a settings field out of range, or a reserved byte not zero
+refusalNumber BadField = 15

@@ -90,6 +90,9 @@ pub enum Refusal {
     CellFull,
     BadCount,
     FrameTooLong,
+    BadLength,
+    UnknownVersion,
+    BadField,
 }
 
 // What the loose reader answers: the record and both counts; the whole line as the message, where the rules give no reading; or why not.
@@ -230,6 +233,9 @@ pub fn refusal_number(r: Refusal) -> u32
         Refusal::CellFull => 10,
         Refusal::BadCount => 11,
         Refusal::FrameTooLong => 12,
+        Refusal::BadLength => 13,
+        Refusal::UnknownVersion => 14,
+        Refusal::BadField => 15,
     }
 }
 

@@ -1,0 +1,10 @@
+pub mod Signs
+pub mod Zeros
+pub mod Fields
+pub mod Taking
+pub mod Seeking
+pub mod Telling
+pub mod Writing
+pub mod Meanings
+pub mod Back
+pub mod Examples

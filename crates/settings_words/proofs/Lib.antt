@@ -1,0 +1,4 @@
+pub mod Records
+pub mod Numbers
+pub mod Ranges
+pub mod Examples

@@ -1,0 +1,4 @@
+pub mod Site
+pub mod Numbers
+pub mod Laws
+pub mod Steps
