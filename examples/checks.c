@@ -271,6 +271,53 @@ static void check_refused_readings(void) {
 }
 
 /* Tables of no entries, at any address that is not null; records that are a byte short. */
+/* A line that the strict reader refuses with 4, and how far it is right. */
+static int right_to(const char *text, size_t reach) {
+    struct khamdoriem_read answer;
+    start(text);
+    answer = strict();
+    return answer.number == KHAMDORIEM_NO_READING && answer.whole == 0 && answer.reach == reach;
+}
+
+static void check_reach(void) {
+    const char *whole = "<13>1 2024-02-29T10:01:02.5Z h a p m [t@32473 ms=\"212\"] \xEF\xBB\xBFT\xC3\xBCr";
+    struct khamdoriem_read answer;
+    fill(0x5A);
+    CHECK(right_to("<13>1 2023-02-29T10:01:02Z h a p m - x", 15)); /* up to and with the 2 of the day */
+    CHECK(right_to("<13>1 2024-02-30T10:01:02Z h a p m - x", 14));
+    CHECK(right_to("<192>1 - h a p m - x", 3));
+    CHECK(right_to("<13>1 - h a p m [id a=\"x]y\"]", 24));
+    CHECK(right_to("<13>1 - h a p m [id][id] x", 23)); /* the id could be longer */
+    CHECK(right_to("<13>1 - h a p m [id a=\"\xC3x\"] x", 24));
+    CHECK(right_to("tap ok", 0));
+    CHECK(right_to("", 0));
+    /* a line cut short is right to its end */
+    CHECK(right_to("<13>1 2023-02-2", 15));
+    CHECK(right_to("<13>1 - h a p m [id a=\"x\\", 25));
+    start("<13>1 - h a p m [id a=\"");
+    add("x", KHAMDORIEM_LINE_LIMIT - len);
+    answer = strict();
+    CHECK(answer.number == KHAMDORIEM_NO_READING && answer.reach == KHAMDORIEM_LINE_LIMIT);
+    CHECK(strict_into(0, 0).reach == KHAMDORIEM_LINE_LIMIT);
+    CHECK(filled(0x5A));
+    /* the others have none */
+    add("x", 1);
+    CHECK(strict().number == KHAMDORIEM_LINE_TOO_LONG && strict().reach == 0);
+    start(whole);
+    CHECK(strict().number == KHAMDORIEM_DONE && strict().reach == 0);
+    CHECK(strict_into(0, 1).number == KHAMDORIEM_TOO_MANY_ELEMENTS && strict_into(0, 1).reach == 0);
+    CHECK(strict_into(1, 0).number == KHAMDORIEM_TOO_MANY_PARAMS && strict_into(1, 0).reach == 0);
+    answer = khamdoriem_read_strict(line, len, elements, 1, params, 1, record, KHAMDORIEM_STRICT_RECORD - 1);
+    CHECK(answer.number == KHAMDORIEM_OUTPUT_SHORT && answer.reach == 0);
+    /* each of its beginnings is read, or right to its end */
+    for (len = strlen(whole); len--;) {
+        answer = strict();
+        CHECK(answer.number == KHAMDORIEM_DONE ? answer.reach == 0 : answer.reach == len);
+    }
+    start("tap ok");
+    CHECK(loose().whole == 1 && loose().reach == 0);
+}
+
 static void check_no_room(void) {
     uint8_t nothing = 0x5A;
     khamdoriem_element *no_elements = elements + KHAMDORIEM_ELEMENTS_ENOUGH + SPARE;
@@ -954,6 +1001,7 @@ int main(void) {
     check_loose_fields();
     check_variants();
     check_refused_readings();
+    check_reach();
     check_no_room();
     check_output();
     check_alignment();

@@ -137,6 +137,14 @@ static void measure_strict(const char *what, size_t count) {
     measure(what, read_strict, KHAMDORIEM_DONE);
 }
 
+/* The same with a byte behind the elements that is wrong: how far the line is right is found by a second look at it. */
+static void measure_broken(const char *what, size_t count) {
+    start("<0>1 2026-01-02T03:04:05.678Z h a p m ");
+    add_elements(count);
+    line[len < KHAMDORIEM_LINE_LIMIT ? len++ : len - 1] = 'x';
+    measure(what, read_strict, KHAMDORIEM_NO_READING);
+}
+
 int main(void) {
     measure("no call: what the end of a thread takes, and so the least that is seen here", no_call, KHAMDORIEM_DONE);
     start("<13>Feb  5 10:01:02 gate7 reader[42]: [a x=\"1\"][a x=\"2\"] tap ok");
@@ -161,6 +169,10 @@ int main(void) {
     measure_strict("read_strict, 512 elements", 512);
     measure_strict("read_strict, 513 elements", 513);
     measure_strict("read_strict, 8,192 bytes of elements", 2067);
+    measure_broken("read_strict, 8 elements and a byte that is wrong", 8);
+    measure_broken("read_strict, 64 elements and a byte that is wrong", 64);
+    measure_broken("read_strict, 512 elements and a byte that is wrong", 512);
+    measure_broken("read_strict, 8,192 bytes of elements, the last of them wrong", 2067);
     printf("stack: at most %lu bytes, and KHAMDORIEM_STACK is %d\n", (unsigned long)most, KHAMDORIEM_STACK);
     return most <= KHAMDORIEM_STACK ? 0 : 1;
 }

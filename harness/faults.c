@@ -82,6 +82,43 @@ struct khamdoriem_read khamdoriem_read_loose(const uint8_t *line, size_t line_le
     return a;
 }
 
+/* How far a line goes that is this one but for some bytes: the whole line where it is not refused with 4. */
+static size_t reach_of(const uint8_t *line, size_t line_len) {
+    khamdoriem_element element;
+    khamdoriem_param param;
+    uint8_t record;
+    struct khamdoriem_read a = right_read_strict(line, line_len, &element, 0, &param, 0, &record, 0);
+    return a.number == 4 ? a.reach : line_len;
+}
+
+/* The same where each element's id has another first byte, so that no two are alike. */
+static size_t reach_of_other_ids(const uint8_t *line, size_t line_len) {
+    static uint8_t copy[KHAMDORIEM_LINE_LIMIT];
+    uint8_t next = '0';
+    memcpy(copy, line, line_len);
+    for (size_t i = 1; i + 1 < line_len; i++)
+        if (copy[i - 1] == ']' && copy[i] == '[' && copy[i + 1] > ' ' && copy[i + 1] < 127 && !strchr("=]\"", copy[i + 1]) && next < '<') copy[i + 1] = next++;
+    return reach_of(copy, line_len);
+}
+
+/* The same where the month, if there is one, is January. */
+static size_t reach_of_january(const uint8_t *line, size_t line_len) {
+    static uint8_t copy[KHAMDORIEM_LINE_LIMIT];
+    size_t at = 0;
+    memcpy(copy, line, line_len);
+    while (at < line_len && copy[at] != ' ') at++;
+    if (at + 8 < line_len && reach_of(line, line_len) >= at + 8 && copy[at + 1] != '-') copy[at + 6] = '0', copy[at + 7] = '1';
+    return reach_of(copy, line_len);
+}
+
+/* Does an id end here, after 30 bytes, though a byte of a name stands here? */
+static int stops_in_id(const uint8_t *line, size_t line_len, size_t at) {
+    if (at < 31 || at >= line_len || line[at - 31] != '[') return 0;
+    for (size_t i = at - 30; i <= at; i++)
+        if (line[i] <= ' ' || line[i] > '~' || strchr("=]\"", line[i])) return 0;
+    return 1;
+}
+
 struct khamdoriem_read khamdoriem_read_strict(const uint8_t *line, size_t line_len, khamdoriem_element *elements, size_t elements_len,
                                               khamdoriem_param *params, size_t params_len, uint8_t *record, size_t record_len) {
     struct khamdoriem_read a = right_read_strict(line, line_len, elements, elements_len, params, params_len, record, record_len);
@@ -89,6 +126,16 @@ struct khamdoriem_read khamdoriem_read_strict(const uint8_t *line, size_t line_l
     case 13: if (a.number == 0 && WORD(record, HOST + 2) == 255) a.number = 4; break;       /* the host's limit off by one */
     case 14: if (a.number == 0 && WORD(record, HAS_MESSAGE) && WORD(record, MESSAGE_LEN) == 0) WORD(record, HAS_MESSAGE) = 0; break; /* an empty message taken for none */
     case 32: if (a.number == 0 && WORD(record, DIGITS) == 6) WORD(record, DIGITS)++; break; /* the point counted with the digits */
+    case 105: if (a.number == 4 && a.reach < line_len) a.reach++; break;                     /* how far it goes, and the byte that is wrong */
+    case 106: if (a.number == 4 && a.reach) a.reach--; break;                                /* one byte less */
+    case 107: a.reach = 0; break;                                                            /* nothing reported */
+    case 108: if (a.number == 4) a.reach = line_len; break;                                  /* always the whole line */
+    case 109: if (a.number == 4) a.reach = reach_of_other_ids(line, line_len); break;        /* ids that are used taken for free */
+    case 110: if (a.number == 4) a.reach = reach_of_january(line, line_len); break;          /* 31 days in every month */
+    case 111: if (a.number == 0) a.reach = line_len; break;                                  /* a length beside a reading */
+    case 112: if (a.number == 5) a.reach = line_len; break;                                  /* a length beside another refusal */
+    case 113: if (a.number == 4 && stops_in_id(line, line_len, a.reach)) a.reach++; break;   /* the 91 ids behind one of 31 bytes not asked for */
+    case 114: if (a.number == 4 && a.reach && line[a.reach - 1] >= 0xC2 && line[a.reach - 1] <= 0xF4) a.reach--; break; /* a character that is not whole not counted */
     }
     return a;
 }

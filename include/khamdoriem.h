@@ -24,8 +24,8 @@
    - Nothing is kept after a call and nothing is allocated. There is no state but a stream's and a tally, which the
      caller keeps: threads need no lock as long as each has its own.
 
-   A call takes at most KHAMDORIEM_STACK bytes of stack. The archive calls memset and nothing else, has no writable
-   data, and is position-independent: it links into programs of any kind and into shared objects. */
+   A call takes at most KHAMDORIEM_STACK bytes of stack. The archive calls memcpy and memset and nothing else, has no
+   writable data, and is position-independent: it links into programs of any kind and into shared objects. */
 #ifndef KHAMDORIEM_H
 #define KHAMDORIEM_H
 
@@ -194,7 +194,11 @@ typedef struct khamdoriem_param {
 } khamdoriem_param;
 
 /* What a reader answers. number is 0 where the record is laid out, else that of the refusal. whole is 1 where a loose
-   line has no reading, so that the record is the message alone, which is the whole line; else it is 0. reach is 0. */
+   line has no reading, so that the record is the message alone, which is the whole line; else it is 0.
+   reach says, with 4 of read_strict, how far the line is right: it is the length of the longest beginning of the line
+   that some line of the strict grammar, of any length, also begins with. Where it is below the line's length, line[reach]
+   is the first byte that is wrong, at column reach + 1; where it is the line's length, the line was cut short. With every
+   other number, 0 too, and from read_loose it is 0. */
 struct khamdoriem_read {
     uint32_t number;
     uint32_t whole;
@@ -297,7 +301,8 @@ struct khamdoriem_read khamdoriem_read_loose(const uint8_t *line, size_t line_le
                                              uint8_t *record, size_t record_len) KHAMDORIEM_NO_NULL;
 
 /* Reads a line by the grammar of RFC 5424, which asks for no settings. record has KHAMDORIEM_STRICT_RECORD bytes or
-   more. */
+   more. Where the grammar derives none the answer's reach says how far the line is right, which takes a second look at
+   the line; the tables need no room for it. */
 struct khamdoriem_read khamdoriem_read_strict(const uint8_t *line, size_t line_len,
                                               khamdoriem_element *elements, size_t elements_len,
                                               khamdoriem_param *params, size_t params_len,

@@ -1,7 +1,7 @@
 //! Before anything is measured: the readers answer alike on every line that is read, so that the same work is compared.
 use crate::gate;
 use crate::readers::{interface, rust, Lent};
-use crate::shapes::{Shape, GROWING, IDS, LENGTHS, SLOW};
+use crate::shapes::{Shape, BROKEN, GROWING, IDS, LENGTHS, SLOW};
 use crate::{sites, streams, tallies};
 
 // Words of the record (docs/INTERFACE.md). In interface 1 it has no word of digits.
@@ -76,6 +76,20 @@ fn ids(shape: &Shape, lent: &mut Lent) -> Result<(), String> {
     Ok(())
 }
 
+/// A line that breaks behind its last element: the strict reader refuses it with 4; how far it says that the line is right, and how far it is, are told.
+fn broken(shape: &Shape, lent: &mut Lent) -> Result<(), String> {
+    for &bytes in &LENGTHS[1..] {
+        let none = format!("{bytes} bytes have no room for '{}'", shape.name);
+        let line = shape.line(bytes).ok_or(none.clone())?;
+        let answer = lent.strict(line.as_bytes());
+        if answer.number() != 4 {
+            return Err(format!("the strict reader answers {}: {line}", answer.number()));
+        }
+        println!("answer {} {bytes} refused\nreach {} {bytes} {} {}", shape.name, shape.name, answer.reach(), shape.right(bytes).ok_or(none)?);
+    }
+    Ok(())
+}
+
 /// Checks the file and all shapes, and says on standard output what was found, as rows of the results.
 pub fn check(text: &str) -> Result<(), String> {
     if interface() != INTERFACE {
@@ -94,6 +108,9 @@ pub fn check(text: &str) -> Result<(), String> {
     }
     for shape in &IDS {
         ids(shape, &mut lent)?;
+    }
+    for (shape, _) in &BROKEN {
+        broken(shape, &mut lent)?;
     }
     streams::check()?;
     tallies::check()?;

@@ -25,6 +25,11 @@ impl Answer {
     pub fn is_whole(&self) -> bool {
         self.whole == 1
     }
+
+    /// How far a line that the strict reader refuses with 4 is right. An archive of before that was told says 0.
+    pub fn reach(&self) -> usize {
+        self.reach
+    }
 }
 
 /// An archive of before there was one loose reader (bench/run, --before) answers the number alone, and 4 where there is no reading.
@@ -40,6 +45,10 @@ impl Answer {
 
     pub fn is_whole(&self) -> bool {
         self.0 == 4
+    }
+
+    pub fn reach(&self) -> usize {
+        0
     }
 }
 

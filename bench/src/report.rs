@@ -1,7 +1,7 @@
 //! BENCH.md, from the results.
 use crate::price::price;
 use crate::results::Results;
-use crate::shapes::{GROWING, LENGTHS, SLOW};
+use crate::shapes::{BROKEN, GROWING, LENGTHS, SLOW};
 use crate::sites;
 use crate::streams::CUTS;
 use crate::tallies;
@@ -117,6 +117,27 @@ fn slow(results: &Results) -> Result<String, String> {
     Ok(page + "\n")
 }
 
+fn broken(results: &Results) -> Result<String, String> {
+    let mut page = String::from(
+        "## What it costs to say where a line breaks\n\n\
+         Lines of structured data read strictly, in instructions a byte at 1,024 and at 8,192 bytes, and the same with a byte behind their last element that is wrong: they are refused with 4, and the answer says how far they are right. The aim is at most 3 times.\n\n",
+    );
+    add(&mut page, "| line | read, 1,024 | 8,192 | broken, 1,024 | 8,192 | times, 1,024 | 8,192 |\n|---|---|---|---|---|---|---|");
+    for (shape, intact) in &BROKEN {
+        let of = |name| -> Result<(f64, f64), String> { Ok((results.a_byte(name, LENGTHS[1], "strict")?, results.a_byte(name, LENGTHS[2], "strict")?)) };
+        for bytes in &LENGTHS[1..] {
+            let told = |i| results.number(&["reach", shape.name, &bytes.to_string()], i);
+            if told(0)? != told(1)? {
+                return Err(format!("{} at {bytes} bytes is right for {} bytes, and {} are told", shape.name, told(1)?, told(0)?));
+            }
+        }
+        let (read, refused) = (of(intact.name)?, of(shape.name)?);
+        let cells = [read.0, read.1, refused.0, refused.1].map(cost).join(" | ");
+        add(&mut page, &format!("| {} | {cells} | {:.2} | {:.2} |", intact.what, refused.0 / read.0, refused.1 / read.1));
+    }
+    Ok(page + "\n")
+}
+
 /// The functions that the compiler left as such, with the instructions a line of each. Those below one are left out.
 fn functions(results: &Results) -> Result<String, String> {
     let columns = [("3164", "loose"), ("5424", "loose"), ("5424", "strict")];
@@ -201,7 +222,7 @@ fn folded(line: &str) -> String {
 }
 
 pub fn page(results: &Results) -> Result<String, String> {
-    let page = intro(results)? + &lines(results)? + &times(results)? + &growing(results)? + &slow(results)? + &price(results)? + &streams(results)? + &tallies(results)? + &sites(results)? + &functions(results)?;
+    let page = intro(results)? + &lines(results)? + &times(results)? + &growing(results)? + &slow(results)? + &price(results)? + &broken(results)? + &streams(results)? + &tallies(results)? + &sites(results)? + &functions(results)?;
     Ok(page.lines().map(|line| folded(line) + "\n").collect())
 }
 

@@ -5,6 +5,7 @@
 //!     answer SHAPE BYTES read|refused  the strict reader's answer, of a line of ids
 //!     before SHAPE BYTES read|refused  the same, by the archive of --before
 //!     elements SHAPE BYTES COUNT       how many elements a line of ids has
+//!     reach SHAPE BYTES COUNT RIGHT    how far the strict reader says that a broken line is right, and how far it is
 //!     insns KIND READER COUNT          instructions of a pass over the lines of a kind
 //!     nanos KIND READER COUNT          nanoseconds a line, the median of nine, where the machine runs the program itself
 //!     shape SHAPE BYTES READER COUNT   instructions of one reading

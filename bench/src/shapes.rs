@@ -42,6 +42,11 @@ const fn listed(name: &'static str, what: &'static str, elements: fn(usize) -> V
     Shape { name, what, head: (HEAD, ""), units: Units::List(elements), fill: ' ', tail: " x" }
 }
 
+/// The same with a byte that is wrong behind the last element: no message follows it without a space.
+const fn broken(name: &'static str, elements: fn(usize) -> Vec<String>) -> Shape {
+    Shape { name, what: "", head: (HEAD, ""), units: Units::List(elements), fill: 'x', tail: "xx" }
+}
+
 fn stages(n: usize) -> Vec<String> {
     (0..n).map(|i| format!("[st{i:03}@32473 name=\"paddle\" ms=\"31\"]")).collect()
 }
@@ -83,8 +88,20 @@ pub const IDS: [Shape; 7] = [
     shape("ids-same", "`[a]` again and again", (HEAD, ""), "[a]", ' ', " x"),
 ];
 
+/// Lines that break near their end, each beside the one that does not.
+pub const BROKEN: [(Shape, &Shape); 7] = [
+    (broken("broken-elements", stages), &GROWING[1]),
+    (broken("broken-in-order", ids::in_order), &IDS[0]),
+    (broken("broken-shuffled", ids::shuffled), &IDS[1]),
+    (broken("broken-late", ids::late), &IDS[2]),
+    (broken("broken-middle", ids::middle), &IDS[3]),
+    (broken("broken-elsewhere", ids::each_elsewhere), &IDS[4]),
+    (broken("broken-binary", ids::binary), &IDS[5]),
+];
+
 pub fn named(name: &str) -> Option<&'static Shape> {
-    GROWING.iter().chain(&SLOW).chain(&IDS).find(|s| s.name == name)
+    let broken = BROKEN.iter().map(|(broken, _)| broken);
+    GROWING.iter().chain(&SLOW).chain(&IDS).chain(broken).find(|s| s.name == name)
 }
 
 impl Shape {
@@ -95,6 +112,13 @@ impl Shape {
     /// Whether no unit stands in the line twice.
     pub fn is_varied(&self) -> bool {
         matches!(self.units, Units::List(_))
+    }
+
+    /// How many bytes of the line of `len` bytes its head and its units are.
+    pub fn right(&self, len: usize) -> Option<usize> {
+        let head = self.head.0.len() + self.head.1.len();
+        let room = len.checked_sub(head + self.tail.len())?;
+        Some(head + self.units.fitting(room).len())
     }
 
     /// The line of `len` bytes, if `len` has room for the shape.

@@ -77,7 +77,7 @@ impl Tables {
     }
 
     fn compare(&self, service: &'static str, got: Read, number: u32, wanted: &Answer, words: usize) -> Check {
-        let answer = Read { number, whole: (number == 0 && wanted.whole) as u32, reach: 0 };
+        let answer = Read { number, whole: (number == 0 && wanted.whole) as u32, reach: wanted.reach };
         if got != answer {
             return fault(service, if got.number == number { "kind of answer" } else { "number" }, got, answer);
         }

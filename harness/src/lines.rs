@@ -382,6 +382,54 @@ impl Lines {
         (self.settings(), self.random.next())
     }
 
+    /// A line of the strict grammar, or past one of its limits, for one wound: short, at the limits, with ids, or the one where an id of 31 bytes is
+    /// used and so are most or all of the 91 that it begins.
+    pub fn next_strict(&mut self, line: &mut Vec<u8>) {
+        line.clear();
+        match self.random.below(64) {
+            0 => self.ids(line),
+            1 => self.full_id(line),
+            2..=15 => self.near_limit(line),
+            _ => self.plain(line),
+        }
+    }
+
+    /// A short strict line.
+    fn plain(&mut self, line: &mut Vec<u8>) {
+        self.put(line, &["<0>1 ", "<13>1 ", "<191>9 ", "<100>42 ", "<34>999 "]);
+        self.put(line, &["-", "-", "2024-02-29T23:59:59Z", "2023-02-28T00:00:00.123456-23:59", "1999-12-31T10:01:02.5+01:00", "2000-04-30T09:19:39Z"]);
+        for _ in 0..4 {
+            line.push(b' ');
+            self.put(line, &["-", "gate7", "reader", "42", "TAP", "h:"]);
+        }
+        line.push(b' ');
+        let ids: &[&str] = self.random.pick(&[&["t@32473"][..], &["a", "b", "aa"], &["x", "xy", "xyz"], &["exampleSDID@32473", "exampleSDID@32474"]]);
+        match self.random.below(3) {
+            0 => line.push(b'-'),
+            _ => {
+                for id in ids {
+                    line.extend_from_slice(format!("[{id}").as_bytes());
+                    self.put(line, &["", " ms=\"212\"", " a=\"\" a=\"x\\\"y\\\\\"", " n=\"\u{e9}\u{20ac}\u{10348}\""]);
+                    line.push(b']');
+                }
+            }
+        }
+        self.put(line, &["", " ", " ok", " \u{feff}\u{e9}t\u{e9} \u{20ac}", " [a]"]);
+    }
+
+    /// A line that uses an id of 31 bytes and the ids that it begins, all or all but one, and then has the 31 bytes again.
+    fn full_id(&mut self, line: &mut Vec<u8>) {
+        let front = "i".repeat(31);
+        let skipped = self.random.of(&[0, 0, b'!', b'~', b'q', b'\\']);
+        line.extend_from_slice(format!("<13>1 - h a p m [{front}]").as_bytes());
+        for b in (33..=126u8).filter(|b| !matches!(b, b'=' | b']' | b'"') && *b != skipped) {
+            line.extend_from_slice(format!("[{front}{}]", b as char).as_bytes());
+        }
+        line.push(b'[');
+        line.extend_from_slice(&front.as_bytes()[..30 + self.random.below(2)]);
+        self.put(line, &["", "]", "q]", " a=\"b\"]", "qq]"]);
+    }
+
     /// A line of the strict grammar with a set of ids, few or many, that differ in some of their bytes; in half of the lines one of them comes again.
     fn ids(&mut self, line: &mut Vec<u8>) {
         const ALL: &[u8] = b"!#$%&'()*+,-./0123456789:;<>?@ABCXYZ[\\^_`abcxyz{|}~";

@@ -4,6 +4,7 @@
 //!     harness --streams N [--seed N] [--part I/N]     compares N streams with a machine by hand, and ends with one line
 //!     harness --tallies N [--seed N] [--part I/N]     compares N additions to tallies, and all reads, with a tally by hand, and ends with one line
 //!     harness --settings N [--seed N] [--part I/N]    compares N settings files, writes and lines read with them, and ends with one line
+//!     harness --reach N [--seed N] [--part I/N]       compares how far N damaged strict lines go with a machine and a search by hand, and ends with one line
 //!     harness --replay N                              writes a list of N cases with the Rust's answers
 //!     harness --stored FOLDER                         compares the stored output of the program `cases`
 
@@ -16,6 +17,7 @@ mod lent;
 mod lines;
 mod oracle;
 mod random;
+mod reach;
 mod records;
 mod replay;
 mod settings;
@@ -28,6 +30,7 @@ mod tallies;
 
 use compare::{Counts, Desk};
 use lines::Lines;
+use reach::Reaches;
 use shrink::{escaped, shrink, Shown};
 use std::panic::{catch_unwind, AssertUnwindSafe};
 use std::process::ExitCode;
@@ -45,12 +48,13 @@ struct Wanted {
     streams: Option<u64>,
     tallies: Option<u64>,
     settings: Option<u64>,
+    reach: Option<u64>,
     replay: Option<usize>,
     stored: Option<String>,
 }
 
 fn arguments() -> Result<Wanted, String> {
-    let mut wanted = Wanted { seed: 1, cases: 100_000, part: 0, parts: 1, ids: false, streams: None, tallies: None, settings: None, replay: None, stored: None };
+    let mut wanted = Wanted { seed: 1, cases: 100_000, part: 0, parts: 1, ids: false, streams: None, tallies: None, settings: None, reach: None, replay: None, stored: None };
     let mut args = std::env::args().skip(1);
     while let Some(name) = args.next() {
         let value = args.next().ok_or(format!("{name} asks for a value"))?;
@@ -61,6 +65,7 @@ fn arguments() -> Result<Wanted, String> {
             "--streams" => wanted.streams = Some(number(&value)?),
             "--tallies" => wanted.tallies = Some(number(&value)?),
             "--settings" => wanted.settings = Some(number(&value)?),
+            "--reach" => wanted.reach = Some(number(&value)?),
             "--replay" => wanted.replay = Some(number(&value)? as usize),
             "--lines" => match value.as_str() {
                 "all" => wanted.ids = false,
@@ -236,6 +241,37 @@ fn compared_settings(wanted: &Wanted, count: u64) -> ExitCode {
     ExitCode::SUCCESS
 }
 
+fn reach_summary(wanted: &Wanted, counts: &reach::Counts, unexplained: u64) -> String {
+    let reach::Counts { lines, refused, whole, searched, calls } = counts;
+    format!(
+        "seed {} part {}/{}: {lines} lines ({refused} refused, {whole} right to the end, {searched} searched, {calls} calls), {unexplained} unexplained",
+        wanted.seed, wanted.part + 1, wanted.parts
+    )
+}
+
+/// Damaged strict lines against what is told by hand of how far they go; the first difference ends it.
+fn compared_reach(wanted: &Wanted, count: u64) -> ExitCode {
+    let mut reaches = Reaches::new(wanted.seed, wanted.part, wanted.parts);
+    let (start, mut told) = (Instant::now(), Instant::now());
+    while reaches.counts.lines < count {
+        if let Err(difference) = reaches.next() {
+            println!("harness: {} differs", difference.what);
+            println!("  line     \"{}\"", difference.line);
+            println!("  ours     {}", difference.ours);
+            println!("  wanted   {}", difference.wanted);
+            println!("harness: {}", reach_summary(wanted, &reaches.counts, 1));
+            return ExitCode::FAILURE;
+        }
+        if told.elapsed() >= Duration::from_secs(5) {
+            told = Instant::now();
+            let rate = reaches.counts.lines as f64 / start.elapsed().as_secs_f64();
+            eprintln!("harness: {} ({rate:.0} lines a second)", reach_summary(wanted, &reaches.counts, 0));
+        }
+    }
+    println!("harness: {}", reach_summary(wanted, &reaches.counts, 0));
+    ExitCode::SUCCESS
+}
+
 fn main() -> ExitCode {
     match arguments() {
         Err(error) => {
@@ -247,6 +283,7 @@ fn main() -> ExitCode {
         Ok(wanted @ Wanted { streams: Some(count), .. }) => compared_streams(&wanted, count),
         Ok(wanted @ Wanted { tallies: Some(count), .. }) => compared_tallies(&wanted, count),
         Ok(wanted @ Wanted { settings: Some(count), .. }) => compared_settings(&wanted, count),
+        Ok(wanted @ Wanted { reach: Some(count), .. }) => compared_reach(&wanted, count),
         Ok(wanted) => compared(&wanted),
     }
 }

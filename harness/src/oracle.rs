@@ -15,6 +15,8 @@ pub struct Answer {
     pub number: u32,
     /// The whole line is the message, because there is no reading.
     pub whole: bool,
+    /// With 4 of the strict reader, how many bytes of the line some strict line begins with; else 0.
+    pub reach: usize,
     pub words: [u64; STRICT_WORDS],
     pub elements: Vec<Element>,
     pub params: Vec<Param>,
@@ -24,6 +26,7 @@ impl Answer {
     pub fn clear(&mut self, number: u32) {
         self.number = number;
         self.whole = false;
+        self.reach = 0;
         self.words = [0; STRICT_WORDS];
         self.elements.clear();
         self.params.clear();

@@ -2,6 +2,7 @@
 
 use crate::abi::{word, LONGEST};
 use crate::oracle::Answer;
+use crate::reach::reach;
 
 /// A place in the line that moves forward; every step answers None where the grammar derives nothing.
 struct Walk<'a> {
@@ -205,13 +206,20 @@ fn parts(w: &mut Walk, answer: &mut Answer) -> Option<()> {
     Some(())
 }
 
+/// Does the grammar derive the line, of any length?
+pub fn derives(line: &[u8]) -> bool {
+    parts(&mut Walk { line, at: 0 }, &mut Answer::default()).is_some()
+}
+
 pub fn read(line: &[u8], answer: &mut Answer) {
     answer.clear(0);
     if line.len() > LONGEST {
         return answer.clear(1);
     }
     if parts(&mut Walk { line, at: 0 }, answer).is_none() {
-        return answer.clear(4);
+        answer.clear(4);
+        answer.reach = reach(line);
+        return;
     }
     answer.words[word::ELEMENTS] = answer.elements.len() as u64;
     answer.words[word::PARAMS] = answer.params.len() as u64;

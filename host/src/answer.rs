@@ -48,7 +48,7 @@ impl<'line, 'tables> LooseAnswer<'line, 'tables> {
     ///
     /// # Errors
     ///
-    /// [`NoReading`](Refusal::NoReading) where they give none.
+    /// [`NoReading`](Refusal::NoReading) where they give none; no place in the line is said.
     ///
     /// ```
     /// # use khamdoriem::{LooseAnswer, Offset, Refusal, Settings, Tables, Variant, Year};
@@ -57,13 +57,13 @@ impl<'line, 'tables> LooseAnswer<'line, 'tables> {
     /// let reading = tables.read_loose(b"<13>1 - gate7 reader 42 TAP - ok", settings)?.exact()?;
     /// assert_eq!(reading.message(), b"ok");
     /// let refused = tables.read_loose(b"paddle stuck", settings).and_then(LooseAnswer::exact);
-    /// assert_eq!(refused.unwrap_err(), Refusal::NoReading);
+    /// assert_eq!(refused.unwrap_err(), Refusal::NoReading { reach: None });
     /// # Ok::<(), Refusal>(())
     /// ```
     pub fn exact(self) -> Result<Reading<'line, 'tables, Loose>, Refusal> {
         match self {
             LooseAnswer::Read(reading) => Ok(reading),
-            LooseAnswer::Whole(_) => Err(Refusal::NoReading),
+            LooseAnswer::Whole(_) => Err(Refusal::NoReading { reach: None }),
         }
     }
 

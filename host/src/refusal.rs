@@ -2,7 +2,12 @@
 
 use core::fmt;
 
-/// The refusals, one row each: number, name and words. All else here follows from the rows, but for the second meaning of 9.
+use crate::sys::ReadAnswer;
+
+/// The number of the one refusal that says more than its number.
+const NO_READING: u32 = 4;
+
+/// The refusals, one row each: number, name and words. All else here follows from the rows, but for the refusal that has a place, and the second meaning of 9.
 macro_rules! refusals {
     ($($(#[$doc:meta])+ $number:literal $name:ident $words:literal)+) => {
         /// Why a call was refused. A refused call has changed nothing that it was lent. (A [`Splitter`](crate::Splitter) moves on with
@@ -22,8 +27,9 @@ macro_rules! refusals {
         ///
         /// fn number(refusal: Refusal) -> u32 {
         ///     match refusal {
-        ///         LineTooLong | NotUtf8 | NoReading | TooManyElements | TooManyParams | OutputTooShort | NoSuchParam => 1,
+        ///         LineTooLong | NotUtf8 | TooManyElements | TooManyParams | OutputTooShort | NoSuchParam => 1,
         ///         NoSuchGate | CellFull | BadCount | FrameTooLong | BadLength | UnknownVersion | BadField => 2,
+        ///         NoReading { .. } => 4,
         ///         Unexpected(number) => number,
         ///     }
         /// }
@@ -34,6 +40,25 @@ macro_rules! refusals {
             $($(#[$doc])+ $name,)+
             /// Number 9 of a [`SettingsFile`](crate::SettingsFile): it has no record of the gate.
             NoSuchGate,
+            /// Number 4: there is no reading. The strict reader gives it, the reading [with settings](crate::Tables::read_with), and
+            /// [`LooseAnswer::exact`](crate::LooseAnswer::exact).
+            NoReading {
+                /// Of the strict reader, how far the line is right: the length of the longest beginning of it that some line of the
+                /// strict grammar, of any length, also begins with. It is below the line's length where the byte that stands there
+                /// is wrong, and the line's length where the line was cut short. The loose rules have no such place.
+                ///
+                /// ```
+                /// # use khamdoriem::{Refusal, Tables};
+                /// # let mut tables = Tables::new(4, 16);
+                /// let refused = tables.read_strict(b"<13>1 2023-02-29T10:01:02Z gate7 reader 42 TAP - ok").unwrap_err();
+                /// assert_eq!(refused, Refusal::NoReading { reach: Some(15) });
+                /// assert_eq!(refused.to_string(), "the line has no reading from column 16 on");
+                ///
+                /// let cut = tables.read_strict(b"<13>1 2023-02-2").unwrap_err();
+                /// assert_eq!(cut.reach(), Some(15));
+                /// ```
+                reach: Option<usize>,
+            },
             /// Any other number. The proved archive gives none to a call of this crate, so another one has been linked.
             Unexpected(u32),
         }
@@ -44,7 +69,25 @@ macro_rules! refusals {
                 match self {
                     $(Refusal::$name => $number,)+
                     Refusal::NoSuchGate => Refusal::NoSuchParam.number(),
+                    Refusal::NoReading { .. } => NO_READING,
                     Refusal::Unexpected(number) => number,
+                }
+            }
+
+            /// How far a line that the strict reader refused is right, as [`NoReading`](Refusal::NoReading) says; `None` of every
+            /// other refusal.
+            pub const fn reach(self) -> Option<usize> {
+                match self {
+                    Refusal::NoReading { reach } => reach,
+                    _ => None,
+                }
+            }
+
+            /// The column of the first byte that is wrong or missing, counted in bytes from 1: one more than [`reach`](Refusal::reach).
+            pub const fn column(self) -> Option<usize> {
+                match self.reach() {
+                    Some(reach) => Some(reach + 1),
+                    None => None,
                 }
             }
 
@@ -61,6 +104,7 @@ macro_rules! refusals {
             pub(crate) const fn check_settings(number: u32) -> Result<(), Refusal> {
                 match Refusal::check(number) {
                     Err(Refusal::NoSuchParam) => Err(Refusal::NoSuchGate),
+                    Err(Refusal::Unexpected(NO_READING)) => Err(Refusal::NoReading { reach: None }),
                     checked => checked,
                 }
             }
@@ -71,6 +115,8 @@ macro_rules! refusals {
                 match self {
                     $(Refusal::$name => f.pad($words),)+
                     Refusal::NoSuchGate => f.pad("the settings file has no record of the gate"),
+                    Refusal::NoReading { reach: None } => f.pad("the line has no reading"),
+                    Refusal::NoReading { reach: Some(reach) } => write!(f, "the line has no reading from column {} on", reach + 1),
                     Refusal::Unexpected(number) => {
                         write!(f, "the archive answered {number}, which no call of khamdoriem brings about")
                     }
@@ -85,9 +131,6 @@ refusals! {
     1 LineTooLong "the line has over 8,192 bytes"
     /// Number 3: the line is not UTF-8. The loose reader asks for that, and a reading that is to pass for one of its.
     3 NotUtf8 "the line is not UTF-8"
-    /// Number 4: there is no reading. The strict reader gives it, the reading [with settings](crate::Tables::read_with), and
-    /// [`LooseAnswer::exact`](crate::LooseAnswer::exact).
-    4 NoReading "the line has no reading"
     /// Number 5: the reading has more elements than the table.
     5 TooManyElements "the reading has more elements than the table"
     /// Number 6: the reading has more parameters than the table.
@@ -108,6 +151,16 @@ refusals! {
     14 UnknownVersion "the version of the settings record is not known"
     /// Number 15: a field of the gate's record is out of range, or a byte that says nothing is not zero.
     15 BadField "a field of the settings record is out of range, or a reserved byte is not zero"
+}
+
+impl Refusal {
+    /// What an answer of the strict reader means: 4 comes with how far the line is right.
+    pub(crate) const fn check_strict(answer: ReadAnswer) -> Result<(), Refusal> {
+        match answer.number {
+            NO_READING => Err(Refusal::NoReading { reach: Some(answer.reach) }),
+            number => Refusal::check(number),
+        }
+    }
 }
 
 #[cfg(feature = "std")]

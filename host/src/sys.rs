@@ -33,7 +33,8 @@ impl ParamEntry {
 }
 
 /// What a reader answers. `number` is 0 where it left a record, else that of the refusal. `whole` is 1 where a loose line has no
-/// reading, so that the record is the whole line as the message; else it is 0. `reach` is 0.
+/// reading, so that the record is the whole line as the message; else it is 0. `reach` is, with 4 of
+/// the strict reader, the length of the longest beginning that some strict line has too; else it is 0.
 #[repr(C)]
 #[derive(Clone, Copy, Debug, PartialEq, Eq)]
 pub(crate) struct ReadAnswer {

@@ -176,7 +176,8 @@ impl<'memory> Tables<'memory> {
         Ok(SiteReading::new(self.reading(line), file, answer))
     }
 
-    /// Reads a line by the grammar of RFC 5424, section 6: it is taken exactly when the grammar derives it.
+    /// Reads a line by the grammar of RFC 5424, section 6: it is taken exactly when the grammar derives it. Where it is not,
+    /// [`NoReading`](Refusal::NoReading) says how far it is right.
     ///
     /// # Errors
     ///
@@ -187,7 +188,7 @@ impl<'memory> Tables<'memory> {
         line: &'line [u8],
     ) -> Result<Reading<'line, 'tables, Strict>, Refusal> {
         let answer = sys::read_strict(line, &mut self.elements, &mut self.params, self.record.memory());
-        Refusal::check(answer.number)?;
+        Refusal::check_strict(answer)?;
         Ok(self.reading(line))
     }
 
@@ -236,9 +237,9 @@ impl<'memory> Tables<'memory> {
         settings: Settings,
     ) -> Result<Answer<'line, 'tables>, Refusal> {
         let answer = sys::read_strict(line, &mut self.elements, &mut self.params, self.record.memory());
-        match Refusal::check(answer.number) {
+        match Refusal::check_strict(answer) {
             Ok(()) => Ok(Answer::Strict(self.reading(line))),
-            Err(Refusal::NoReading) => self.read_loose(line, settings).map(Answer::Loose),
+            Err(Refusal::NoReading { .. }) => self.read_loose(line, settings).map(Answer::Loose),
             Err(refusal) => Err(refusal),
         }
     }

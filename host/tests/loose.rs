@@ -53,7 +53,7 @@ fn priority() {
     assert_eq!(levels("<0>1 - h a p m - x"), Ok((Some(0), Some(0))));
     assert_eq!(levels("<013>1 - h a p m - x"), Ok((Some(1), Some(5))));
     // Not consumed: RFC 5424 has no version behind it, and RFC 3164 no timestamp.
-    assert_eq!(levels("<256>1 - h a p m - x"), Err(Refusal::NoReading));
+    assert_eq!(levels("<256>1 - h a p m - x"), Err(Refusal::NoReading { reach: None }));
     assert_eq!(levels("Feb 5 10:01:02 h t: m"), Ok((None, None)));
 }
 
@@ -102,11 +102,11 @@ fn a_timestamp_without_a_year_is_local() {
 #[test]
 fn days_by_month_and_year() {
     let seconds = |line: &str| at_60(line, |r| r.timestamp().unwrap().seconds());
-    assert_eq!(seconds("<13>1 2023-02-29T00:00:00Z h a p m - x"), Err(Refusal::NoReading));
+    assert_eq!(seconds("<13>1 2023-02-29T00:00:00Z h a p m - x"), Err(Refusal::NoReading { reach: None }));
     assert_eq!(seconds("<13>1 2024-02-29T00:00:00Z h a p m - x"), Ok(1_709_164_800));
     // The year of RFC 3164 is the setting's.
     let line = "<13>Feb 29 00:00:00 h t: m";
-    assert_eq!(seconds(line), Err(Refusal::NoReading));
+    assert_eq!(seconds(line), Err(Refusal::NoReading { reach: None }));
     let leap = settings(Variant::Either, 2024, 0);
     assert_eq!(read(line, leap, |r| r.timestamp().unwrap().seconds()), Ok(1_709_164_800));
 }
@@ -123,7 +123,7 @@ fn a_quoted_value_may_hold_a_bracket() {
 
 #[test]
 fn a_host_that_ends_in_a_colon_has_no_reading_in_rfc5424() {
-    assert_eq!(message("<13>1 - h: a p m - x"), Err(Refusal::NoReading));
+    assert_eq!(message("<13>1 - h: a p m - x"), Err(Refusal::NoReading { reach: None }));
     assert_eq!(message("<13>1 - h a p m - x"), Ok("x".to_string()));
 }
 
@@ -164,7 +164,7 @@ fn versions_have_32_bits() {
     let version = |line: &str| at_60(line, |r| r.protocol());
     assert_eq!(version("<13>007 - h a p m - x"), Ok(Protocol::Rfc5424 { version: 7 }));
     assert_eq!(version("<13>4294967295 - h a p m - x"), Ok(Protocol::Rfc5424 { version: u32::MAX }));
-    assert_eq!(version("<13>4294967296 - h a p m - x"), Err(Refusal::NoReading));
+    assert_eq!(version("<13>4294967296 - h a p m - x"), Err(Refusal::NoReading { reach: None }));
 }
 
 #[test]
@@ -222,7 +222,10 @@ fn a_fraction_keeps_its_digits() {
     }
     // A point without a digit is no fraction, and ten digits are none: what is past the ninth could not be kept.
     for fraction in [".", ".1234567890", ".0000000000"] {
-        assert_eq!(stamp(&format!("<13>1 2026-01-05T10:01:02{fraction}Z h a p m - x")), Err(Refusal::NoReading));
+        assert_eq!(
+            stamp(&format!("<13>1 2026-01-05T10:01:02{fraction}Z h a p m - x")),
+            Err(Refusal::NoReading { reach: None })
+        );
     }
 }
 
@@ -252,10 +255,10 @@ fn variants_choose_the_protocol() {
     let reads = |line, variant| read(line, settings(variant, 2023, 0), |r| r.protocol());
     assert_eq!(reads(old, Variant::Either), Ok(Protocol::Rfc3164));
     assert_eq!(reads(old, Variant::Rfc3164), Ok(Protocol::Rfc3164));
-    assert_eq!(reads(old, Variant::Rfc5424), Err(Refusal::NoReading));
+    assert_eq!(reads(old, Variant::Rfc5424), Err(Refusal::NoReading { reach: None }));
     assert_eq!(reads(new, Variant::Either), Ok(Protocol::Rfc5424 { version: 1 }));
     assert_eq!(reads(new, Variant::Rfc5424), Ok(Protocol::Rfc5424 { version: 1 }));
-    assert_eq!(reads(new, Variant::Rfc3164), Err(Refusal::NoReading));
+    assert_eq!(reads(new, Variant::Rfc3164), Err(Refusal::NoReading { reach: None }));
 }
 
 #[test]
@@ -327,5 +330,5 @@ fn either_is_taken_as_a_reading_by_who_wants_it() {
     assert_eq!(tables.read_loose(line, at).unwrap().exact().unwrap().host(), Some(&b"gate7"[..]));
     let reading = tables.read_loose(b"tap ok", at).unwrap().or_whole();
     assert_eq!((reading.host(), reading.message()), (None, &b"tap ok"[..]));
-    assert_eq!(tables.read_loose(b"tap ok", at).unwrap().exact().unwrap_err(), Refusal::NoReading);
+    assert_eq!(tables.read_loose(b"tap ok", at).unwrap().exact().unwrap_err(), Refusal::NoReading { reach: None });
 }

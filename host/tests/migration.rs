@@ -36,7 +36,7 @@ fn functions() {
     assert_eq!(parse_message(OLD, &mut tables).unwrap().message_str(), "tap ok");
     assert_eq!(parse_message("no line", &mut tables).unwrap().message_str(), "no line");
     assert_eq!(parse_message_exact(OLD, &mut tables).unwrap().message_str(), "tap ok");
-    assert_eq!(parse_message_exact("no line", &mut tables).unwrap_err(), Refusal::NoReading);
+    assert_eq!(parse_message_exact("no line", &mut tables).unwrap_err(), Refusal::NoReading { reach: None });
     // Its own error is gone; what is here beside it is of the length and of the tables.
     assert_eq!(parse_message(&"x".repeat(MAX_LINE + 1), &mut tables).unwrap_err(), Refusal::LineTooLong);
     assert_eq!(parse_message(OLD, &mut Tables::new(0, 0)).unwrap_err(), Refusal::TooManyElements);

@@ -206,7 +206,9 @@ fn refusals_have_numbers_and_words() {
     let all = [
         (Refusal::LineTooLong, 1, "the line has over 8,192 bytes"),
         (Refusal::NotUtf8, 3, "the line is not UTF-8"),
-        (Refusal::NoReading, 4, "the line has no reading"),
+        (Refusal::NoReading { reach: None }, 4, "the line has no reading"),
+        (Refusal::NoReading { reach: Some(0) }, 4, "the line has no reading from column 1 on"),
+        (Refusal::NoReading { reach: Some(36) }, 4, "the line has no reading from column 37 on"),
         (Refusal::TooManyElements, 5, "the reading has more elements than the table"),
         (Refusal::TooManyParams, 6, "the reading has more parameters than the table"),
         (Refusal::OutputTooShort, 8, "the output is shorter than the result"),

@@ -201,7 +201,7 @@ fn the_host_is_the_lines_own_or_the_settings() {
     let old = b"Dec 31 23:59:59 reader[1]: m";
     let site = tables.read_with(file, Gate(7), old).unwrap();
     assert_eq!((site.host_str(), site.reading().timestamp().unwrap().seconds()), (Some("depot"), 1_798_757_999));
-    assert_eq!(tables.read_with(file, Gate(9), old).unwrap_err(), Refusal::NoReading);
+    assert_eq!(tables.read_with(file, Gate(9), old).unwrap_err(), Refusal::NoReading { reach: None });
 }
 
 #[test]
@@ -214,7 +214,7 @@ fn refusals_of_the_settings_come_before_those_of_the_line() {
     for (line, refusal) in [
         (&long[..], Refusal::LineTooLong),
         (b"\xFF", Refusal::NotUtf8),
-        (b"antenna detuned", Refusal::NoReading),
+        (b"antenna detuned", Refusal::NoReading { reach: None }),
         (with_element, Refusal::TooManyElements),
     ] {
         assert_eq!(tables.read_with(file, Gate(7), line).unwrap_err(), refusal);

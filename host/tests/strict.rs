@@ -8,6 +8,11 @@ fn taken(line: &[u8]) -> Result<(), Refusal> {
     Tables::new(8, 8).read_strict(line).map(|_| ())
 }
 
+/// No reading, and how many bytes are right.
+fn right_to<T>(reach: usize) -> Result<T, Refusal> {
+    Err(Refusal::NoReading { reach: Some(reach) })
+}
+
 /// Seconds, nanoseconds, digits and minutes of the offset.
 fn stamp(reading: Reading<'_, '_, Strict>) -> (i64, u32, u8, i32) {
     let t = reading.timestamp().unwrap();
@@ -47,7 +52,7 @@ fn a_mark_in_front_of_a_message_stays_and_asks_for_utf8() {
     let mut tables = Tables::new(0, 0);
     let marked = tables.read_strict("<13>1 - h a p m - \u{feff}tür".as_bytes()).unwrap();
     assert_eq!(marked.message(), Some("\u{feff}tür".as_bytes()));
-    assert_eq!(taken(b"<13>1 - h a p m - \xef\xbb\xbf\xff"), Err(Refusal::NoReading));
+    assert_eq!(taken(b"<13>1 - h a p m - \xef\xbb\xbf\xff"), right_to(21));
 }
 
 #[test]
@@ -61,26 +66,26 @@ fn absent_fields() {
 #[test]
 fn line_by_line() {
     // The loose reader takes the first and has no reading of the second.
-    assert_eq!(taken(br#"<13>1 - h a p m [id a="x]y"]"#), Err(Refusal::NoReading));
+    assert_eq!(taken(br#"<13>1 - h a p m [id a="x]y"]"#), right_to(24));
     assert_eq!(taken(b"<13>1 - h: a p m - x"), Ok(()));
-    assert_eq!(taken(b"<13>1 2023-02-29T00:00:00Z h a p m - x"), Err(Refusal::NoReading));
+    assert_eq!(taken(b"<13>1 2023-02-29T00:00:00Z h a p m - x"), right_to(15));
     assert_eq!(taken(b"<13>1 2024-02-29T00:00:00Z h a p m - x"), Ok(()));
     assert_eq!(taken(b"<191>1 - h a p m - x"), Ok(()));
-    assert_eq!(taken(b"<192>1 - h a p m - x"), Err(Refusal::NoReading));
-    assert_eq!(taken(b"<013>1 - h a p m - x"), Err(Refusal::NoReading));
-    assert_eq!(taken(br#"<13>1 - h a p m [id a="x\"]"#), Err(Refusal::NoReading));
+    assert_eq!(taken(b"<192>1 - h a p m - x"), right_to(3));
+    assert_eq!(taken(b"<013>1 - h a p m - x"), right_to(2));
+    assert_eq!(taken(br#"<13>1 - h a p m [id a="x\"]"#), right_to(26));
     assert_eq!(taken(br#"<13>1 - h a p m [id a="x\\"]"#), Ok(()));
     assert_eq!(taken(b"<13>1 - h a p m [x]"), Ok(()));
-    assert_eq!(taken(b"<13>1 - h a p m x"), Err(Refusal::NoReading));
-    assert_eq!(taken(b" <13>1 - h a p m - x"), Err(Refusal::NoReading));
-    assert_eq!(taken(b""), Err(Refusal::NoReading));
+    assert_eq!(taken(b"<13>1 - h a p m x"), right_to(16));
+    assert_eq!(taken(b" <13>1 - h a p m - x"), right_to(0));
+    assert_eq!(taken(b""), right_to(0));
 }
 
 #[test]
 fn a_host_has_at_most_255_bytes() {
     let with_host = |len: usize| format!("<13>1 - {} a p m - x", "h".repeat(len));
     assert_eq!(taken(with_host(255).as_bytes()), Ok(()));
-    assert_eq!(taken(with_host(256).as_bytes()), Err(Refusal::NoReading));
+    assert_eq!(taken(with_host(256).as_bytes()), right_to(8 + 255));
 }
 
 #[test]
@@ -109,8 +114,8 @@ fn a_fraction_has_at_most_six_digits_and_keeps_them() {
     assert_eq!(read(".000"), Ok((0, 3, 1_000_000)));
     assert_eq!(read(".000001"), Ok((1_000, 6, 1_000)));
     assert_eq!(read(".500000"), Ok((500_000_000, 6, 1_000)));
-    for fraction in [".", ".0000001", ".500000000"] {
-        assert_eq!(read(fraction), Err(Refusal::NoReading));
+    for (fraction, right) in [(".", 26), (".0000001", 32), (".500000000", 32)] {
+        assert_eq!(read(fraction), right_to(right));
     }
 }
 
@@ -153,7 +158,7 @@ fn timestamps_of_rfc5424() {
     };
     assert_eq!(seconds("1985-04-12T23:20:50.52Z"), Ok(482_196_050));
     assert_eq!(seconds("1985-04-12T19:20:50.52-04:00"), Ok(482_196_050));
-    assert_eq!(seconds("2003-08-24T05:14:15.000000003-07:00"), Err(Refusal::NoReading));
-    assert_eq!(seconds("2003-08-24t05:14:15Z"), Err(Refusal::NoReading));
-    assert_eq!(seconds("2003-08-24T05:14:60Z"), Err(Refusal::NoReading));
+    assert_eq!(seconds("2003-08-24T05:14:15.000000003-07:00"), right_to(32));
+    assert_eq!(seconds("2003-08-24t05:14:15Z"), right_to(16));
+    assert_eq!(seconds("2003-08-24T05:14:60Z"), right_to(23));
 }

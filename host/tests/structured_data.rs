@@ -219,7 +219,8 @@ fn ids_of_a_strict_line_differ() {
         assert_eq!(count(&some), Ok(many));
         some.push(ids[0].clone());
         if many < ids.len() {
-            assert_eq!(count(&some), Err(Refusal::NoReading));
+            // Right up to the byte behind the id that is used.
+            assert_eq!(count(&some), Err(Refusal::NoReading { reach: Some(15 + 4 * many + 3) }));
         }
     }
 }
@@ -228,7 +229,10 @@ fn ids_of_a_strict_line_differ() {
 fn one_id_twice_is_no_strict_reading() {
     let mut tables = Tables::new(0, 0);
     let mut refused = |line: &[u8]| tables.read_strict(line).err().unwrap();
-    assert_eq!(refused(br#"<13>1 - h a p m [t@32473 ms="1"][t@32473 ms="2"] x"#), Refusal::NoReading);
+    assert_eq!(
+        refused(br#"<13>1 - h a p m [t@32473 ms="1"][t@32473 ms="2"] x"#),
+        Refusal::NoReading { reach: Some(40) }
+    );
     assert_eq!(refused(br#"<13>1 - h a p m [t@32473 ms="1"][T@32473 ms="2"] x"#), Refusal::TooManyElements);
     assert_eq!(refused(br#"<13>1 - h a p m [t@32473 ms="1" ms="1"] x"#), Refusal::TooManyElements);
 }

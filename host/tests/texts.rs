@@ -80,7 +80,7 @@ fn a_strict_reading_passes_for_a_loose_one_where_its_message_is_utf8() {
         (" ", Ok("")),
         (" Tür", Ok("Tür")),
         (" \u{feff}Tür", Ok("\u{feff}Tür")),
-        ("\u{0}", Err(Refusal::NoReading)),
+        ("\u{0}", Err(Refusal::NoReading { reach: Some(17) })),
     ] {
         let line = format!("<13>1 - h a p m -{message}");
         let read = tables.read_strict(line.as_bytes()).and_then(Reading::into_loose);

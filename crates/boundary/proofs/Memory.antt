@@ -25,7 +25,7 @@ use Rattle.layout.proofs.Words.{words-append}
 use Rattle.layout.proofs.Back.{laid-held, laid-counts, laid-back}
 use Rattle.loose.specs.Loose.{Reads}
 use Rattle.grammar.specs.Reading.{StrictReads}
-use Rattle.exports.specs.Exports.{leftAnswer, bytesOf, strictBytesOf, LeavesLoose, LeavesStrict}
+use Rattle.exports.specs.Exports.{leftAnswer, bytesOf, strictBytesOf, withReach, LeavesLoose, LeavesStrict}
 use Rattle.suited.specs.Served.{Left}
 use Rattle.boundary.specs.Called.{read, whole, Holds, StrictCommon, WholeLine, MemoryHolds}
 use Rattle.boundary.proofs.Fitting.{left-in}
@@ -51,14 +51,14 @@ refused BadField = refl
 abbrev done : ℕ → ReadAnswer
 done mark = record { number = 0; whole = mark; reach = 0 }
 
-abbrev refusing : Refusal → ReadAnswer
-refusing f = record { number = refusalNumber f; whole = 0; reach = 0 }
+abbrev refusing : ℕ → Refusal → ReadAnswer
+refusing n f = record { number = refusalNumber f; whole = 0; reach = n }
 
 -- a refusal's number is never 0, with too little memory neither
-never : {A : Type 0} (mark : ℕ) (f : Refusal) (size room : ℕ) → done mark ≡ leftAnswer (refusing f) size room → A
-never {A} mark f size room h = go (ltb room size) (rw (refused f) at h)
+never : {A : Type 0} (n mark : ℕ) (f : Refusal) (size room : ℕ) → done mark ≡ leftAnswer (refusing n f) size room → A
+never {A} n mark f size room h = go (ltb room size) (rw (refused f) at h)
   where
-    go : (b : Bool) → done mark ≡ (if b then refusing f else refusing f) → A
+    go : (b : Bool) → done mark ≡ (if b then refusing n f else refusing n f) → A
     go true h = clash (ap (λ (a : ReadAnswer). eqb (a .number) 0) h ∙ refused f)
     go false h = clash (ap (λ (a : ReadAnswer). eqb (a .number) 0) h ∙ refused f)
 
@@ -99,7 +99,7 @@ module _ {line memory : List ℕ} {elements params : List (List ℕ)} where
         go (loose.Read r e p) k t q =
             laid-holds (λ r e p. Reads line variant year offset e₀ p₀ (loose.Read r e p) elements params) (λ r e p k. Left.by-loose k) r e p _ q k
         go (loose.Whole r) k t q = apart 0 1 recordSize (length out) refl refl t
-        go (loose.Refused f) k t q = never 0 f recordSize (length out) t
+        go (loose.Refused f) k t q = never 0 0 f recordSize (length out) t
 
     whole-holds : LeavesLoose line variant year offset e₀ p₀ out whole elements params memory → Holds memory (WholeLine line variant year offset e₀ p₀ elements params)
     whole-holds h = go (h .answer) (rw (← h .elements-are, ← h .params-are) at (h .reads)) (h .told-is) (h .record-is)
@@ -110,18 +110,18 @@ module _ {line memory : List ℕ} {elements params : List (List ℕ)} where
         go (loose.Whole r) k t q =
             laid-holds (WholeLine line variant year offset e₀ p₀ elements params) (λ r e p k. Left.by-whole (k .reads) (k .no-elements) (k .no-params))
             r 0 0 _ q (record { reads = k; no-elements = refl; no-params = refl })
-        go (loose.Refused f) k t q = never 1 f recordSize (length out) t
+        go (loose.Refused f) k t q = never 0 1 f recordSize (length out) t
 
   module _ {e₀ p₀ : List (List ℕ)} {out : List ℕ} where
     strict-holds : LeavesStrict line e₀ p₀ out read elements params memory → Holds memory (StrictCommon line e₀ p₀ elements params)
-    strict-holds h = go (h .answer) (rw (← h .elements-are, ← h .params-are) at (h .reads)) (h .told-is) (h .record-is)
+    strict-holds h = let l = h .leaves in go (h .reach) (l .answer) (rw (← l .elements-are, ← l .params-are) at (l .reads)) (l .told-is) (l .record-is)
       where
-        go : (a : StrictReading) → StrictReads line e₀ p₀ a elements params → read ≡ leftAnswer (strictReadAnswerOf a) strictSize (length out)
+        go : (n : ℕ) (a : StrictReading) → StrictReads line e₀ p₀ a elements params → read ≡ leftAnswer (withReach n (strictReadAnswerOf a)) strictSize (length out)
             → memory ≡ filled (strictBytesOf a) out → Holds memory (StrictCommon line e₀ p₀ elements params)
-        go (strict.Read s e p) h n q =
+        go k (strict.Read s e p) h n q =
             laid-holds (StrictCommon line e₀ p₀ elements params) (λ r e p k. Left.by-strict (k .reads) (k .common))
             (s .common) e p _ (q ∙ strict-front s e p _) (record { full = s; common = refl; reads = h })
-        go (strict.Refused f) h n q = never 0 f strictSize (length out) n
+        go k (strict.Refused f) h n q = never k 0 f strictSize (length out) n
 
 pub memory-holds : MemoryHolds
 memory-holds = record { loose = loose-holds; whole-line = whole-holds; strict = strict-holds }

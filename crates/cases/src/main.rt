@@ -2,6 +2,7 @@
 // offset, `S` for a strict one; then, after one space, the line that is read.
 use case_text::words::say;
 use libc::STDIN_FILENO;
+use program::Takes;
 
 fn show(text: &[u8]) {
     let s = case_text::case::settings(text, 2);
@@ -35,7 +36,10 @@ fn show_cases(list: &[u8]) {
 }
 
 fn main() {
-    let a = program::arguments(false);
+    let a = program::arguments(Takes {
+        forms: false,
+        places: false,
+    });
     let help = *b"\nWrites the answer to each case of standard input in words. A case is a line:\n\
         \x20   R VARIANT YEAR OFFSET LINE    a loose reading\n\
         \x20   S LINE                        a strict one\n";

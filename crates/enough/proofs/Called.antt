@@ -14,7 +14,7 @@ use Rattle.record.specs.declared.ReadAnswer.{ReadAnswer}
 use Rattle.record.specs.declared.Refusal.{Refusal}
 use Rattle.record.specs.declared.Written.the-variants.{Refused}
 use Rattle.layout.specs.Layout.{recordSize, strictSize}
-use Rattle.exports.specs.Exports.{leftAnswer, firstRefusal, ServesPrint, ServesLookup}
+use Rattle.exports.specs.Exports.{leftAnswer, withReach, firstRefusal, ServesPrint, ServesLookup}
 use Rattle.exports.specs.Exports.Serves.{held, unheld}
 use Rattle.suited.proofs.AfterReading.{left-short}
 use Rattle.boundary.specs.Called.{Called}
@@ -56,9 +56,9 @@ enough-called n Line short =
       loose-not-5 = λ {line} {out} l a h. eqb-false _ 5 (rw (h .told-is) (told-other 5 refl (readAnswerOf (h .answer)) recordSize (length out) (loose-fits n (short line l) (h .reads) .0 a)));
       loose-not-6 = λ {line} {out} l a h. eqb-false _ 6 (rw (h .told-is) (told-other 6 refl (readAnswerOf (h .answer)) recordSize (length out) (loose-fits n (short line l) (h .reads) .1 a)));
       loose-not-8 = λ {line} {out} l a h. eqb-false _ 8 (rw (h .told-is) (told-same (readAnswerOf (h .answer)) recordSize (length out) a (loose-fits n (short line l) (h .reads) .2)));
-      strict-not-5 = λ {line} {out} l a h. eqb-false _ 5 (rw (h .told-is) (told-other 5 refl (strictReadAnswerOf (h .answer)) strictSize (length out) (strict-fits n (short line l) (h .reads) .0 a)));
-      strict-not-6 = λ {line} {out} l a h. eqb-false _ 6 (rw (h .told-is) (told-other 6 refl (strictReadAnswerOf (h .answer)) strictSize (length out) (strict-fits n (short line l) (h .reads) .1 a)));
-      strict-not-8 = λ {line} {out} l a h. eqb-false _ 8 (rw (h .told-is) (told-same (strictReadAnswerOf (h .answer)) strictSize (length out) a (strict-fits n (short line l) (h .reads) .2)));
+      strict-not-5 = λ {line} {out} l a h. eqb-false _ 5 (rw (h .leaves .told-is) (told-other 5 refl (withReach (h .reach) (strictReadAnswerOf (h .leaves .answer))) strictSize (length out) (strict-fits n (short line l) (h .leaves .reads) .0 a)));
+      strict-not-6 = λ {line} {out} l a h. eqb-false _ 6 (rw (h .leaves .told-is) (told-other 6 refl (withReach (h .reach) (strictReadAnswerOf (h .leaves .answer))) strictSize (length out) (strict-fits n (short line l) (h .leaves .reads) .1 a)));
+      strict-not-8 = λ {line} {out} l a h. eqb-false _ 8 (rw (h .leaves .told-is) (told-same (withReach (h .reach) (strictReadAnswerOf (h .leaves .answer))) strictSize (length out) a (strict-fits n (short line l) (h .leaves .reads) .2)));
       print-not-8 = λ {line} l a called h. eqb-false _ 8 (print-called n (short line l) a called h);
       lookup-not-8 = λ {line} l a h. eqb-false _ 8 (lookup-called n (short line l) a h);
     }

@@ -26,8 +26,10 @@ use Rattle.grammar.specs.Reading.StrictReads.{too-long, underivable, elements-o
 use Rattle.loose.specs.Loose.{outcomeOf, answered, tableAfter, rowsOf, Reads}
 use Rattle.strict.specs.Scan as scan
 use Rattle.strict.proofs.Readings.{answers}
-use Rattle.exports.specs.Exports.{shortAnswer, Leaves, bytesOf, strictBytesOf, LeavesLoose, LeavesStrict}
-use Rattle.exports.specs.Steps.{LeftBy, Left, StrictLeft}
+use Rattle.viable.specs.Viable.{Reports}
+use Rattle.exports.specs.Exports.{shortAnswer, Leaves, bytesOf, strictBytesOf, withReach, LeavesLoose, LeavesStrict}
+use Rattle.exports.specs.Steps.{LeftBy, Left, StrictTold, StrictShort, StrictLeft}
+use Rattle.exports.specs.Steps.StrictTold.{broke, other}
 
 -- ---- the record of an answer
 
@@ -42,11 +44,26 @@ pub left-read : (r : Reading) (old : List ℕ) (a : ReadAnswer) → a ≡ readAn
     → (new : List ℕ) → new ≡ filled (recordBytes (x .reading) (x .elements) (x .params)) old → Left r old a new
 left-read r old a e z x ex new q = left-done readAnswerOf bytesOf r old a e z new (rw ex at q)
 
-pub strict-read : (r : StrictReading) (old : List ℕ) (a : ReadAnswer) → a ≡ strictReadAnswerOf r → a .number ≡ 0 → (x : StrictAnswer) → x ≡ strictAnswerOf r
-    → (new : List ℕ) → new ≡ filled (strictBytes (x .reading) (x .elements) (x .params)) old → StrictLeft r old a new
-strict-read r old a e z x ex new q = left-done strictReadAnswerOf strictBytesOf r old a e z new (rw ex at q)
+-- of a strict reading, whose number is told as it is
+module _ (line : List ℕ) (r : StrictReading) where
+  pub told-broke : (a : ReadAnswer) → a ≡ strictReadAnswerOf r → a .number ≡ 4 → (n : ℕ) → Reports line n → StrictTold line r (record { number = 4; whole = 0; reach = n })
+  told-broke a e q n h = broke n h (rw (← q, e))
 
-pub ruleset left-laws = (left-refused, left-read, strict-read)
+  pub told-other : (a : ReadAnswer) → a ≡ strictReadAnswerOf r → (a .number ≡ 4 → ⊥) → StrictTold line r a
+  told-other a e z = other (rw e at z) e
+
+  pub strict-refused : (old : List ℕ) (a : ReadAnswer) → StrictTold line r a → (a .number ≡ 0 → ⊥) → StrictLeft line r old a old
+  strict-refused old a h z = record { tells = h; record-is = rw (ne-eqb (a .number) 0 z) }
+
+  pub strict-read : (old : List ℕ) (a : ReadAnswer) → StrictTold line r a → a .number ≡ 0 → (x : StrictAnswer) → x ≡ strictAnswerOf r
+      → (new : List ℕ) → new ≡ filled (strictBytes (x .reading) (x .elements) (x .params)) old → StrictLeft line r old a new
+  strict-read old a h z x ex new q = record { tells = h; record-is = rw z (rw ex at q) }
+
+pub ruleset told-laws = (told-broke, told-other)
+
+pub ruleset strict-laws = (strict-refused, strict-read)
+
+pub ruleset left-laws = (left-refused, left-read)
 
 -- ---- a call
 
@@ -129,13 +146,40 @@ strict-unread (elements-over d l h m a b c) q = (b, c)
 strict-unread (params-over d l h k m a b c) q = (b, c)
 strict-unread (accepted d l h k m a b c) q = clash (rw a at q)
 
+-- what is reported of the line, and told beside the number
+abbrev Reported : List ℕ → StrictReading → ReadAnswer → Type 0
+Reported line r a = (n : ℕ) × Reports line n × (a ≡ withReach n (strictReadAnswerOf r))
+
+reported : {line : List ℕ} {e₀ p₀ : List (List ℕ)} {r : StrictReading} {e p : List (List ℕ)} {a : ReadAnswer} → StrictReads line e₀ p₀ r e p → StrictTold line r a
+    → Reported line r a
+reported h (broke n k e) = (n, k, e)
+reported (too-long l a b c) (other z e) = (0, Reports.too-long l refl, e)
+reported (underivable l h a b c) (other z e) = absurd (z (rw a refl))
+reported (elements-over d l h m a b c) (other z e) = (0, Reports.derived d l h refl, e)
+reported (params-over d l h k m a b c) (other z e) = (0, Reports.derived d l h refl, e)
+reported (accepted d l h k m a b c) (other z e) = (0, Reports.derived d l h refl, e)
+
 module _ (line : List ℕ) (e₀ p₀ : List (List ℕ)) (out : List ℕ) where
   pub strict-short : length out < strictSize → (r : StrictReading) → r ≡ scan.answered line (length e₀) (length p₀)
-      → (a : ReadAnswer) → a ≡ shortAnswer (strictReadAnswerOf r) → LeavesStrict line e₀ p₀ out a e₀ p₀ out
+      → (a : ReadAnswer) → StrictShort line r a → LeavesStrict line e₀ p₀ out a e₀ p₀ out
   strict-short l r h a q =
       let t = answers line e₀ p₀ in
-      leaves-short strictReadAnswerOf strictBytesOf strictSize (StrictReads line e₀ p₀) e₀ p₀ out r (t .elements) (t .params) (rw h (t .reads)) l a q
+      let k : StrictReads line e₀ p₀ r (t .elements) (t .params) = rw h (t .reads) in
+      let (n, report, told) = reported k (q .tells) in
+      record {
+        reach = n;
+        reports = report;
+        leaves = leaves-short (λ (r : StrictReading). withReach n (strictReadAnswerOf r)) strictBytesOf strictSize (StrictReads line e₀ p₀) e₀ p₀ out r (t .elements) (t .params) k l a
+            (q .answer-is ∙ ap shortAnswer told);
+      }
 
-  pub strict-all : strictSize ≤ length out → (r : StrictReading) (e p : List (List ℕ)) → StrictReads line e₀ p₀ r e p → (a : ReadAnswer) (new : List ℕ) → StrictLeft r out a new
+  pub strict-all : strictSize ≤ length out → (r : StrictReading) (e p : List (List ℕ)) → StrictReads line e₀ p₀ r e p → (a : ReadAnswer) (new : List ℕ) → StrictLeft line r out a new
       → LeavesStrict line e₀ p₀ out a e p new
-  strict-all l r e p h a new w = leaves-all strictReadAnswerOf strictBytesOf strictSize (StrictReads line e₀ p₀) e₀ p₀ out r e p h l (strict-unread h) a new w
+  strict-all l r e p h a new w =
+      let (n, report, told) = reported h (w .tells) in
+      record {
+        reach = n;
+        reports = report;
+        leaves = leaves-all (λ (r : StrictReading). withReach n (strictReadAnswerOf r)) strictBytesOf strictSize (StrictReads line e₀ p₀) e₀ p₀ out r e p h l (strict-unread h) a new
+            (record { told-is = told; record-is = w .record-is });
+      }

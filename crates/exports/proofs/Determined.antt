@@ -12,8 +12,10 @@ use Rattle.record.specs.declared.Written.{Written}
 use Rattle.record.specs.declared.Refusal.{Refusal}
 use Rattle.record.specs.declared.OutputAnswer.{OutputAnswer}
 use Rattle.record.specs.declared.ReadAnswer.{ReadAnswer}
+use Rattle.record.specs.declared.StrictReading.{StrictReading}
 use Rattle.grammar.proofs.Readings.{strict-determined}
 use Rattle.grammar.specs.Reading.{StrictReads}
+use Rattle.viable.proofs.Laws.{reports-one}
 use Rattle.loose.specs.Loose.{Reads}
 use Rattle.loose.proofs.Determined.{one-reading}
 use Rattle.message.specs.Prints.{Prints}
@@ -22,7 +24,7 @@ use Rattle.lookup.specs.Lookup.{Looks}
 use Rattle.lookup.proofs.Answers.{looks-one}
 use Rattle.layout.specs.Layout.{recordSize, strictSize}
 use Rattle.layout.specs.Incoming.{recordAt, elementCountAt, paramCountAt}
-use Rattle.exports.specs.Exports.{leftAnswer, kept, Leaves, bytesOf, strictBytesOf, LeavesLoose, LeavesStrict, Serves, firstRefusal, ServesPrint, ServesLookup}
+use Rattle.exports.specs.Exports.{leftAnswer, kept, Leaves, bytesOf, strictBytesOf, withReach, LeavesLoose, LeavesStrict, Serves, firstRefusal, ServesPrint, ServesLookup}
 use Rattle.exports.specs.Exports.Serves.{held, unheld}
 
 -- the answer, the tables and the record's memory
@@ -68,8 +70,9 @@ module _ (line : List ℕ) (e₀ p₀ : List (List ℕ)) (out : List ℕ) (a b :
       leaves-one readAnswerOf bytesOf recordSize (Reads line variant year offset e₀ p₀) (one-reading line variant year offset e₀ p₀) e₀ p₀ out a b e e′ p p′ new new′
 
   pub strict-one : LeavesStrict line e₀ p₀ out a e p new → LeavesStrict line e₀ p₀ out b e′ p′ new′ → Same a b e e′ p p′ new new′
-  strict-one =
-      leaves-one strictReadAnswerOf strictBytesOf strictSize (StrictReads line e₀ p₀) (λ r s e₁ e₂ p₁ p₂ h k. strict-determined h k) e₀ p₀ out a b e e′ p p′ new new′
+  strict-one h k =
+      leaves-one (λ (r : StrictReading). withReach (h .reach) (strictReadAnswerOf r)) strictBytesOf strictSize (StrictReads line e₀ p₀) (λ r s e₁ e₂ p₁ p₂ h k. strict-determined h k)
+      e₀ p₀ out a b e e′ p p′ new new′ (h .leaves) (rw (reports-one line (h .reach) (k .reach) (h .reports) (k .reports)) (k .leaves))
 
 module _ (line bytes : List ℕ) (elements params : List (List ℕ)) (old : List ℕ) {a b : OutputAnswer} {new other : List ℕ} where
   pub print-one : ServesPrint line bytes elements params old a new → ServesPrint line bytes elements params old b other → (a ≡ b) × (new ≡ other)

@@ -22,6 +22,7 @@ use Rattle.record.specs.declared.ReadAnswer.{ReadAnswer}
 use Rattle.layout.specs.Layout.{recordSize, strictSize, recordBytes, strictBytes}
 use Rattle.layout.specs.Incoming.{holdsRecord, recordAt, elementCountAt, paramCountAt}
 use Rattle.grammar.specs.Reading.{StrictReads}
+use Rattle.viable.specs.Viable.{Reports}
 use Rattle.loose.specs.Loose.{Reads}
 use Rattle.message.specs.Prints.{Prints}
 use Rattle.lookup.specs.Lookup.{Looks}
@@ -69,8 +70,15 @@ strictBytesOf r = let a = strictAnswerOf r in strictBytes (a .reading) (a .eleme
 abbrev pub LeavesLoose : List ℕ → ℕ → ℕ → ℤ → List (List ℕ) → List (List ℕ) → List ℕ → ReadAnswer → List (List ℕ) → List (List ℕ) → List ℕ → Type 0
 LeavesLoose line variant year offset e₀ p₀ = Leaves readAnswerOf bytesOf recordSize (Reads line variant year offset e₀ p₀) e₀ p₀
 
-abbrev pub LeavesStrict : List ℕ → List (List ℕ) → List (List ℕ) → List ℕ → ReadAnswer → List (List ℕ) → List (List ℕ) → List ℕ → Type 0
-LeavesStrict line e₀ p₀ = Leaves strictReadAnswerOf strictBytesOf strictSize (StrictReads line e₀ p₀) e₀ p₀
+-- an answer with a report beside it
+abbrev pub withReach : ℕ → ReadAnswer → ReadAnswer
+withReach n a = record { number = a .number; whole = a .whole; reach = n }
+
+-- The same of the strict reader, with what is reported of the line: where it broke, for a line with no reading, and else 0.
+pub record LeavesStrict (line : List ℕ) (e₀ p₀ : List (List ℕ)) (out₀ : List ℕ) (a : ReadAnswer) (e₁ p₁ : List (List ℕ)) (out₁ : List ℕ) : Type 0 where
+  pub reach : ℕ
+  pub reports : Reports line reach
+  pub leaves : Leaves (λ (r : StrictReading). withReach reach (strictReadAnswerOf r)) strictBytesOf strictSize (StrictReads line e₀ p₀) e₀ p₀ out₀ a e₁ p₁ out₁
 
 -- ---- printing and lookup
 

@@ -13,14 +13,14 @@ use stream::StreamState;
 ghost use mathlib.Core.Path.{_≡_};
 ghost use Prim.Native.Nat.{_≤_};
 ghost use lib.ListN.{length};
-ghost use Rattle.record.specs.Answers.{readAnswerOf, strictReadAnswerOf, outputAnswerOf};
+ghost use Rattle.record.specs.Answers.{readAnswerOf, outputAnswerOf};
 ghost use Rattle.record.specs.Params.{rows};
 ghost use Rattle.record.specs.declared.Written.the-variants.{Refused};
 ghost use Rattle.layout.specs.Layout.{recordSize, strictSize};
 ghost use Rattle.stream.specs.Machine.{startOf};
 ghost use Rattle.stream.specs.Numbers.{stateOf, startAnswerOf, Splits, finishAnswerOf};
 ghost use Rattle.exports.specs.Exports.{interfaceNumber, shortAnswer, LeavesLoose, LeavesStrict, firstRefusal, ServesPrint, ServesLookup};
-ghost use Rattle.exports.specs.Steps.{Left, StrictLeft};
+ghost use Rattle.exports.specs.Steps.{Left, StrictTold, StrictShort, StrictLeft};
 
 // The number of the interface, which a host compares with that of its header.
 #[no_mangle]
@@ -51,10 +51,25 @@ fn short(r: Reading) -> ReadAnswer
     or_short(record::read_answer_of(r))
 }
 
-fn short_strict(r: StrictReading) -> ReadAnswer
-    ensures { λ a. ⌜ a ≡ shortAnswer (strictReadAnswerOf r) ⌝ }
+// What is told of a strict reading: with 4, where the line broke.
+fn strict_told(line: &[u8], r: StrictReading) -> ReadAnswer
+    ensures { λ a. ⌜ StrictTold (now (line .entry)) r a ⌝ }
 {
-    or_short(record::strict_read_answer_of(r))
+    let a = record::strict_read_answer_of(r);
+    if a.number == 4 {
+        return ReadAnswer {
+            number: 4,
+            whole: 0,
+            reach: reach::reach(line),
+        };
+    }
+    a
+}
+
+fn short_strict(line: &[u8], r: StrictReading) -> ReadAnswer
+    ensures { λ a. ⌜ StrictShort (now (line .entry)) r a ⌝ }
+{
+    or_short(strict_told(line, r))
 }
 
 // What is answered, and the record in `memory` where the number is 0.
@@ -71,11 +86,11 @@ fn leave(r: Reading, memory: &mut [u8]) -> ReadAnswer
     told
 }
 
-fn leave_strict(r: StrictReading, memory: &mut [u8]) -> ReadAnswer
+fn leave_strict(line: &[u8], r: StrictReading, memory: &mut [u8]) -> ReadAnswer
     requires { ⌜ strictSize ≤ length (now memory) ⌝ }
-    ensures { λ a. ⌜ StrictLeft r (now (memory .entry)) a (now (memory .exit)) ⌝ }
+    ensures { λ a. ⌜ StrictLeft (now (line .entry)) r (now (memory .entry)) a (now (memory .exit)) ⌝ }
 {
-    let told = record::strict_read_answer_of(r);
+    let told = strict_told(line, r);
     if told.number != 0 {
         return told;
     }
@@ -121,10 +136,10 @@ pub extern "C" fn khamdoriem_read_strict(
     if room < layout::STRICT_SIZE {
         let e = elements.len();
         let p = params.len();
-        return short_strict(strict::answer(line, e, p));
+        return short_strict(line, strict::answer(line, e, p));
     }
     let r = strict::read(line, elements, params);
-    leave_strict(r, memory)
+    leave_strict(line, r, memory)
 }
 
 // The refusal of bytes that hold no record.

@@ -3,16 +3,30 @@
 use frames::Options;
 use frames::State;
 use frames::Task;
+use program::Takes;
 use record::StrictReading;
 ghost use Prim.Native.Nat.{_≤_, _<_};
 ghost use lib.ListN.{length};
 ghost use Rattle.frames.specs.Tasks.{toRead};
 ghost use Rattle.frames.specs.States.{Keeps};
 
+// What is told of a line that has no reading: how far it is right, and that in words too.
+pub struct Telling {
+    pub place: bool,
+    pub point: bool,
+}
+
 // `refuse` and the number.
 fn write_refusal(number: u32) -> bool {
     let mut text = *b"refuse .............";
     let n = frames::put_count(&mut text, 7, number, b'\n');
+    frames::write(b"list", &text[0..n])
+}
+
+// `refuse` with 4, and how many bytes of the line are right.
+fn write_place(reach: u32) -> bool {
+    let mut text = *b"refuse 4 .............";
+    let n = frames::put_count(&mut text, 9, reach, b'\n');
     frames::write(b"list", &text[0..n])
 }
 
@@ -24,7 +38,7 @@ fn write_counts(elements: u32, params: u32) -> bool {
     frames::write(b"list", &text[0..n])
 }
 
-// A count as it is written. (The tables have 64 and 256 entries: no count reaches the remainder.)
+// A count as it is written. (The tables have 64 and 256 entries, and a line 8,192 bytes: no count reaches the remainder.)
 fn shown(count: usize) -> u32 {
     (count % 0x1_0000_0000) as u32
 }
@@ -58,13 +72,36 @@ fn advance(line: &mut [u8], chunk: &mut [u8], s: State) -> State
     frames::kept(t, said(task))
 }
 
+// Where a line that has no reading breaks, as it is asked for.
+fn write_break(line: &[u8], telling: Telling) -> bool {
+    let n = reach::reach(line);
+    if line.len() < n {
+        return false;
+    }
+    let ok = write_place(shown(n));
+    let point = telling.point;
+    if ok & point {
+        return pointing::point(&line[0..n], &line[n..]);
+    }
+    ok
+}
+
+// A refusal of the strict reader.
+fn refused(line: &[u8], number: u32, telling: Telling) -> bool {
+    let place = telling.place;
+    if (number == 4) & place {
+        return write_break(line, telling);
+    }
+    write_refusal(number)
+}
+
 // What the strict reader answers to a frame is written. Where it cannot be, all is done.
-fn answered(s: State, r: StrictReading) -> State
+fn answered(frame: &[u8], s: State, r: StrictReading, telling: Telling) -> State
     ensures { λ t. ⌜ Keeps s t ⌝ }
 {
     let ok = match r {
         StrictReading::Read(_, e, p) => write_counts(shown(e), shown(p)),
-        StrictReading::Refused(refusal) => write_refusal(record::refusal_number(refusal)),
+        StrictReading::Refused(refusal) => refused(frame, record::refusal_number(refusal), telling),
     };
     frames::kept(s, ok)
 }
@@ -75,6 +112,7 @@ pub fn run(
     elements: &mut [[usize; 2]],
     chunk: &mut [u8],
     options: Options,
+    telling: Telling,
 ) -> bool {
     let blank = record::blank();
     let mut params = [blank; 256];
@@ -84,7 +122,7 @@ pub fn run(
         if frames::is_read(s) {
             let used = frames::to_read(s);
             let r = strict::read(&line[0..used], elements, &mut params);
-            s = answered(s, r);
+            s = answered(&line[0..used], s, r, telling);
         }
     }
     s.ok
@@ -92,8 +130,11 @@ pub fn run(
 
 // What `./list` does in memory that it is lent: what its arguments ask for.
 pub fn list(line: &mut [u8], elements: &mut [[usize; 2]], chunk: &mut [u8]) {
-    let a = program::arguments(true);
-    let usage = *b"usage: ./list [--crlf | --counted] < FILE\n";
+    let a = program::arguments(Takes {
+        forms: true,
+        places: true,
+    });
+    let usage = *b"usage: ./list [--crlf | --counted] [--where | --point] < FILE\n";
     let help =
         *b"\nWrites a line for each line of standard input, by the strict reader of RFC 5424:\n\
         \x20   accept E P   the line is read, with E elements and P parameters\n\
@@ -108,12 +149,21 @@ pub fn list(line: &mut [u8], elements: &mut [[usize; 2]], chunk: &mut [u8]) {
         \x20                3.4.1), with a line of answer for each: its length in 1 to 6 digits,\n\
         \x20                a space, and its bytes. 12 is a frame of over 8,192 bytes. 11 is a\n\
         \x20                bad count: the listing ends there\n\n\
+        \x20   --where      with 4, how far the line is right: `refuse 4 N` says that some line\n\
+        \x20                that can be read begins with the first N bytes, and none with one\n\
+        \x20                more; where N is the line's length, the line was cut short\n\
+        \x20   --point      the same, and below it the line up to there, a mark under the byte\n\
+        \x20                behind, and in words what would have been right there\n\n\
         Exit status: 0 all is listed; 1 reading or writing failed, a count is bad, or the\n\
         stream ends in a frame, and standard error says which; 2 an argument is not known,\n\
-        or both of the above are given.\n";
+        or --crlf and --counted are both given.\n";
     if !frames::starts(a, b"list", &usage, &help) {
         return;
     }
-    let ok = run(line, elements, chunk, frames::options_of(a));
+    let telling = Telling {
+        place: a.place,
+        point: a.point,
+    };
+    let ok = run(line, elements, chunk, frames::options_of(a), telling);
     program::end(a, b"list", ok);
 }

@@ -5,11 +5,12 @@ use mathlib.Core.Bool.{Bool, true, false}
 use mathlib.Core.List.{List}
 use Rattle.base.specs.Bytes.{bytes}
 use Rattle.base.specs.Texts.{sameText}
-use Rattle.program.specs.Arguments.{wordOf, withForm, withWord, asks}
+use Rattle.program.specs.Arguments.{wordOf, withOption, withWord, wishing, runningWith}
 use Rattle.program.specs.declared.Word.{Word}
 use Rattle.program.specs.declared.Word.the-variants as word
 use Rattle.program.specs.declared.Wish.the-variants as wish
 use Rattle.program.specs.declared.Asked.{Asked}
+use Rattle.program.specs.declared.Takes.{Takes}
 
 module _ (s : List ℕ) (l : Bool) (el : l ≡ sameText s (bytes "--status-on-3")) where
   pub word-launched : l ≡ true → word.Launched ≡ wordOf s
@@ -31,37 +32,52 @@ module _ (s : List ℕ) (l : Bool) (el : l ≡ sameText s (bytes "--status-on-3"
           pub word-counted : n ≡ true → word.Counted ≡ wordOf s
           word-counted t = rw (← el, nl, ← eh, nh, ← ev, nv, ← ec, nc, ← en, t)
 
-          pub word-unknown : n ≡ false → word.Unknown ≡ wordOf s
-          word-unknown t = rw (← el, nl, ← eh, nh, ← ev, nv, ← ec, nc, ← en, t)
+          module _ (nn : n ≡ false) (p : Bool) (ep : p ≡ sameText s (bytes "--where")) where
+            pub word-where : p ≡ true → word.Where ≡ wordOf s
+            word-where t = rw (← el, nl, ← eh, nh, ← ev, nv, ← ec, nc, ← en, nn, ← ep, t)
 
-pub ruleset word-laws = (word-launched, word-help, word-version, word-crlf, word-counted, word-unknown)
+            module _ (np : p ≡ false) (q : Bool) (eq : q ≡ sameText s (bytes "--point")) where
+              pub word-point : q ≡ true → word.Point ≡ wordOf s
+              word-point t = rw (← el, nl, ← eh, nh, ← ev, nv, ← ec, nc, ← en, nn, ← ep, np, ← eq, t)
 
-module _ (lists : Bool) (a : Asked) (crlf counted : Bool) (i : ℕ) (r : Asked) where
-  pub form-taken : r ≡ asks wish.Run (a .launched) crlf counted → lists ≡ true → r ≡ withForm lists a crlf counted i
-  form-taken e t = rw (e, t)
+              pub word-unknown : q ≡ false → word.Unknown ≡ wordOf s
+              word-unknown t = rw (← el, nl, ← eh, nh, ← ev, nv, ← ec, nc, ← en, nn, ← ep, np, ← eq, t)
 
-  pub form-unknown : r ≡ asks (wish.Unknown i) (a .launched) (a .crlf) (a .counted) → lists ≡ false → r ≡ withForm lists a crlf counted i
-  form-unknown e t = rw (e, t)
+pub ruleset word-laws = (word-launched, word-help, word-version, word-crlf, word-counted, word-where, word-point, word-unknown)
 
-pub ruleset form-laws = (form-taken, form-unknown)
+module _ (takes : Bool) (a with : Asked) (i : ℕ) (r : Asked) where
+  pub option-taken : r ≡ with → takes ≡ true → r ≡ withOption takes a with i
+  option-taken e t = rw (e, t)
 
-module _ (lists : Bool) (a : Asked) (w : Word) (i : ℕ) (r : Asked) where
-  pub with-launched : r ≡ asks wish.Run true (a .crlf) (a .counted) → w ≡ word.Launched → r ≡ withWord lists a w i
+  pub option-unknown : r ≡ wishing (wish.Unknown i) a → takes ≡ false → r ≡ withOption takes a with i
+  option-unknown e t = rw (e, t)
+
+pub ruleset option-laws = (option-taken, option-unknown)
+
+module _ (takes : Takes) (a : Asked) (w : Word) (i : ℕ) (r : Asked) where
+  pub with-launched : r ≡ runningWith true (a .crlf) (a .counted) (a .place) (a .point) → w ≡ word.Launched → r ≡ withWord takes a w i
   with-launched e t = rw (e, t)
 
-  pub with-help : r ≡ asks wish.Help (a .launched) (a .crlf) (a .counted) → w ≡ word.Help → r ≡ withWord lists a w i
+  pub with-help : r ≡ wishing wish.Help a → w ≡ word.Help → r ≡ withWord takes a w i
   with-help e t = rw (e, t)
 
-  pub with-version : r ≡ asks wish.Version (a .launched) (a .crlf) (a .counted) → w ≡ word.Version → r ≡ withWord lists a w i
+  pub with-version : r ≡ wishing wish.Version a → w ≡ word.Version → r ≡ withWord takes a w i
   with-version e t = rw (e, t)
 
-  pub with-lines : r ≡ withForm lists a true (a .counted) i → w ≡ word.Crlf → r ≡ withWord lists a w i
-  with-lines e t = rw (e, t)
+  module _ (with : Asked) where
+    pub with-lines : with ≡ runningWith (a .launched) true (a .counted) (a .place) (a .point) → r ≡ withOption (takes .forms) a with i → w ≡ word.Crlf → r ≡ withWord takes a w i
+    with-lines b e t = rw (e, b, t)
 
-  pub with-frames : r ≡ withForm lists a (a .crlf) true i → w ≡ word.Counted → r ≡ withWord lists a w i
-  with-frames e t = rw (e, t)
+    pub with-frames : with ≡ runningWith (a .launched) (a .crlf) true (a .place) (a .point) → r ≡ withOption (takes .forms) a with i → w ≡ word.Counted → r ≡ withWord takes a w i
+    with-frames b e t = rw (e, b, t)
 
-  pub with-unknown : r ≡ asks (wish.Unknown i) (a .launched) (a .crlf) (a .counted) → w ≡ word.Unknown → r ≡ withWord lists a w i
+    pub with-where : with ≡ runningWith (a .launched) (a .crlf) (a .counted) true (a .point) → r ≡ withOption (takes .places) a with i → w ≡ word.Where → r ≡ withWord takes a w i
+    with-where b e t = rw (e, b, t)
+
+    pub with-point : with ≡ runningWith (a .launched) (a .crlf) (a .counted) true true → r ≡ withOption (takes .places) a with i → w ≡ word.Point → r ≡ withWord takes a w i
+    with-point b e t = rw (e, b, t)
+
+  pub with-unknown : r ≡ wishing (wish.Unknown i) a → w ≡ word.Unknown → r ≡ withWord takes a w i
   with-unknown e t = rw (e, t)
 
-pub ruleset with-laws = (with-launched, with-help, with-version, with-lines, with-frames, with-unknown)
+pub ruleset with-laws = (with-launched, with-help, with-version, with-lines, with-frames, with-where, with-point, with-unknown)

@@ -10,6 +10,7 @@ use Rattle.program.specs.declared.Word.the-variants as word
 use Rattle.program.specs.declared.Wish.{Wish}
 use Rattle.program.specs.declared.Wish.the-variants as wish
 use Rattle.program.specs.declared.Asked.{Asked}
+use Rattle.program.specs.declared.Takes.{Takes}
 
 -- the words that a program knows
 abbrev pub wordOf : List ℕ → Word
@@ -19,21 +20,30 @@ wordOf s =
     else if sameText s (bytes "--version") then word.Version
     else if sameText s (bytes "--crlf") then word.Crlf
     else if sameText s (bytes "--counted") then word.Counted
+    else if sameText s (bytes "--where") then word.Where
+    else if sameText s (bytes "--point") then word.Point
     else word.Unknown
 
-abbrev pub asks : Wish → Bool → Bool → Bool → Asked
-asks w l c n = record { wish = w; launched = l; crlf = c; counted = n }
+-- a run with these options
+abbrev pub runningWith : Bool → Bool → Bool → Bool → Bool → Asked
+runningWith l c n p q = record { wish = wish.Run; launched = l; crlf = c; counted = n; place = p; point = q }
 
--- another form of the input, of a program that takes one and of one that does not
-abbrev pub withForm : Bool → Asked → Bool → Bool → ℕ → Asked
-withForm true a crlf counted i = asks wish.Run (a .launched) crlf counted
-withForm false a crlf counted i = asks (wish.Unknown i) (a .launched) (a .crlf) (a .counted)
+-- the same options with another wish
+abbrev pub wishing : Wish → Asked → Asked
+wishing w a = record { wish = w; launched = a .launched; crlf = a .crlf; counted = a .counted; place = a .place; point = a .point }
 
--- the `i`th argument, where those before it ask for `a`; `lists` is whether the program takes `--crlf` and `--counted`
-abbrev pub withWord : Bool → Asked → Word → ℕ → Asked
-withWord lists a word.Launched i = asks wish.Run true (a .crlf) (a .counted)
-withWord lists a word.Help i = asks wish.Help (a .launched) (a .crlf) (a .counted)
-withWord lists a word.Version i = asks wish.Version (a .launched) (a .crlf) (a .counted)
-withWord lists a word.Crlf i = withForm lists a true (a .counted) i
-withWord lists a word.Counted i = withForm lists a (a .crlf) true i
-withWord lists a word.Unknown i = asks (wish.Unknown i) (a .launched) (a .crlf) (a .counted)
+-- with an option, of a program that takes it and of one that does not
+abbrev pub withOption : Bool → Asked → Asked → ℕ → Asked
+withOption true a with i = with
+withOption false a with i = wishing (wish.Unknown i) a
+
+-- the `i`th argument, where those before it ask for `a`
+abbrev pub withWord : Takes → Asked → Word → ℕ → Asked
+withWord t a word.Launched i = runningWith true (a .crlf) (a .counted) (a .place) (a .point)
+withWord t a word.Help i = wishing wish.Help a
+withWord t a word.Version i = wishing wish.Version a
+withWord t a word.Crlf i = withOption (t .forms) a (runningWith (a .launched) true (a .counted) (a .place) (a .point)) i
+withWord t a word.Counted i = withOption (t .forms) a (runningWith (a .launched) (a .crlf) true (a .place) (a .point)) i
+withWord t a word.Where i = withOption (t .places) a (runningWith (a .launched) (a .crlf) (a .counted) true (a .point)) i
+withWord t a word.Point i = withOption (t .places) a (runningWith (a .launched) (a .crlf) (a .counted) true true) i
+withWord t a word.Unknown i = wishing (wish.Unknown i) a

@@ -3,7 +3,7 @@
 use libc::STDERR_FILENO;
 use libc::STDOUT_FILENO;
 ghost use mathlib.Core.Path.{_≡_};
-ghost use Rattle.program.specs.Arguments.{wordOf, withWord, withForm, asks};
+ghost use Rattle.program.specs.Arguments.{wordOf, withWord, withOption, wishing, runningWith};
 
 // What an argument is.
 pub enum Word {
@@ -12,6 +12,8 @@ pub enum Word {
     Version,
     Crlf,
     Counted,
+    Where,
+    Point,
     Unknown,
 }
 
@@ -23,12 +25,21 @@ pub enum Wish {
     Unknown(usize),
 }
 
-// What the arguments ask for together: whether a launcher waits for the status, whether lines end at CR LF, and whether frames are counted.
+// What the arguments ask for together: whether a launcher waits for the status, whether lines end at CR LF, whether frames are counted, and whether it is told
+// how far a line that has no reading is right, and pointed there.
 pub struct Asked {
     pub wish: Wish,
     pub launched: bool,
     pub crlf: bool,
     pub counted: bool,
+    pub place: bool,
+    pub point: bool,
+}
+
+// Which options a program takes: `--crlf` and `--counted`, and `--where` and `--point`.
+pub struct Takes {
+    pub forms: bool,
+    pub places: bool,
 }
 
 pub fn word_of(text: &[u8]) -> Word
@@ -49,46 +60,74 @@ pub fn word_of(text: &[u8]) -> Word
     if base::same_text(text, b"--counted") {
         return Word::Counted;
     }
+    if base::same_text(text, b"--where") {
+        return Word::Where;
+    }
+    if base::same_text(text, b"--point") {
+        return Word::Point;
+    }
     Word::Unknown
 }
 
-// What is asked for with one argument more, the `i`th. `lists` is whether the program takes `--crlf` and `--counted`.
-pub fn with_word(lists: bool, a: Asked, w: Word, i: usize) -> Asked
-    ensures { λ r. ⌜ r ≡ withWord lists a w i ⌝ }
+// What is asked for with one argument more, the `i`th. To point at a place tells it too.
+pub fn with_word(takes: Takes, a: Asked, w: Word, i: usize) -> Asked
+    ensures { λ r. ⌜ r ≡ withWord takes a w i ⌝ }
 {
+    let forms = takes.forms;
+    let places = takes.places;
     let launched = a.launched;
     let crlf = a.crlf;
     let counted = a.counted;
+    let place = a.place;
+    let point = a.point;
     match w {
-        Word::Launched => wished(Wish::Run, true, crlf, counted),
-        Word::Help => wished(Wish::Help, launched, crlf, counted),
-        Word::Version => wished(Wish::Version, launched, crlf, counted),
-        Word::Crlf => with_form(lists, a, true, counted, i),
-        Word::Counted => with_form(lists, a, crlf, true, i),
-        Word::Unknown => wished(Wish::Unknown(i), launched, crlf, counted),
+        Word::Launched => running(true, crlf, counted, place, point),
+        Word::Help => wished(a, Wish::Help),
+        Word::Version => wished(a, Wish::Version),
+        Word::Crlf => with_option(forms, a, running(launched, true, counted, place, point), i),
+        Word::Counted => with_option(forms, a, running(launched, crlf, true, place, point), i),
+        Word::Where => with_option(places, a, running(launched, crlf, counted, true, point), i),
+        Word::Point => with_option(places, a, running(launched, crlf, counted, true, true), i),
+        Word::Unknown => wished(a, Wish::Unknown(i)),
     }
 }
 
-fn wished(wish: Wish, launched: bool, crlf: bool, counted: bool) -> Asked
-    ensures { λ r. ⌜ r ≡ asks wish launched crlf counted ⌝ }
+// A run with these options.
+fn running(launched: bool, crlf: bool, counted: bool, place: bool, point: bool) -> Asked
+    ensures { λ r. ⌜ r ≡ runningWith launched crlf counted place point ⌝ }
 {
     Asked {
-        wish,
+        wish: Wish::Run,
         launched,
         crlf,
         counted,
+        place,
+        point,
     }
 }
 
-// The same with another form of the input.
-fn with_form(lists: bool, a: Asked, crlf: bool, counted: bool, i: usize) -> Asked
-    ensures { λ r. ⌜ r ≡ withForm lists a crlf counted i ⌝ }
+// The same options with another wish.
+fn wished(a: Asked, wish: Wish) -> Asked
+    ensures { λ r. ⌜ r ≡ wishing wish a ⌝ }
 {
-    let launched = a.launched;
-    if lists {
-        return wished(Wish::Run, launched, crlf, counted);
+    Asked {
+        wish,
+        launched: a.launched,
+        crlf: a.crlf,
+        counted: a.counted,
+        place: a.place,
+        point: a.point,
     }
-    wished(Wish::Unknown(i), launched, a.crlf, a.counted)
+}
+
+// With an option, where the program takes it.
+fn with_option(takes: bool, a: Asked, with: Asked, i: usize) -> Asked
+    ensures { λ r. ⌜ r ≡ withOption takes a with i ⌝ }
+{
+    if takes {
+        return with;
+    }
+    wished(a, Wish::Unknown(i))
 }
 
 // The `i`th argument. No word that is known is longer than the buffer.
@@ -99,12 +138,12 @@ fn word_at(i: usize) -> Word {
 }
 
 // What the arguments ask for, up to the first that asks for something else than a run.
-pub fn arguments(lists: bool) -> Asked {
+pub fn arguments(takes: Takes) -> Asked {
     let n = os::arg_count();
-    let mut a = wished(Wish::Run, false, false, false);
+    let mut a = running(false, false, false, false, false);
     let mut i = 1;
     while i < n {
-        a = with_word(lists, a, word_at(i), i);
+        a = with_word(takes, a, word_at(i), i);
         if !is_run(a) {
             return a;
         }

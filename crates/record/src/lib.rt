@@ -137,7 +137,8 @@ pub struct OutputAnswer {
     pub len: usize,
 }
 
-// What a reader answers a C caller, beside the record: `whole` is 1 where the whole line is the message, else 0; `reach` is 0.
+// What a reader answers a C caller, beside the record: `whole` is 1 where the whole line is the message, else 0. `reach` is 0 here: what is reported with
+// refusal 4 is put in at the C boundary.
 #[repr(C)]
 pub struct ReadAnswer {
     pub number: u32,

@@ -1,6 +1,7 @@
 // Replays a list of the Rust's answers: each line of standard input is a call and what it must answer. Writes what was compared, and each case that differs.
 use case_text::words::say_number;
 use libc::STDIN_FILENO;
+use program::Takes;
 ghost use mathlib.Core.Path.{_≡_};
 ghost use Prim.Native.Nat.{_≤_};
 ghost use lib.ListN.{length};
@@ -187,7 +188,10 @@ fn replay(buffer: &mut [u8]) -> Tally {
 }
 
 fn main() {
-    let a = program::arguments(false);
+    let a = program::arguments(Takes {
+        forms: false,
+        places: false,
+    });
     let help =
         *b"\nCalls what each line of standard input says, and compares the answers with the line's.\n";
     if !program::starts(a, b"replay", b"usage: replay < FILE\n", &help) {

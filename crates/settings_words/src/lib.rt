@@ -2,6 +2,7 @@
 use digits::Number;
 use libc::STDIN_FILENO;
 use program::Asked;
+use program::Takes;
 use program::Wish;
 use record::Written;
 use settings::SettingsAnswer;
@@ -166,7 +167,10 @@ fn is_shown(file: &[u8]) -> bool {
 
 // What `./settings` does in memory that it is lent, which is longer than the longest file.
 pub fn show(file: &mut [u8]) {
-    let a = program::arguments(false);
+    let a = program::arguments(Takes {
+        forms: false,
+        places: false,
+    });
     let help = *b"\nWrites a line for each record of a site's settings file, 32 bytes each:\n\
         \x20   N gate G counts version V year Y offset MINUTES variant P host HOST\n\
         N is the number of the record, from 1. In place of 'counts' stands 'replaced' where\n\
@@ -390,7 +394,10 @@ fn miscounted(a: Asked, usage: &[u8]) {
 
 // What `./settings-write` does.
 pub fn write() {
-    let a = program::arguments(false);
+    let a = program::arguments(Takes {
+        forms: false,
+        places: false,
+    });
     let usage = *b"usage: ./settings-write VERSION GATE YEAR OFFSET VARIANT [HOST] >> FILE\n";
     let help = *b"\nWrites one record of a site's settings file, 32 bytes, to standard output:\n\
         \x20   VERSION   1 or 2\n\

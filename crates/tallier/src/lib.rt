@@ -3,6 +3,7 @@
 use frames::Options;
 use frames::State;
 use frames::Task;
+use program::Takes;
 use record::Refusal;
 use record::StrictReading;
 use tally::Added;
@@ -191,7 +192,10 @@ fn write_front(text: &[u8], n: usize) -> bool
 
 // What `./tally` does in memory that it is lent: what its arguments ask for. Behind the input its line buffer holds what is written.
 pub fn tally_input(line: &mut [u8; 8192], chunk: &mut [u8], tally: &mut [[u32; 9]; 25]) {
-    let a = program::arguments(true);
+    let a = program::arguments(Takes {
+        forms: true,
+        places: false,
+    });
     let usage = *b"usage: ./tally [--crlf | --counted] < FILE\n";
     let help =
         *b"\nCounts the lines of standard input that the strict reader of RFC 5424 reads, by\n\

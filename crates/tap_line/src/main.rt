@@ -1,4 +1,5 @@
 // Reads one line of a gate's reader by the loose rules, at year 2023 and +60, and writes its instant and the line as it is printed.
+use program::Takes;
 use record::Reading;
 use record::Record;
 use record::Stamp;
@@ -64,7 +65,10 @@ fn show() -> bool {
 }
 
 fn main() {
-    let a = program::arguments(false);
+    let a = program::arguments(Takes {
+        forms: false,
+        places: false,
+    });
     let help =
         *b"\nReads one line of a gate that it holds, and writes its instant and the line as it is printed.\n";
     if !program::starts(a, b"tap_line", b"usage: tap_line\n", &help) {

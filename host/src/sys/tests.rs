@@ -392,7 +392,24 @@ fn every_number_is_a_refusal_with_that_number() {
     for number in (1..100).chain([u32::MAX]) {
         let refusal = Refusal::check(number).unwrap_err();
         assert_eq!(refusal.number(), number);
-        let known = matches!(number, 1 | 3..=6 | 8..=15);
+        let known = matches!(number, 1 | 3 | 5 | 6 | 8..=15);
         assert_eq!(matches!(refusal, Refusal::Unexpected(_)), !known, "{number}");
+    }
+}
+
+#[test]
+fn the_strict_reader_alone_answers_4_and_says_how_far_the_line_is_right() {
+    for number in (0..100).chain([u32::MAX]) {
+        let checked = Refusal::check_strict(ReadAnswer { number, whole: 0, reach: 36 });
+        let expected = if number == 4 { Err(Refusal::NoReading { reach: Some(36) }) } else { Refusal::check(number) };
+        assert_eq!(checked, expected);
+    }
+    assert_eq!(Refusal::NoReading { reach: Some(36) }.number(), 4);
+    let mut memory = Memory::new(2, 2, 248);
+    assert_eq!(memory.read_strict(b"<13>1 - gate7 x"), ReadAnswer { number: 4, whole: 0, reach: 15 });
+    assert_eq!(memory.read_strict(&LINE[..LINE.len() - 4]), ReadAnswer { number: 4, whole: 0, reach: LINE.len() - 4 });
+    assert_eq!(memory, Memory::new(2, 2, 248));
+    for (elements, params, record, number) in [(1, 2, 248, 5), (2, 1, 248, 6), (2, 2, 247, 8)] {
+        assert_eq!(Memory::new(elements, params, record).read_strict(LINE), refused(number));
     }
 }

@@ -47,7 +47,7 @@ module _ (w : World) where
       put 6 i64 gone (fld 2 1 (len pair 1) refl) refl (λ u. refl) (λ u. tt) ▹
       put 7 i64 gone (fld 3 1 (len (R· E.param) 2) refl) refl (λ u. refl) (λ u. tt) ▹
       calls 1 Ak.ps Ak.r Ar.Asked Ar.Learnt As.name (Ar.known w code.env As.name As.routine code.calls-strict·answer (Am.met (w .𝓤) (w .H) (w .𝓜) (w .𝓖) (w .𝓡))) (0 ∷ []) (by-shr bytes 0 tt 1 0 lend refl (by-num w64 6 (sc i64) refl (by-num w64 7 (sc i64) refl none))) 10 gone (tt, tt) refl ▹ room 6 (over i64) ▸ room 7 (over i64) ▸ at (head-at κs qs (unmade O.reading) (made O.reading)) ▸
-      calls 0 Sk.ps Sk.r Sr.Asked Sr.Learnt Ss.name (Sr.known w code.env Ss.name Ss.routine code.calls-exports·short-strict (Sm.met (w .𝓤) (w .H) (w .𝓜) (w .𝓖) (w .𝓡))) [] (by-choice O.reading 10 chosen-held refl none) 0 gone tt refl ▹ room 10 (choice O.reading refl) ▸ returns tt) (
+      calls 1 Sk.ps Sk.r Sr.Asked Sr.Learnt Ss.name (Sr.known w code.env Ss.name Ss.routine code.calls-exports·short-strict (Sm.met (w .𝓤) (w .H) (w .𝓜) (w .𝓖) (w .𝓡))) (0 ∷ []) (by-shr bytes 0 tt 1 0 lend refl (by-choice O.reading 10 chosen-held refl none)) 0 gone (tt, tt) refl ▹ room 10 (choice O.reading refl) ▸ returns tt) (
       room 9 (over sBool) ▸ nexts tt)) (begin 4 _ ▸ begin 5 _ ▸
       lends pair 2 11 1 4 same gone refl tt refl refl ▹
       packs pair 11 12 4 same gone (fld 2 1 (owed pair 1 4 (lease (κs .1 .0) (qs .1 .0))) refl) refl refl ▹
@@ -57,7 +57,7 @@ module _ (w : World) where
       finish 5 refl ▸ back (R· E.param) 14 3 2 5 (lease (κs .1 .1 .0) (qs .1 .1 .0)) same same refl refl ▸ lose 5 refl ▸ finish 4 refl ▸ back pair 12 2 1 4 (lease (κs .1 .0) (qs .1 .0)) same same refl refl ▸ lose 4 refl ▸ at (head-at κs qs (made O.reading) (unmade O.reading)) ▸ begin 4 _ ▸
       lends bytes 4 15 3 4 same gone refl tt refl refl ▹
       packs bytes 15 16 4 same gone (fld 4 1 (owed bytes 3 4 (lease (κs .1 .1 .1 .0) (qs .1 .1 .1 .0))) refl) refl refl ▹
-      calls 1 Lk.ps Lk.r Lr.Asked Lr.Learnt Ls.name (Lr.known w code.env Ls.name Ls.routine code.calls-exports·leave-strict (Lm.met (w .𝓤) (w .H) (w .𝓜) (w .𝓖) (w .𝓡))) (4 ∷ []) (by-choice O.reading 8 chosen-held refl (by-mut bytes 0 tt 16 lent refl none)) 0 gone (tt, tt) refl ▹
+      calls 2 Lk.ps Lk.r Lr.Asked Lr.Learnt Ls.name (Lr.known w code.env Ls.name Ls.routine code.calls-exports·leave-strict (Lm.met (w .𝓤) (w .H) (w .𝓜) (w .𝓖) (w .𝓡))) (0 ∷ 4 ∷ []) (by-shr bytes 0 tt 1 0 lend refl (by-choice O.reading 8 chosen-held refl (by-mut bytes 1 tt 16 lent refl none))) 0 gone (tt, (tt, tt)) refl ▹
       finish 4 refl ▸ back bytes 16 4 3 4 (lease (κs .1 .1 .1 .0) (qs .1 .1 .1 .0)) same same refl refl ▸ lose 4 refl ▸ room 8 (choice O.reading refl) ▸ returns tt)
 
   laid : Laid C.read-strict w code.env Key.name 2 code.function derived
@@ -74,7 +74,7 @@ module _ (w : World) where
               ((λ ls. tt), λ g. ((λ ls. tt), λ n. ((refl, (refl, (refl, (refl, tt)))), short l (g .1) (rw (rows-length (p .now)) (g .5)) (n .1) (n .5))))),
           (λ f.
               let l : strictSize ≤ length (m .now) = ltb-false (length (m .now)) strictSize f in
-              λ γ. (refl, λ γ′. (refl, ((λ ls. tt), λ g. (refl, λ k. (refl, λ k′. λ γ″. (refl, ((λ ls. l), λ n. (refl, λ q. ((refl, (fix-len (e .ptr) (e .name) (g .2 .1 .0) (e .now) k′, (fix-len (p .ptr) (p .name) (g .2 .1 .1 .0) (p .now) k, (fix-len (m .ptr) (m .name) (n .2 .1 .0) (m .now) q, tt)))), all l (g .1) (g .2 .1 .0) (rows (g .2 .1 .1 .0)) (g .5) (n .1) (n .2 .1 .0) (n .5))))))))))),
+              λ γ. (refl, λ γ′. (refl, ((λ ls. tt), λ g. (refl, λ k. (refl, λ k′. λ γ″. (refl, ((λ ls. l), λ n. (refl, λ q. ((refl, (fix-len (e .ptr) (e .name) (g .2 .1 .0) (e .now) k′, (fix-len (p .ptr) (p .name) (g .2 .1 .1 .0) (p .now) k, (fix-len (m .ptr) (m .name) (n .2 .1 .1 .0) (m .now) q, tt)))), all l (g .1) (g .2 .1 .0) (rows (g .2 .1 .1 .0)) (g .5) (n .1) (n .2 .1 .1 .0) (n .5))))))))))),
         ),
       )
 

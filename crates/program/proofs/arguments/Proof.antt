@@ -4,16 +4,16 @@ use Rattle.program.proofs.arguments.Statement.{statement}
 use Rattle.program.proofs.arguments.Tie as tie
 
 abbrev Inv-loop : tie.InvT-loop
-Inv-loop lists n a₀ i₀ a i = i ≤ i
+Inv-loop takes n a₀ i₀ a i = i ≤ i
 
 abbrev μ-loop : tie.MeasureT-loop
-μ-loop lists n a₀ i₀ a i = n - i
+μ-loop takes n a₀ i₀ a i = n - i
 
 arg-count-requires : tie.Need-arg-count-requires Inv-loop μ-loop
 arg-count-requires c κs = search needs
 
-wished-requires : tie.Need-wished-requires Inv-loop μ-loop
-wished-requires c κs = search needs
+running-requires : tie.Need-running-requires Inv-loop μ-loop
+running-requires c κs = search needs
 
 loop-holds : tie.Need-loop-holds Inv-loop μ-loop
 loop-holds c = search needs
@@ -49,7 +49,7 @@ arguments-spec =
     Inv-loop
     μ-loop
     arg-count-requires
-    wished-requires
+    running-requires
     loop-holds
     word-at-requires
     with-word-requires

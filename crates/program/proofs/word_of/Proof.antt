@@ -48,8 +48,26 @@ same-text-requires-5 c κs = search needs
 returns-5 : tie.Need-returns-5
 returns-5 c = search (word-laws, needs)
 
+slice-aggregate-same-text-6 : tie.Need-slice-aggregate-same-text-6
+slice-aggregate-same-text-6 c = search needs
+
+same-text-requires-6 : tie.Need-same-text-requires-6
+same-text-requires-6 c κs = search needs
+
 returns-6 : tie.Need-returns-6
 returns-6 c = search (word-laws, needs)
+
+slice-aggregate-same-text-7 : tie.Need-slice-aggregate-same-text-7
+slice-aggregate-same-text-7 c = search needs
+
+same-text-requires-7 : tie.Need-same-text-requires-7
+same-text-requires-7 c κs = search needs
+
+returns-7 : tie.Need-returns-7
+returns-7 c = search (word-laws, needs)
+
+returns-8 : tie.Need-returns-8
+returns-8 c = search (word-laws, needs)
 
 pub word-of-spec : {M : Type 1} → statement M
 word-of-spec =
@@ -70,4 +88,10 @@ word-of-spec =
     slice-aggregate-same-text-5
     same-text-requires-5
     returns-5
-    returns-6)
+    slice-aggregate-same-text-6
+    same-text-requires-6
+    returns-6
+    slice-aggregate-same-text-7
+    same-text-requires-7
+    returns-7
+    returns-8)

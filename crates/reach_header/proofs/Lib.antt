@@ -1,0 +1,3 @@
+pub mod Pieces
+pub mod Numbers
+pub mod Dates

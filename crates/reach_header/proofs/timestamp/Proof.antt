@@ -1,0 +1,42 @@
+use borrow.Author.Needs.{needs}
+use Rattle.viable.proofs.Walks.{fits-laws}
+use Rattle.reach_header.proofs.Pieces.{timestamp-closed}
+use Rattle.reach_header.proofs.timestamp.Statement.{statement}
+use Rattle.reach_header.proofs.timestamp.Tie as tie
+
+stamp-requires : tie.Need-stamp-requires
+stamp-requires c κs = search needs
+
+enum-known-w : tie.Need-enum-known-w
+enum-known-w c = search needs
+
+enum-told : tie.Need-enum-told
+enum-told c = search needs
+
+returns : tie.Need-returns
+returns c = search (timestamp-closed .stuck, timestamp-closed .missing, timestamp-closed .past, fits-laws, needs)
+
+is-at-requires : tie.Need-is-at-requires
+is-at-requires c κs = search needs
+
+returns-2 : tie.Need-returns-2
+returns-2 c = search (timestamp-closed .stuck, timestamp-closed .missing, timestamp-closed .past, fits-laws, needs)
+
+add-t7 : tie.Need-add-t7
+add-t7 c = search (timestamp-closed .stuck, timestamp-closed .missing, timestamp-closed .past, fits-laws, needs)
+
+returns-3 : tie.Need-returns-3
+returns-3 c = search (timestamp-closed .stuck, timestamp-closed .missing, timestamp-closed .past, fits-laws, needs)
+
+pub timestamp-spec : {M : Type 1} → statement M
+timestamp-spec =
+    tie.close
+    (tie.spec
+    stamp-requires
+    enum-known-w
+    enum-told
+    returns
+    is-at-requires
+    returns-2
+    add-t7
+    returns-3)

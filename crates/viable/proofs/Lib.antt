@@ -1,0 +1,15 @@
+pub mod Alls
+pub mod Viable
+pub mod Reaches
+pub mod Items
+pub mod Leaves
+pub mod Texts
+pub mod Ids
+pub mod Header
+pub mod Data
+pub mod Lines
+pub mod Laws
+pub mod Near
+pub mod Ends
+pub mod Walks
+pub mod Examples
