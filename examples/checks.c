@@ -978,6 +978,136 @@ static void check_site_refusals(void) {
 
 static int named(const char *is, const char *name) { return is && !strcmp(is, name); }
 
+/* ---- a claimed reading */
+
+static khamdoriem_element vendor_elements[4];
+static khamdoriem_param vendor_params[4];
+
+static uint32_t claim(void) {
+    return khamdoriem_check_claim(line, len, record, KHAMDORIEM_STRICT_RECORD, vendor_elements, 4, vendor_params, 4);
+}
+
+/* The strict reading of a line as a claim. What stands past the counts is no entry of anything. */
+static void claim_of(const char *text) {
+    start(text);
+    memset(vendor_elements, 0xA5, sizeof vendor_elements);
+    memset(vendor_params, 0xA5, sizeof vendor_params);
+    CHECK(khamdoriem_read_strict(line, len, vendor_elements, 4, vendor_params, 4, record, KHAMDORIEM_STRICT_RECORD)
+              .number == KHAMDORIEM_DONE);
+    CHECK(claim() == KHAMDORIEM_DONE);
+}
+
+/* What is answered with one word of the record changed. */
+static uint32_t claim_with(size_t at, uint64_t word) {
+    uint64_t kept = khamdoriem_word(record, at);
+    uint32_t number;
+    put_word(at, word);
+    number = claim();
+    put_word(at, kept);
+    return number;
+}
+
+static int is_wrong(uint32_t number) { return number == KHAMDORIEM_UNSUITABLE || number == KHAMDORIEM_WRONG_CLAIM; }
+
+/* The same with one number of a table changed. */
+static int wrong_with(size_t *number, size_t other) {
+    size_t kept = *number;
+    int wrong;
+    *number = other;
+    wrong = is_wrong(claim());
+    *number = kept;
+    return wrong;
+}
+
+/* Every number of a claim, one at a time: one more, one less, the largest. */
+static void check_changed_claim(void) {
+    size_t at, i, k, e = khamdoriem_element_count(record), p = khamdoriem_param_count(record);
+    for (at = 0; at < KHAMDORIEM_STRICT_RECORD; at += 8) {
+        uint64_t word = khamdoriem_word(record, at);
+        CHECK(is_wrong(claim_with(at, word + 1)) && is_wrong(claim_with(at, word - 1)));
+        CHECK(word == UINT64_MAX || claim_with(at, UINT64_MAX) == KHAMDORIEM_UNSUITABLE ||
+              claim_with(at, UINT64_MAX) == KHAMDORIEM_WRONG_CLAIM);
+    }
+    for (i = 0; i < e; i++)
+        for (k = 0; k < 2; k++) {
+            size_t *number = (k ? &vendor_elements[i].id_len : &vendor_elements[i].id_start);
+            CHECK(wrong_with(number, *number + 1) && wrong_with(number, *number - 1) && wrong_with(number, SIZE_MAX));
+        }
+    for (i = 0; i < p; i++)
+        for (k = 0; k < 5; k++) {
+            khamdoriem_param *param = &vendor_params[i];
+            size_t *numbers[5];
+            size_t *number;
+            numbers[0] = &param->element, numbers[1] = &param->name_start, numbers[2] = &param->name_len;
+            numbers[3] = &param->value_start, numbers[4] = &param->value_len, number = numbers[k];
+            CHECK(wrong_with(number, *number + 1) && wrong_with(number, *number - 1) && wrong_with(number, SIZE_MAX));
+        }
+    CHECK(claim() == KHAMDORIEM_DONE);
+}
+
+static void check_claims(void) {
+    claim_of("<0>1 - - - - - -");
+    check_changed_claim();
+    claim_of("<0>1 - - - - - - ");
+    check_changed_claim();
+    claim_of("<34>1 2023-12-31T10:01:02.120+01:00 gate7 reader 42 TAP [t@32473 ms=\"212\" q=\"\\\"\"][u] "
+             "\xEF\xBB\xBFok");
+    check_changed_claim();
+    /* which of the two: what does not suit is 7, what is not the line's is 16 */
+    CHECK(claim_with(KHAMDORIEM_AT_FACILITY + 8, 24) == KHAMDORIEM_UNSUITABLE);
+    CHECK(claim_with(KHAMDORIEM_AT_FACILITY + 8, 5) == KHAMDORIEM_WRONG_CLAIM);
+    CHECK(claim_with(KHAMDORIEM_AT_PROTOCOL, KHAMDORIEM_PROTOCOL_RFC3164) == KHAMDORIEM_UNSUITABLE);
+    CHECK(claim_with(KHAMDORIEM_AT_VERSION, 2) == KHAMDORIEM_WRONG_CLAIM);
+    CHECK(claim_with(KHAMDORIEM_AT_DIGITS, 2) == KHAMDORIEM_WRONG_CLAIM);
+    CHECK(claim_with(KHAMDORIEM_AT_DIGITS, 9) == KHAMDORIEM_WRONG_CLAIM);
+    CHECK(claim_with(KHAMDORIEM_AT_DIGITS, 1) == KHAMDORIEM_UNSUITABLE);
+    CHECK(claim_with(KHAMDORIEM_AT_TIMESTAMP_TEXT + 8, len) == KHAMDORIEM_UNSUITABLE);
+    CHECK(claim_with(KHAMDORIEM_AT_TIMESTAMP_TEXT + 8, 0) == KHAMDORIEM_WRONG_CLAIM);
+    CHECK(claim_with(KHAMDORIEM_AT_TIMESTAMP_TEXT, 2) == KHAMDORIEM_UNSUITABLE);
+    CHECK(claim_with(KHAMDORIEM_AT_HAS_MESSAGE, 0) == KHAMDORIEM_WRONG_CLAIM);
+    CHECK(claim_with(KHAMDORIEM_AT_HAS_MESSAGE, 2) == KHAMDORIEM_UNSUITABLE);
+    CHECK(claim_with(KHAMDORIEM_AT_ELEMENTS, 1) == KHAMDORIEM_WRONG_CLAIM);
+    CHECK(claim_with(KHAMDORIEM_AT_PARAMS, 1) == KHAMDORIEM_WRONG_CLAIM);
+    CHECK(claim_with(KHAMDORIEM_AT_ELEMENTS, 5) == KHAMDORIEM_UNSUITABLE);
+    /* a table that is shorter than its count; a record that is a byte short */
+    CHECK(khamdoriem_check_claim(line, len, record, KHAMDORIEM_STRICT_RECORD, vendor_elements, 1, vendor_params, 4) ==
+          KHAMDORIEM_UNSUITABLE);
+    CHECK(khamdoriem_check_claim(line, len, record, KHAMDORIEM_STRICT_RECORD - 1, vendor_elements, 4, vendor_params,
+                                 4) == KHAMDORIEM_UNSUITABLE);
+    /* another line */
+    line[len - 1] = '\xFF';
+    CHECK(claim() == KHAMDORIEM_WRONG_CLAIM);
+    line[len - 1] = 'k', line[len] = '!', len++;
+    CHECK(claim() == KHAMDORIEM_WRONG_CLAIM);
+    len = KHAMDORIEM_LINE_LIMIT + 1;
+    CHECK(claim() == KHAMDORIEM_LINE_TOO_LONG);
+}
+
+/* The three ways to write an offset of 0 are all a claim of 0, and none of +60, even with the instant moved along. */
+static void check_claimed_zones(void) {
+    const char *zones[] = {"Z", "+00:00", "-00:00"};
+    int i;
+    for (i = 0; i < 3; i++) {
+        char text[64];
+        uint64_t seconds;
+        sprintf(text, "<0>1 2023-02-05T10:01:02%s - - - - -", zones[i]);
+        claim_of(text);
+        seconds = khamdoriem_word(record, KHAMDORIEM_AT_SECONDS);
+        CHECK(khamdoriem_word(record, KHAMDORIEM_AT_OFFSET) == 0);
+        CHECK(claim_with(KHAMDORIEM_AT_OFFSET, 60) == KHAMDORIEM_WRONG_CLAIM);
+        put_word(KHAMDORIEM_AT_SECONDS, seconds - 3600);
+        CHECK(claim_with(KHAMDORIEM_AT_OFFSET, 60) == KHAMDORIEM_WRONG_CLAIM);
+    }
+}
+
+/* A claim of a line that the grammar does not derive, as a vendor would make it who lets ids repeat. */
+static void check_claimed_ids(void) {
+    claim_of("<0>1 - - - - - [a][b]");
+    line[19] = 'a';
+    CHECK(!memcmp(line + 15, "[a][a]", 6) && strict().number == KHAMDORIEM_NO_READING);
+    CHECK(claim() == KHAMDORIEM_WRONG_CLAIM);
+}
+
 static void check_names(void) {
     CHECK(named(khamdoriem_facility_name(0), "kern") && named(khamdoriem_facility_name(10), "authpriv"));
     CHECK(named(khamdoriem_facility_name(16), "local0") && named(khamdoriem_facility_name(23), "local7"));
@@ -988,10 +1118,10 @@ static void check_names(void) {
 
 static void check_texts(void) {
     uint32_t i, k;
-    for (i = 0; i <= 15; i++)
+    for (i = 0; i <= 16; i++)
         for (k = 0; k < i; k++) CHECK(strcmp(khamdoriem_refusal_text(i), khamdoriem_refusal_text(k)) != 0);
-    CHECK(khamdoriem_refusal_text(16) == khamdoriem_refusal_text(4294967295u));
-    CHECK(strcmp(khamdoriem_refusal_text(15), khamdoriem_refusal_text(16)) != 0);
+    CHECK(khamdoriem_refusal_text(17) == khamdoriem_refusal_text(4294967295u));
+    CHECK(strcmp(khamdoriem_refusal_text(16), khamdoriem_refusal_text(17)) != 0);
 }
 
 int main(void) {
@@ -1025,6 +1155,9 @@ int main(void) {
     check_settings_writes();
     check_site_hosts();
     check_site_refusals();
+    check_claims();
+    check_claimed_zones();
+    check_claimed_ids();
     check_names();
     check_texts();
     printf("checks: %lu passed, %lu failed\n", passed, failed);

@@ -81,6 +81,12 @@ static void read_with(void) {
                  .number;
 }
 
+/* What read_strict left, as a claim. */
+static void check_claim(void) {
+    number = khamdoriem_check_claim(line, len, record, sizeof record, elements, KHAMDORIEM_ELEMENTS_ENOUGH, params,
+                                    KHAMDORIEM_PARAMS_ENOUGH);
+}
+
 /* The bytes that a call took. The stack grows down. */
 static size_t taken(void (*call)(void)) {
     pthread_attr_t attr;
@@ -135,6 +141,7 @@ static void measure_strict(const char *what, size_t count) {
     start("<0>1 2026-01-02T03:04:05.678Z h a p m ");
     add_elements(count);
     measure(what, read_strict, KHAMDORIEM_DONE);
+    measure("check_claim of that", check_claim, KHAMDORIEM_DONE);
 }
 
 /* The same with a byte behind the elements that is wrong: how far the line is right is found by a second look at it. */

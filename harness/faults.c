@@ -7,7 +7,7 @@
 #define WORD(record, at) (((uint64_t *)(record))[at])
 
 /* The words of a record that are looked at here. */
-enum { PROTOCOL = 0, FACILITY = 2, SEVERITY = 4, STAMP = 6, NANOS = 8, DIGITS = 9, HOST = 11, APP = 14, MESSAGE = 23, MESSAGE_LEN = 24, ELEMENTS = 25, PARAMS = 26, HAS_MESSAGE = 30 };
+enum { PROTOCOL = 0, VERSION = 1, FACILITY = 2, SEVERITY = 4, STAMP = 6, SECONDS = 7, NANOS = 8, DIGITS = 9, OFFSET = 10, HOST = 11, APP = 14, MESSAGE = 23, MESSAGE_LEN = 24, ELEMENTS = 25, PARAMS = 26, STAMP_TEXT = 27, HAS_MESSAGE = 30 };
 
 uint32_t right_interface(void);
 struct khamdoriem_read right_read_loose(const uint8_t *, size_t, uint32_t, uint32_t, int32_t, khamdoriem_element *, size_t, khamdoriem_param *, size_t,
@@ -32,6 +32,8 @@ struct khamdoriem_settings right_settings_read_1(const uint8_t *, size_t, uint32
 struct khamdoriem_written right_settings_write(uint32_t, uint32_t, uint32_t, int32_t, uint32_t, const uint8_t *, size_t, uint8_t *, size_t);
 struct khamdoriem_site right_read_with_settings(const uint8_t *, size_t, uint32_t, const uint8_t *, size_t, khamdoriem_element *, size_t, khamdoriem_param *,
                                                 size_t, uint8_t *, size_t);
+
+uint32_t right_check_claim(const uint8_t *, size_t, const uint8_t *, size_t, const khamdoriem_element *, size_t, const khamdoriem_param *, size_t);
 
 static int fault(void) {
     static int number = -1;
@@ -374,4 +376,45 @@ struct khamdoriem_site khamdoriem_read_with_settings(const uint8_t *file, size_t
     case 104: if (n == 5 && elements_len) elements[0].id_start = 0; break;                                  /* a refused call fills a table */
     }
     return a;
+}
+
+/* What is told of the record with one of its words set to another number. */
+static uint32_t claim_with(const uint8_t *line, size_t line_len, const uint8_t *record, const khamdoriem_element *elements, size_t elements_len,
+                           const khamdoriem_param *params, size_t params_len, size_t at, uint64_t word) {
+    uint64_t words[KHAMDORIEM_STRICT_RECORD / 8];
+    memcpy(words, record, sizeof words);
+    words[at] = word;
+    return right_check_claim(line, line_len, (const uint8_t *)words, sizeof words, elements, elements_len, params, params_len);
+}
+
+uint32_t khamdoriem_check_claim(const uint8_t *line, size_t line_len, const uint8_t *record, size_t record_len, const khamdoriem_element *elements,
+                                size_t elements_len, const khamdoriem_param *params, size_t params_len) {
+    uint32_t n = right_check_claim(line, line_len, record, record_len, elements, elements_len, params, params_len);
+    int whole = record_len >= KHAMDORIEM_STRICT_RECORD;
+    uint64_t e = whole ? WORD(record, ELEMENTS) : 0, p = whole ? WORD(record, PARAMS) : 0;
+#define WITH(at, word) claim_with(line, line_len, record, elements, elements_len, params, params_len, at, word)
+    switch (fault()) {
+    case 115: if (n == 16) return 7; break;                                                                 /* 7 for a wrong claim */
+    case 116: if (n == 7 && !whole) return 16; break;                                                       /* 16 for memory that is too short */
+    case 117: if (n == 7 && line_len > 8000) return 1; break;                                               /* 1 before 7 for a line that is long */
+    case 118: if (n == 16 && WORD(record, DIGITS) && WITH(DIGITS, WORD(record, DIGITS) - 1) == 0) return 0; break; /* a digit too many */
+    case 119: if (n == 16 && WITH(HAS_MESSAGE, 1 - WORD(record, HAS_MESSAGE)) == 0) return 0; break;        /* the mark of a message goes unseen */
+    case 120: if (n == 16 && WITH(VERSION, 1) == 0) return 0; break;                                        /* any version for 1 */
+    case 121: if (n == 16 && e && WITH(ELEMENTS, e - 1) == 0) return 0; break;                              /* an element too many */
+    case 122: if (n == 16 && p < params_len && WITH(PARAMS, p + 1) == 0) return 0; break;                   /* a parameter too few */
+    case 123: if (n == 0 && e < elements_len && elements[e].id_start > line_len) return 7; break;           /* entries past the counts judged */
+    case 124: if (n == 0 && record_len > KHAMDORIEM_STRICT_RECORD) return 7; break;                         /* a longer record refused */
+    case 125: if (n == 16 && WORD(record, STAMP) && WORD(record, OFFSET) == 60) {                           /* `Z` as +60, the clock kept */
+        uint64_t words[KHAMDORIEM_STRICT_RECORD / 8];
+        memcpy(words, record, sizeof words);
+        words[OFFSET] = 0, words[SECONDS] += 3600;
+        return right_check_claim(line, line_len, (const uint8_t *)words, sizeof words, elements, elements_len, params, params_len);
+    } break;
+    case 126: if (n == 16 && line_len && right_check_claim(line, line_len - 1, record, record_len, elements, elements_len, params, params_len) == 0) return 0; break; /* the last byte goes unseen */
+    case 127: if (n == 0 && e > 64) return 16; break;                                                       /* many elements refused */
+    case 128: if (n == 7 && whole && WITH(STAMP_TEXT + 1, 0) == 16) return 16; break;                       /* the timestamp's text is no place for 7 */
+    case 129: if (n == 7 && whole && WORD(record, STAMP_TEXT) > 1 && WITH(STAMP_TEXT, 1) == 0) return 0; break; /* a mark over 1 taken for 1 */
+    }
+#undef WITH
+    return n;
 }

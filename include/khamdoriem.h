@@ -1,6 +1,6 @@
 /* khamdoriem.h - the C boundary of Khamdoriem, a proved reader of syslog lines. For x86-64, from C99 and C++11 on.
 
-   Sixteen functions, and inline ones that take a record apart. Link with libkhamdoriem.a (pkg-config: khamdoriem).
+   Seventeen functions, and inline ones that take a record apart. Link with libkhamdoriem.a (pkg-config: khamdoriem).
    docs/INTERFACE.md says the same at length, with the record byte by byte; examples/ has a program in C, one in C++.
 
    The order of things: compare khamdoriem_interface() once. Lend a reader the line, two tables and memory for a record,
@@ -8,7 +8,8 @@
    look up. A stream is cut into frames by the three functions of a stream: start one, feed it what comes, and read each
    frame as a line. A tally counts records by facility and severity: start from zeros, add each record, and read cells
    and sums. A settings file has the year, offset, variant and default host of each gate of a site:
-   khamdoriem_read_with_settings reads a line as its gate's record says.
+   khamdoriem_read_with_settings reads a line as its gate's record says. khamdoriem_check_claim says whether a strict
+   record and tables that somebody else made are the line's reading.
 
    RULES FOR WHAT IS LENT. A slice is a pointer and a count: of bytes, of a table's entries, or of a tally's rows.
    - No pointer may be null, also where its count is 0; then it may be the address of anything. (gcc and clang warn of a
@@ -56,7 +57,8 @@ extern "C" {
 /* The number that a call answers. Which ones, in the order in which they are checked: read_loose 1 2 3 5 6 8,
    read_strict 1 4 5 6 8, print 1 7 8, lookup 1 2 7 9 8, stream_start 2, stream_feed 2 8 11 12, stream_finish 2,
    tally_add 7 8 10, tally_cell, tally_row and tally_column 7 8, settings_read and settings_read_1 13 9 14 15,
-   settings_write 14 15 8, read_with_settings 13 9 14 15 1 3 4 5 6 8. khamdoriem_refusal_text has words for each. */
+   settings_write 14 15 8, read_with_settings 13 9 14 15 1 3 4 5 6 8, check_claim 1 7 16. khamdoriem_refusal_text has
+   words for each. */
 #define KHAMDORIEM_DONE 0
 #define KHAMDORIEM_LINE_TOO_LONG 1     /* the line has over KHAMDORIEM_LINE_LIMIT bytes */
 #define KHAMDORIEM_BAD_SETTING 2       /* variant, year, offset or kind out of range; a stream that was not started */
@@ -78,6 +80,7 @@ extern "C" {
 #define KHAMDORIEM_UNKNOWN_VERSION 14  /* the version of a settings record is not known to this call */
 #define KHAMDORIEM_BAD_FIELD 15        /* a field of a settings record is out of range, or a byte that says nothing is
                                           not 0 */
+#define KHAMDORIEM_WRONG_CLAIM 16      /* a claimed record, counts and tables are not the line's strict reading */
 
 /* variant: by which rules a line is read loosely. */
 #define KHAMDORIEM_VARIANT_EITHER 0    /* RFC 5424's, and where they give no reading RFC 3164's */
@@ -417,6 +420,21 @@ struct khamdoriem_site khamdoriem_read_with_settings(const uint8_t *file, size_t
                                                      khamdoriem_param *params, size_t params_len,
                                                      uint8_t *record, size_t record_len) KHAMDORIEM_NO_NULL;
 
+/* Says whether a strict record, its counts and the entries counted are the line's reading by the grammar of RFC 5424,
+   whoever made them: 0 is yes. It is told of what khamdoriem_read_strict leaves, always, and of nothing else but for
+   what is of no account: bytes past the 248th of the record and entries past the counts. The line is not read afresh:
+   what is claimed is held against the bytes where it is claimed to stand. record has the layout of a strict record,
+   counts and marks included; elements_len and params_len are the lengths of the tables. All is only read.
+   - 1: the line has over KHAMDORIEM_LINE_LIMIT bytes.
+   - 7: else, record_len is under KHAMDORIEM_STRICT_RECORD, the bytes hold no record, or record and tables do not suit
+     the line: see khamdoriem_print; the place of the timestamp's text, too, ends within the line, and its mark and that
+     of a message are at most 1.
+   - 16: else, they are not the line's reading. An absent text has start and length 0. 'Z', +00:00 and -00:00 are all an
+     offset of 0. */
+uint32_t khamdoriem_check_claim(const uint8_t *line, size_t line_len, const uint8_t *record, size_t record_len,
+                                const khamdoriem_element *elements, size_t elements_len,
+                                const khamdoriem_param *params, size_t params_len) KHAMDORIEM_NO_NULL;
+
 /* ---- what a reader left, taken apart
 
    line is the line that was read. A text is answered by its address in the line, and its length by *len. Absent and
@@ -618,6 +636,7 @@ static inline const char *khamdoriem_refusal_text(uint32_t number) {
     case KHAMDORIEM_BAD_LENGTH: return "the length of the settings file is no multiple of 32";
     case KHAMDORIEM_UNKNOWN_VERSION: return "the version of the settings record is not known";
     case KHAMDORIEM_BAD_FIELD: return "a field of the settings record is out of range, or a reserved byte is not zero";
+    case KHAMDORIEM_WRONG_CLAIM: return "what is claimed is not the line's reading";
     default: return "a number that this interface does not have";
     }
 }

@@ -2,7 +2,7 @@
 use crate::gate;
 use crate::readers::{interface, rust, Lent};
 use crate::shapes::{Shape, BROKEN, GROWING, IDS, LENGTHS, SLOW};
-use crate::{sites, streams, tallies};
+use crate::{claims, sites, streams, tallies};
 
 // Words of the record (docs/INTERFACE.md). In interface 1 it has no word of digits.
 const SECONDS: usize = 7;
@@ -114,5 +114,6 @@ pub fn check(text: &str) -> Result<(), String> {
     }
     streams::check()?;
     tallies::check()?;
-    sites::check()
+    sites::check()?;
+    claims::check()
 }

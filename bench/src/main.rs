@@ -1,5 +1,6 @@
 //! The driver of the bench: makes the file, checks it, reads it, and writes the documents. bench/run says what is called when.
 mod check;
+mod claims;
 mod gate;
 mod ids;
 mod plot;
@@ -18,7 +19,7 @@ use std::process::ExitCode;
 use std::time::Instant;
 
 const USAGE: &str = "usage: driver make FILE LINES SEED | check FILE | pass READER KIND FILE TIMES | shape READER NAME BYTES TIMES \
-                     | stream splitter NAME TIMES | tally table NAME TIMES | site file NAME TIMES | time KIND FILE READER.. | report RESULTS FOLDER";
+                     | stream splitter NAME TIMES | tally table NAME TIMES | site file NAME TIMES | claim CALL NAME TIMES | time KIND FILE READER.. | report RESULTS FOLDER";
 
 fn number<T: std::str::FromStr>(text: &str) -> Result<T, String> {
     text.parse().map_err(|_| format!("'{text}' is no number, or too large"))
@@ -96,6 +97,12 @@ fn site(name: &str, times: &str) -> Result<(), String> {
     sites::passes(kind, number(times)?)
 }
 
+fn claim(call: &str, name: &str, times: &str) -> Result<(), String> {
+    let call = claims::call(call).ok_or(format!("'{call}' is no call of a claim"))?;
+    let kind = claims::named(name).ok_or(format!("'{name}' is no line of a claim"))?;
+    claims::passes(kind, call, number(times)?)
+}
+
 fn report(results: &str, folder: &str) -> Result<(), String> {
     let results = results::Results::of(&text_of(results)?);
     write(&format!("{folder}/BENCH.md"), &report::page(&results)?)?;
@@ -113,6 +120,7 @@ fn run(args: &[&str]) -> Result<(), String> {
         ["stream", "splitter", name, times] => stream(name, times),
         ["tally", "table", name, times] => tally(name, times),
         ["site", "file", name, times] => site(name, times),
+        ["claim", call, name, times] => claim(call, name, times),
         ["time", kind, file, names @ ..] => time(kind, file, names),
         ["report", results, folder] => report(results, folder),
         _ => Err(USAGE.to_string()),

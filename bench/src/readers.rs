@@ -81,6 +81,24 @@ extern "C" {
         record: *mut u8,
         record_len: usize,
     ) -> Answer;
+    #[cfg(not(no_claims))]
+    fn khamdoriem_check_claim(
+        line: *const u8,
+        line_len: usize,
+        record: *const u8,
+        record_len: usize,
+        elements: *const [usize; 2],
+        elements_len: usize,
+        params: *const [usize; 5],
+        params_len: usize,
+    ) -> u32;
+}
+
+/// An archive of before there were claims (bench/run, --before) has no check.
+#[cfg(no_claims)]
+#[allow(clippy::too_many_arguments)]
+unsafe fn khamdoriem_check_claim(_: *const u8, _: usize, _: *const u8, _: usize, _: *const [usize; 2], _: usize, _: *const [usize; 5], _: usize) -> u32 {
+    16
 }
 
 /// What reading with settings answers.
@@ -202,6 +220,14 @@ impl Lent {
         let (e, p, r) = (&mut self.elements, &mut self.params, &mut self.record);
         // SAFETY: as above.
         unsafe { khamdoriem_read_strict(line.as_ptr(), line.len(), e.as_mut_ptr(), e.len(), p.as_mut_ptr(), p.len(), r.as_mut_ptr(), r.len()) }
+    }
+
+    /// The number of the check of what the strict reader left.
+    #[inline]
+    pub fn check(&self, line: &[u8]) -> u32 {
+        let (e, p, r) = (&self.elements, &self.params, &self.record);
+        // SAFETY: each pointer comes with its own slice's length, and all are only read.
+        unsafe { khamdoriem_check_claim(line.as_ptr(), line.len(), r.as_ptr(), r.len(), e.as_ptr(), e.len(), p.as_ptr(), p.len()) }
     }
 }
 

@@ -2,7 +2,7 @@
 use crate::price::price;
 use crate::results::Results;
 use crate::shapes::{BROKEN, GROWING, LENGTHS, SLOW};
-use crate::sites;
+use crate::{claims, sites};
 use crate::streams::CUTS;
 use crate::tallies;
 use std::fmt::Write;
@@ -202,6 +202,23 @@ fn sites(results: &Results) -> Result<String, String> {
     Ok(page + "\n")
 }
 
+fn claims(results: &Results) -> Result<String, String> {
+    let mut page = String::from(
+        "## Claims\n\nThe check of what the strict reader left, beside the strict reading of the same line, in instructions a call in the functions of the archive. \
+         The check may take 1.5 times the reading.\n\n",
+    );
+    add(&mut page, "| line | strict reading | check | times |\n|---|---|---|---|");
+    for kind in &claims::KINDS {
+        let calls = results.number(&["claim", kind.name], 0)?;
+        let (read, check) = (results.number(&["claimed", kind.name, "strict"], 0)? / calls, results.number(&["claimed", kind.name, "check"], 0)? / calls);
+        if check > claims::LIMIT * read {
+            return Err(format!("{}: the check takes {:.2} times the strict reading", kind.name, check / read));
+        }
+        add(&mut page, &format!("| {} | {} | {} | {:.2} |", kind.what, commas(read), commas(check), check / read));
+    }
+    Ok(page + "\n")
+}
+
 /// A line of prose as lines of at most 120 columns; a row of a table as it is.
 fn folded(line: &str) -> String {
     if line.starts_with('|') {
@@ -222,7 +239,7 @@ fn folded(line: &str) -> String {
 }
 
 pub fn page(results: &Results) -> Result<String, String> {
-    let page = intro(results)? + &lines(results)? + &times(results)? + &growing(results)? + &slow(results)? + &price(results)? + &broken(results)? + &streams(results)? + &tallies(results)? + &sites(results)? + &functions(results)?;
+    let page = intro(results)? + &lines(results)? + &times(results)? + &growing(results)? + &slow(results)? + &price(results)? + &broken(results)? + &streams(results)? + &tallies(results)? + &sites(results)? + &claims(results)? + &functions(results)?;
     Ok(page.lines().map(|line| folded(line) + "\n").collect())
 }
 

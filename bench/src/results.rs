@@ -15,6 +15,8 @@
 //!     tallying NAME COUNT              instructions of the pass, in the functions of the archive
 //!     site NAME CALLS                  how often a call of a settings file is made in a pass
 //!     sited NAME COUNT                 instructions of the pass, in the functions of the archive
+//!     claim NAME CALLS                 how often a line is read, or its claim checked, in a pass
+//!     claimed NAME CALL COUNT          instructions of the pass, in the functions of the archive: strict or check
 //!     function KIND READER NAME COUNT  instructions of a pass in one function
 //!     about NAME WORDS..               the seed, the machine, the versions; native: the machine of the nanoseconds, timed: of what they are
 //!

@@ -1,4 +1,4 @@
-//! The archive's sixteen functions, as include/khamdoriem.h declares them.
+//! The archive's seventeen functions, as include/khamdoriem.h declares them.
 
 pub type Element = [usize; 2];
 pub type Param = [usize; 5];
@@ -142,7 +142,7 @@ pub enum Reader {
     Strict,
 }
 
-/// What printing and lookup are lent to read.
+/// What printing, lookup and the check of a claim are lent to read.
 #[derive(Clone, Copy)]
 pub struct Given<'a> {
     pub line: &'a [u8],
@@ -187,6 +187,10 @@ extern "C" {
         file: *const u8, file_len: usize, gate: u32, line: *const u8, line_len: usize,
         elements: *mut Element, elements_len: usize, params: *mut Param, params_len: usize, record: *mut u8, record_len: usize,
     ) -> Site;
+    fn khamdoriem_check_claim(
+        line: *const u8, line_len: usize, record: *const u8, record_len: usize, elements: *const Element, elements_len: usize,
+        params: *const Param, params_len: usize,
+    ) -> u32;
 }
 
 /// The number of the archive's interface.
@@ -267,5 +271,13 @@ pub fn read_with_settings(file: &[u8], gate: u32, line: &[u8], elements: &mut [E
     let (e, p, r) = (elements.as_mut_ptr(), params.as_mut_ptr(), record.as_mut_ptr());
     unsafe {
         khamdoriem_read_with_settings(file.as_ptr(), file.len(), gate, line.as_ptr(), line.len(), e, elements.len(), p, params.len(), r, record.len())
+    }
+}
+
+pub fn check_claim(g: Given) -> u32 {
+    unsafe {
+        khamdoriem_check_claim(
+            g.line.as_ptr(), g.line.len(), g.record.as_ptr(), g.record.len(), g.elements.as_ptr(), g.elements.len(), g.params.as_ptr(), g.params.len(),
+        )
     }
 }

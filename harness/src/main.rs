@@ -5,10 +5,12 @@
 //!     harness --tallies N [--seed N] [--part I/N]     compares N additions to tallies, and all reads, with a tally by hand, and ends with one line
 //!     harness --settings N [--seed N] [--part I/N]    compares N settings files, writes and lines read with them, and ends with one line
 //!     harness --reach N [--seed N] [--part I/N]       compares how far N damaged strict lines go with a machine and a search by hand, and ends with one line
+//!     harness --claims N [--seed N] [--part I/N]      compares what is told of the claims of N strict lines, right and changed, with a check by hand, and ends with one line
 //!     harness --replay N                              writes a list of N cases with the Rust's answers
 //!     harness --stored FOLDER                         compares the stored output of the program `cases`
 
 mod abi;
+mod claims;
 mod classes;
 mod compare;
 mod everywhere;
@@ -28,6 +30,7 @@ mod streams;
 mod strict;
 mod tallies;
 
+use claims::Claims;
 use compare::{Counts, Desk};
 use lines::Lines;
 use reach::Reaches;
@@ -49,12 +52,13 @@ struct Wanted {
     tallies: Option<u64>,
     settings: Option<u64>,
     reach: Option<u64>,
+    claims: Option<u64>,
     replay: Option<usize>,
     stored: Option<String>,
 }
 
 fn arguments() -> Result<Wanted, String> {
-    let mut wanted = Wanted { seed: 1, cases: 100_000, part: 0, parts: 1, ids: false, streams: None, tallies: None, settings: None, reach: None, replay: None, stored: None };
+    let mut wanted = Wanted { seed: 1, cases: 100_000, part: 0, parts: 1, ids: false, streams: None, tallies: None, settings: None, reach: None, claims: None, replay: None, stored: None };
     let mut args = std::env::args().skip(1);
     while let Some(name) = args.next() {
         let value = args.next().ok_or(format!("{name} asks for a value"))?;
@@ -66,6 +70,7 @@ fn arguments() -> Result<Wanted, String> {
             "--tallies" => wanted.tallies = Some(number(&value)?),
             "--settings" => wanted.settings = Some(number(&value)?),
             "--reach" => wanted.reach = Some(number(&value)?),
+            "--claims" => wanted.claims = Some(number(&value)?),
             "--replay" => wanted.replay = Some(number(&value)? as usize),
             "--lines" => match value.as_str() {
                 "all" => wanted.ids = false,
@@ -272,6 +277,37 @@ fn compared_reach(wanted: &Wanted, count: u64) -> ExitCode {
     ExitCode::SUCCESS
 }
 
+fn claim_summary(wanted: &Wanted, counts: &claims::Counts, unexplained: u64) -> String {
+    let claims::Counts { lines, derived, claims, yes, unsuitable, wrong } = counts;
+    format!(
+        "seed {} part {}/{}: {lines} lines ({derived} derived, {claims} claims, {yes} told yes, {unsuitable} refusals 7, {wrong} refusals 16), {unexplained} unexplained",
+        wanted.seed, wanted.part + 1, wanted.parts
+    )
+}
+
+/// Claims of strict lines, right and changed, against a check by hand; the first difference ends it.
+fn compared_claims(wanted: &Wanted, count: u64) -> ExitCode {
+    let mut claims = Claims::new(wanted.seed, wanted.part, wanted.parts);
+    let (start, mut told) = (Instant::now(), Instant::now());
+    while claims.counts.lines < count {
+        if let Err(difference) = claims.next() {
+            println!("harness: a claim differs in {}", difference.what);
+            println!("  line     \"{}\"", difference.line);
+            println!("  ours     {}", difference.ours);
+            println!("  wanted   {}", difference.wanted);
+            println!("harness: {}", claim_summary(wanted, &claims.counts, 1));
+            return ExitCode::FAILURE;
+        }
+        if told.elapsed() >= Duration::from_secs(5) {
+            told = Instant::now();
+            let rate = claims.counts.lines as f64 / start.elapsed().as_secs_f64();
+            eprintln!("harness: {} ({rate:.0} lines a second)", claim_summary(wanted, &claims.counts, 0));
+        }
+    }
+    println!("harness: {}", claim_summary(wanted, &claims.counts, 0));
+    ExitCode::SUCCESS
+}
+
 fn main() -> ExitCode {
     match arguments() {
         Err(error) => {
@@ -284,6 +320,7 @@ fn main() -> ExitCode {
         Ok(wanted @ Wanted { tallies: Some(count), .. }) => compared_tallies(&wanted, count),
         Ok(wanted @ Wanted { settings: Some(count), .. }) => compared_settings(&wanted, count),
         Ok(wanted @ Wanted { reach: Some(count), .. }) => compared_reach(&wanted, count),
+        Ok(wanted @ Wanted { claims: Some(count), .. }) => compared_claims(&wanted, count),
         Ok(wanted) => compared(&wanted),
     }
 }

@@ -23,8 +23,8 @@
 //! ```
 //!
 //! What a wrong caller could get wrong does not compile, or cannot be made: settings hold no value out of range, a reading cannot
-//! be taken apart from its line and its tables, and a table's entry cannot be read past the counts. So the archive's refusals 2
-//! and 7 cannot arise (see [`Refusal`]).
+//! be taken apart from its line and its tables, and a table's entry cannot be read past the counts. So the archive's refusal 2
+//! cannot arise, and 7 for a [`Claim`] alone (see [`Refusal`]).
 //!
 //! A stream that comes over TCP is cut into frames, each to be read as a line, by a [`Splitter`], which is fed whatever came; with the
 //! feature `std`, [`Frames`] goes through those of a reader.
@@ -33,6 +33,8 @@
 //!
 //! A [`SettingsFile`] has the year, offset, variant and default host of each gate of a site, and [`Tables::read_with`] reads a line as
 //! the record of its gate says.
+//!
+//! [`check_claim`] says whether a record and tables that somebody else made, a [`Claim`], are the line's strict reading.
 //!
 //! Texts are parts of the line, as bytes and, with `_str` behind the name, as `str`. No call allocates: tables own their memory
 //! ([`Tables::new`], with the feature `std`, which is on by default) or are laid over what is lent ([`Tables::over`]).
@@ -48,6 +50,7 @@
 extern crate std;
 
 mod answer;
+mod claim;
 mod elements;
 #[cfg(feature = "std")]
 mod frames;
@@ -69,6 +72,7 @@ mod texts;
 mod timestamp;
 
 pub use answer::{Answer, LooseAnswer, WholeLine};
+pub use claim::{check_claim, Claim, ClaimedText};
 pub use elements::{Element, Elements, ElementsWith, Param, Params, Unescape};
 #[cfg(feature = "std")]
 pub use frames::{FrameError, Frames};

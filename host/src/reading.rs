@@ -211,6 +211,11 @@ impl<'line> Reading<'line, '_, Loose> {
 }
 
 impl<'line, 'tables> Reading<'line, 'tables, Strict> {
+    /// The record, and the entries counted.
+    pub(crate) fn parts(&self) -> (&'tables Record, &'tables [ElementEntry], &'tables [ParamEntry]) {
+        (self.record, self.elements, self.params)
+    }
+
     /// The message. A line may end without one, and one may be empty.
     pub fn message(&self) -> Option<&'line [u8]> {
         self.record.has_message().then(|| self.record.message(self.line))

@@ -8,14 +8,16 @@ use crate::timestamp::Timestamp;
 
 /// Bytes of a strict record, which is the longest.
 const BYTES: usize = 248;
+/// Words of it.
+pub(crate) const WORDS: usize = BYTES / 8;
 /// Bytes of a loose record. Those of a strict one begin with them.
 const LOOSE_BYTES: usize = 216;
 
-const PROTOCOL: usize = 0;
-const VERSION: usize = 8;
-const FACILITY: usize = 16;
-const SEVERITY: usize = 32;
-const TIMESTAMP: usize = 48;
+pub(crate) const PROTOCOL: usize = 0;
+pub(crate) const VERSION: usize = 8;
+pub(crate) const FACILITY: usize = 16;
+pub(crate) const SEVERITY: usize = 32;
+pub(crate) const TIMESTAMP: usize = 48;
 const SECONDS: usize = 56;
 const NANOSECONDS: usize = 64;
 const DIGITS: usize = 72;
@@ -24,11 +26,11 @@ pub(crate) const HOST: usize = 88;
 pub(crate) const APP_NAME: usize = 112;
 pub(crate) const PROCESS_ID: usize = 136;
 pub(crate) const MESSAGE_ID: usize = 160;
-const MESSAGE: usize = 184;
-const ELEMENTS: usize = 200;
-const PARAMS: usize = 208;
+pub(crate) const MESSAGE: usize = 184;
+pub(crate) const ELEMENTS: usize = 200;
+pub(crate) const PARAMS: usize = 208;
 pub(crate) const TIMESTAMP_TEXT: usize = 216;
-const HAS_MESSAGE: usize = 240;
+pub(crate) const HAS_MESSAGE: usize = 240;
 
 /// The protocol of a line.
 #[derive(Clone, Copy, Debug, PartialEq, Eq, Hash)]
@@ -78,7 +80,12 @@ impl Record {
         &self.0[..LOOSE_BYTES]
     }
 
-    fn word(&self, at: usize) -> u64 {
+    /// What the check of a claim reads.
+    pub(crate) fn strict_bytes(&self) -> &[u8] {
+        &self.0
+    }
+
+    pub(crate) fn word(&self, at: usize) -> u64 {
         let mut word = [0; 8];
         word.copy_from_slice(&self.0[at..at + 8]);
         u64::from_le_bytes(word)

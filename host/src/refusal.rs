@@ -6,19 +6,21 @@ use crate::sys::ReadAnswer;
 
 /// The number of the one refusal that says more than its number.
 const NO_READING: u32 = 4;
+/// The number that no call but the check of a claim brings about.
+const UNSUITABLE: u32 = 7;
 
-/// The refusals, one row each: number, name and words. All else here follows from the rows, but for the refusal that has a place, and the second meaning of 9.
+/// The refusals, one row each: number, name and words. All else here follows from the rows, but for the refusal that has a place, the second meaning of 9, and 7.
 macro_rules! refusals {
     ($($(#[$doc:meta])+ $number:literal $name:ident $words:literal)+) => {
         /// Why a call was refused. A refused call has changed nothing that it was lent. (A [`Splitter`](crate::Splitter) moves on with
         /// what it reports: the stream has ended, or goes on behind the long frame.)
         ///
-        /// Of the numbers that the archive may answer, two are not here, because no call of this crate can bring them about.
-        /// Number 2 is for settings out of range, and the types of [`Settings`](crate::Settings), [`Unescape`](crate::Unescape) and
+        /// Of the numbers that the archive may answer, 2 is not here, because no call of this crate can bring it about:
+        /// it is for settings out of range, and the types of [`Settings`](crate::Settings), [`Unescape`](crate::Unescape) and
         /// [`Framing`](crate::Framing) hold none. Number 7 is for a record or tables that do not suit the line, and a
-        /// [`Reading`](crate::Reading) holds the line, the record and the tables of one reading together and lets nobody
-        /// change them; and for a facility or a severity that a tally has no place for, and [`Facility`](crate::Facility) and
-        /// [`Severity`](crate::Severity) have none of those.
+        /// [`Claim`](crate::Claim) alone can be such: a [`Reading`](crate::Reading) holds the line, the record and the tables of one
+        /// reading together and lets nobody change them. It is also for a facility or a severity that a tally has no place for, and
+        /// [`Facility`](crate::Facility) and [`Severity`](crate::Severity) have none of those.
         ///
         /// More are to come with further calls, so a match has an arm for the rest; without one it does not compile:
         ///
@@ -30,6 +32,7 @@ macro_rules! refusals {
         ///         LineTooLong | NotUtf8 | TooManyElements | TooManyParams | OutputTooShort | NoSuchParam => 1,
         ///         NoSuchGate | CellFull | BadCount | FrameTooLong | BadLength | UnknownVersion | BadField => 2,
         ///         NoReading { .. } => 4,
+        ///         Unsuitable | WrongClaim => 7,
         ///         Unexpected(number) => number,
         ///     }
         /// }
@@ -40,6 +43,9 @@ macro_rules! refusals {
             $($(#[$doc])+ $name,)+
             /// Number 9 of a [`SettingsFile`](crate::SettingsFile): it has no record of the gate.
             NoSuchGate,
+            /// Number 7 of a [`Claim`](crate::Claim): a place ends past the line, the numbers of the parameters' elements are not
+            /// those of elements in their order, a count is more than its table has, or a number is out of its range.
+            Unsuitable,
             /// Number 4: there is no reading. The strict reader gives it, the reading [with settings](crate::Tables::read_with), and
             /// [`LooseAnswer::exact`](crate::LooseAnswer::exact).
             NoReading {
@@ -69,6 +75,7 @@ macro_rules! refusals {
                 match self {
                     $(Refusal::$name => $number,)+
                     Refusal::NoSuchGate => Refusal::NoSuchParam.number(),
+                    Refusal::Unsuitable => UNSUITABLE,
                     Refusal::NoReading { .. } => NO_READING,
                     Refusal::Unexpected(number) => number,
                 }
@@ -115,6 +122,7 @@ macro_rules! refusals {
                 match self {
                     $(Refusal::$name => f.pad($words),)+
                     Refusal::NoSuchGate => f.pad("the settings file has no record of the gate"),
+                    Refusal::Unsuitable => f.pad("what is claimed does not suit the line"),
                     Refusal::NoReading { reach: None } => f.pad("the line has no reading"),
                     Refusal::NoReading { reach: Some(reach) } => write!(f, "the line has no reading from column {} on", reach + 1),
                     Refusal::Unexpected(number) => {
@@ -151,9 +159,19 @@ refusals! {
     14 UnknownVersion "the version of the settings record is not known"
     /// Number 15: a field of the gate's record is out of range, or a byte that says nothing is not zero.
     15 BadField "a field of the settings record is out of range, or a reserved byte is not zero"
+    /// Number 16: a [`Claim`](crate::Claim) that suits the line and is not its reading.
+    16 WrongClaim "what is claimed is not the line's reading"
 }
 
 impl Refusal {
+    /// What an answer of the check of a claim means: 7 can arise.
+    pub(crate) const fn check_claim(number: u32) -> Result<(), Refusal> {
+        match number {
+            UNSUITABLE => Err(Refusal::Unsuitable),
+            number => Refusal::check(number),
+        }
+    }
+
     /// What an answer of the strict reader means: 4 comes with how far the line is right.
     pub(crate) const fn check_strict(answer: ReadAnswer) -> Result<(), Refusal> {
         match answer.number {

@@ -1,4 +1,4 @@
-//! The sixteen functions of the archive, each behind a safe function over slices and numbers.
+//! The seventeen functions of the archive, each behind a safe function over slices and numbers.
 //!
 //! This and `texts` are the only modules with `unsafe`. What makes each call safe is the same: the archive's functions are total, whatever
 //! the bytes, numbers and lengths. They read and write within the counts that they are given and keep nothing after the call.
@@ -10,7 +10,7 @@
 /// stands, and what each answer means.
 const INTERFACE: u32 = 2;
 
-/// The memory of one element in [`Tables`](crate::Tables): 16 bytes. What it holds is a reader's.
+/// The memory of one element in [`Tables`](crate::Tables): 16 bytes. What it holds is a reader's, or of a [`Claim`](crate::Claim)'s maker.
 // The place of the element's id: start and length.
 #[repr(transparent)]
 #[derive(Clone, Copy, Debug, Default, PartialEq, Eq)]
@@ -19,9 +19,14 @@ pub struct ElementEntry(pub(crate) [usize; 2]);
 impl ElementEntry {
     /// The entry that holds nothing, to make an array of.
     pub const EMPTY: ElementEntry = ElementEntry([0; 2]);
+
+    /// The entry of a claimed element: start and length of its id.
+    pub const fn new(start: usize, len: usize) -> ElementEntry {
+        ElementEntry([start, len])
+    }
 }
 
-/// The memory of one parameter in [`Tables`](crate::Tables): 40 bytes. What it holds is a reader's.
+/// The memory of one parameter in [`Tables`](crate::Tables): 40 bytes. What it holds is a reader's, or of a [`Claim`](crate::Claim)'s maker.
 // The number of the parameter's element, start and length of its name, start and length of its value.
 #[repr(transparent)]
 #[derive(Clone, Copy, Debug, Default, PartialEq, Eq)]
@@ -30,6 +35,11 @@ pub struct ParamEntry(pub(crate) [usize; 5]);
 impl ParamEntry {
     /// The entry that holds nothing, to make an array of.
     pub const EMPTY: ParamEntry = ParamEntry([0; 5]);
+
+    /// The entry of a claimed parameter: the number of its element, from 0, and start and length of its name and of its value.
+    pub const fn new(element: usize, name: (usize, usize), value: (usize, usize)) -> ParamEntry {
+        ParamEntry([element, name.0, name.1, value.0, value.1])
+    }
 }
 
 /// What a reader answers. `number` is 0 where it left a record, else that of the refusal. `whole` is 1 where a loose line has no
@@ -246,6 +256,17 @@ extern "C" {
         record: *mut u8,
         record_len: usize,
     ) -> SiteAnswer;
+
+    fn khamdoriem_check_claim(
+        line: *const u8,
+        line_len: usize,
+        record: *const u8,
+        record_len: usize,
+        elements: *const ElementEntry,
+        elements_len: usize,
+        params: *const ParamEntry,
+        params_len: usize,
+    ) -> u32;
 }
 
 /// A facility or a severity as the archive has it: mark 1 and the number, or mark 0 and 0 for none.
@@ -263,7 +284,7 @@ pub(crate) struct Numbers {
     pub(crate) offset: i32,
 }
 
-/// What a record and its tables are to printing and lookup: all only read.
+/// What a record and its tables are to printing, lookup and the check of a claim: all only read.
 #[derive(Clone, Copy)]
 pub(crate) struct Lent<'a> {
     pub(crate) line: &'a [u8],
@@ -472,6 +493,23 @@ pub(crate) fn read_with_settings(
             params.len(),
             record.as_mut_ptr(),
             record.len(),
+        )
+    }
+}
+
+/// The check of a claimed reading.
+pub(crate) fn check_claim(lent: Lent<'_>) -> u32 {
+    // SAFETY: the module's: each pointer and count are those of one slice, and all are only read.
+    unsafe {
+        khamdoriem_check_claim(
+            lent.line.as_ptr(),
+            lent.line.len(),
+            lent.record.as_ptr(),
+            lent.record.len(),
+            lent.elements.as_ptr(),
+            lent.elements.len(),
+            lent.params.as_ptr(),
+            lent.params.len(),
         )
     }
 }

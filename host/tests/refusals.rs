@@ -1,4 +1,4 @@
-//! Each refusal by its number, that it leaves what it was lent, and that 2 and 7 do not arise.
+//! Each refusal by its number, that it leaves what it was lent, and that 2 and, of a reading, 7 do not arise.
 
 #![cfg(feature = "std")]
 
@@ -220,6 +220,8 @@ fn refusals_have_numbers_and_words() {
         (Refusal::BadLength, 13, "the length of the settings file is no multiple of 32"),
         (Refusal::UnknownVersion, 14, "the version of the settings record is not known"),
         (Refusal::BadField, 15, "a field of the settings record is out of range, or a reserved byte is not zero"),
+        (Refusal::Unsuitable, 7, "what is claimed does not suit the line"),
+        (Refusal::WrongClaim, 16, "what is claimed is not the line's reading"),
     ];
     for (refusal, number, words) in all {
         let error: Box<dyn std::error::Error> = Box::new(refusal);

@@ -19,7 +19,7 @@ use Rattle.record.specs.declared.StrictRecord.{StrictRecord}
 use Rattle.record.specs.declared.StrictReading.{StrictReading}
 use Rattle.record.specs.declared.StrictReading.the-variants as strict
 use Rattle.record.specs.declared.Refusal.{Refusal}
-use Rattle.record.specs.declared.Refusal.the-variants.{LineTooLong, BadSetting, NotUtf8, NoReading, TooManyElements, TooManyParams, Unsuitable, NotFound, OutputShort, CellFull, BadCount, FrameTooLong, BadLength, UnknownVersion, BadField}
+use Rattle.record.specs.declared.Refusal.the-variants.{LineTooLong, BadSetting, NotUtf8, NoReading, TooManyElements, TooManyParams, Unsuitable, NotFound, OutputShort, CellFull, BadCount, FrameTooLong, BadLength, UnknownVersion, BadField, WrongClaim, Unwritable}
 use Rattle.layout.specs.Layout.{recordSize, strictSize, wordsBytes, mark, placeWords, recordWords, strictWords, recordBytes, strictBytes}
 use Rattle.layout.proofs.Words.{words-append}
 use Rattle.layout.proofs.Back.{laid-held, laid-counts, laid-back}
@@ -46,6 +46,8 @@ refused FrameTooLong = refl
 refused BadLength = refl
 refused UnknownVersion = refl
 refused BadField = refl
+refused WrongClaim = refl
+refused Unwritable = refl
 
 -- an answer of number 0, and a refusal's
 abbrev done : ℕ → ReadAnswer

@@ -15,7 +15,7 @@ use Rattle.record.specs.declared.Reading.the-variants as loose
 use Rattle.record.specs.declared.Written.{Written}
 use Rattle.record.specs.declared.Written.the-variants as written
 use Rattle.record.specs.declared.Refusal.{Refusal}
-use Rattle.record.specs.declared.Refusal.the-variants.{LineTooLong, BadSetting, NotUtf8, NoReading, TooManyElements, TooManyParams, Unsuitable, NotFound, OutputShort, CellFull, BadCount, FrameTooLong, BadLength, UnknownVersion, BadField}
+use Rattle.record.specs.declared.Refusal.the-variants.{LineTooLong, BadSetting, NotUtf8, NoReading, TooManyElements, TooManyParams, Unsuitable, NotFound, OutputShort, CellFull, BadCount, FrameTooLong, BadLength, UnknownVersion, BadField, WrongClaim, Unwritable}
 use Rattle.output.specs.Output.{outputAfter}
 use Rattle.loose.specs.Loose.{tableAfter, Reads}
 use Rattle.loose.specs.Judging.{Passes}
@@ -130,6 +130,8 @@ module _ (line : List ℕ) (e₀ : Elements) (p₀ : Params) where
   WhyRefused BadLength = ⊥
   WhyRefused UnknownVersion = ⊥
   WhyRefused BadField = ⊥
+  WhyRefused WrongClaim = ⊥
+  WhyRefused Unwritable = ⊥
 
   abbrev Why : StrictReading → Type 0
   Why (strict.Read s e p) = Derivable line e₀ p₀

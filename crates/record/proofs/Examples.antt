@@ -8,7 +8,7 @@ use Rattle.record.specs.Refusals.{refusalNumber}
 use Rattle.record.specs.Answers.{answerOf, strictAnswerOf, readAnswerOf, strictReadAnswerOf, outputAnswerOf}
 use Rattle.record.specs.Params.{rowOf, blank}
 use Rattle.record.specs.declared.Place.{Place}
-use Rattle.record.specs.declared.Refusal.the-variants.{LineTooLong, BadSetting, NotUtf8, NoReading, TooManyElements, TooManyParams, Unsuitable, NotFound, OutputShort, CellFull, BadCount, FrameTooLong, BadLength, UnknownVersion, BadField}
+use Rattle.record.specs.declared.Refusal.the-variants.{LineTooLong, BadSetting, NotUtf8, NoReading, TooManyElements, TooManyParams, Unsuitable, NotFound, OutputShort, CellFull, BadCount, FrameTooLong, BadLength, UnknownVersion, BadField, WrongClaim, Unwritable}
 use Rattle.record.specs.declared.Protocol.the-variants.{Rfc3164}
 use Rattle.record.specs.declared.Level.the-variants.{Unset}
 use Rattle.record.specs.declared.Stamp.the-variants.{Unstamped}
@@ -18,8 +18,8 @@ use Rattle.record.specs.declared.StrictReading.the-variants as strict
 use Rattle.record.specs.declared.Written.the-variants as written
 
 -- the cases in the order in which they are checked (RULES Numbers a), and their numbers
-numbers : map refusalNumber (LineTooLong ∷ BadSetting ∷ NotUtf8 ∷ NoReading ∷ TooManyElements ∷ TooManyParams ∷ Unsuitable ∷ NotFound ∷ OutputShort ∷ CellFull ∷ BadCount ∷ FrameTooLong ∷ BadLength ∷ UnknownVersion ∷ BadField ∷ [])
-    ≡ 1 ∷ 2 ∷ 3 ∷ 4 ∷ 5 ∷ 6 ∷ 7 ∷ 9 ∷ 8 ∷ 10 ∷ 11 ∷ 12 ∷ 13 ∷ 14 ∷ 15 ∷ []
+numbers : map refusalNumber (LineTooLong ∷ BadSetting ∷ NotUtf8 ∷ NoReading ∷ TooManyElements ∷ TooManyParams ∷ Unsuitable ∷ NotFound ∷ OutputShort ∷ CellFull ∷ BadCount ∷ FrameTooLong ∷ BadLength ∷ UnknownVersion ∷ BadField ∷ WrongClaim ∷ Unwritable ∷ [])
+    ≡ 1 ∷ 2 ∷ 3 ∷ 4 ∷ 5 ∷ 6 ∷ 7 ∷ 9 ∷ 8 ∷ 10 ∷ 11 ∷ 12 ∷ 13 ∷ 14 ∷ 15 ∷ 16 ∷ 17 ∷ []
 numbers = refl
 
 abbrev nothing : Place

@@ -1,7 +1,7 @@
 -- The numbers a caller may get back, in the order in which they are checked (RULES Numbers).
 use Prim.Native.Nat.{ℕ}
 use Rattle.record.specs.declared.Refusal.{Refusal}
-use Rattle.record.specs.declared.Refusal.the-variants.{LineTooLong, BadSetting, NotUtf8, NoReading, TooManyElements, TooManyParams, Unsuitable, NotFound, OutputShort, CellFull, BadCount, FrameTooLong, BadLength, UnknownVersion, BadField}
+use Rattle.record.specs.declared.Refusal.the-variants.{LineTooLong, BadSetting, NotUtf8, NoReading, TooManyElements, TooManyParams, Unsuitable, NotFound, OutputShort, CellFull, BadCount, FrameTooLong, BadLength, UnknownVersion, BadField, WrongClaim, Unwritable}
 
 abbrev pub refusalNumber : Refusal → ℕ
 -- line over 8,192 bytes
@@ -34,3 +34,7 @@ refusalNumber BadLength = 13
 refusalNumber UnknownVersion = 14
 -- a settings field out of range, or a reserved byte not zero
 refusalNumber BadField = 15
+-- a claim that is not the line's division
+refusalNumber WrongClaim = 16
+-- a field that breaks the grammar
+refusalNumber Unwritable = 17

@@ -93,6 +93,8 @@ pub enum Refusal {
     BadLength,
     UnknownVersion,
     BadField,
+    WrongClaim,
+    Unwritable,
 }
 
 // What the loose reader answers: the record and both counts; the whole line as the message, where the rules give no reading; or why not.
@@ -237,6 +239,8 @@ pub fn refusal_number(r: Refusal) -> u32
         Refusal::BadLength => 13,
         Refusal::UnknownVersion => 14,
         Refusal::BadField => 15,
+        Refusal::WrongClaim => 16,
+        Refusal::Unwritable => 17,
     }
 }
 

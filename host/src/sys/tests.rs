@@ -392,7 +392,7 @@ fn every_number_is_a_refusal_with_that_number() {
     for number in (1..100).chain([u32::MAX]) {
         let refusal = Refusal::check(number).unwrap_err();
         assert_eq!(refusal.number(), number);
-        let known = matches!(number, 1 | 3 | 5 | 6 | 8..=15);
+        let known = matches!(number, 1 | 3 | 5 | 6 | 8..=16);
         assert_eq!(matches!(refusal, Refusal::Unexpected(_)), !known, "{number}");
     }
 }

@@ -1,0 +1,5 @@
+pub mod Names
+pub mod Entries
+pub mod Walks
+pub mod Messages
+pub mod Notes

@@ -1,0 +1,5 @@
+pub mod Stands
+pub mod Heads
+pub mod Zones
+pub mod Stamped
+pub mod Texts

@@ -1,0 +1,12 @@
+pub mod Numbers
+pub mod Moments
+pub mod Places
+pub mod Told
+pub mod Bytes
+pub mod Tests
+pub mod Pieces
+pub mod Stamps
+pub mod Rows
+pub mod Claimed
+pub mod Laws
+pub mod Examples
