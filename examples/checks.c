@@ -49,6 +49,21 @@ SAME(settings_at,
 SAME(site_size, sizeof(struct khamdoriem_site) == 24);
 SAME(site_at, offsetof(struct khamdoriem_site, number) == 0 && offsetof(struct khamdoriem_site, holder) == 4 &&
                   offsetof(struct khamdoriem_site, host_start) == 8 && offsetof(struct khamdoriem_site, host_len) == 16);
+SAME(part_size, sizeof(struct khamdoriem_part) == 3 * 8);
+SAME(part_at, offsetof(struct khamdoriem_part, present) == 0 && offsetof(struct khamdoriem_part, start) == 8 &&
+                  offsetof(struct khamdoriem_part, len) == 16);
+SAME(fields_size, sizeof(struct khamdoriem_fields) == 168);
+SAME(fields_numbers_at,
+     offsetof(struct khamdoriem_fields, priority) == 0 && offsetof(struct khamdoriem_fields, version) == 4 &&
+         offsetof(struct khamdoriem_fields, seconds) == 8 && offsetof(struct khamdoriem_fields, stamped) == 16 &&
+         offsetof(struct khamdoriem_fields, nanos) == 20 && offsetof(struct khamdoriem_fields, digits) == 24 &&
+         offsetof(struct khamdoriem_fields, offset) == 28);
+SAME(fields_texts_at,
+     offsetof(struct khamdoriem_fields, host) == 32 && offsetof(struct khamdoriem_fields, app) == 56 &&
+         offsetof(struct khamdoriem_fields, procid) == 80 && offsetof(struct khamdoriem_fields, msgid) == 104 &&
+         offsetof(struct khamdoriem_fields, message) == 128);
+SAME(fields_counts_at, offsetof(struct khamdoriem_fields, element_count) == 152 &&
+                           offsetof(struct khamdoriem_fields, param_count) == 160);
 SAME(frame_is_line, KHAMDORIEM_STREAM_BUFFER == KHAMDORIEM_LINE_LIMIT);
 SAME(record_ends, KHAMDORIEM_RECORD == KHAMDORIEM_AT_PARAMS + 8 && KHAMDORIEM_RECORD == KHAMDORIEM_AT_TIMESTAMP_TEXT);
 SAME(strict_ends, KHAMDORIEM_STRICT_RECORD == KHAMDORIEM_AT_HAS_MESSAGE + 8);
@@ -974,6 +989,194 @@ static void check_site_refusals(void) {
     CHECK(has_host(with_settings_into(7, 1, 1, KHAMDORIEM_RECORD), KHAMDORIEM_HOST_IN_FILE, "depot"));
 }
 
+/* ---- a line that is written: of the text, the elements and the params above */
+
+static struct khamdoriem_fields fields;
+
+/* A text more behind the others, as a field. */
+static struct khamdoriem_part text_of(const char *text) {
+    size_t n = strlen(text);
+    add(text, 1);
+    return khamdoriem_part_at(len - n, n);
+}
+
+static void add_element(const char *id) {
+    struct khamdoriem_part part = text_of(id);
+    elements[fields.element_count].id_start = part.start;
+    elements[fields.element_count++].id_len = part.len;
+}
+
+static void add_param(const char *name, const char *value) {
+    khamdoriem_param *param = &params[fields.param_count++];
+    struct khamdoriem_part n = text_of(name), v = text_of(value);
+    param->element = fields.element_count - 1;
+    param->name_start = n.start, param->name_len = n.len;
+    param->value_start = v.start, param->value_len = v.len;
+}
+
+/* <13>1 - - - - - - */
+static void start_fields(void) {
+    start("");
+    memset(&fields, 0, sizeof fields);
+    fields.priority = 13, fields.version = 1;
+}
+
+static struct khamdoriem_written write_into(size_t room) {
+    return khamdoriem_write_strict(line, len, fields, elements, fields.element_count, params, fields.param_count,
+                                   output, room);
+}
+
+/* Writes, and says whether that is the line: with room for it and no more, and with a byte less not. */
+static int writes(const char *expected) {
+    size_t n = strlen(expected);
+    struct khamdoriem_written a;
+    memset(output, 0x5A, sizeof output);
+    a = write_into(n - 1);
+    if (a.number != KHAMDORIEM_OUTPUT_SHORT || a.len || !all(output, 0, sizeof output, 0x5A)) return 0;
+    a = write_into(n);
+    return a.number == KHAMDORIEM_DONE && same(output, a.len, expected) && all(output, n, sizeof output, 0x5A);
+}
+
+/* The number with which it is refused, where nothing is written; else one that no call answers. */
+static uint32_t not_written(size_t room) {
+    struct khamdoriem_written a;
+    memset(output, 0x5A, sizeof output);
+    a = write_into(room);
+    return a.len || !all(output, 0, sizeof output, 0x5A) ? UINT32_MAX : a.number;
+}
+
+static uint32_t unwritten(void) { return not_written(KHAMDORIEM_LINE_LIMIT); }
+
+static void check_writes(void) {
+    start_fields();
+    CHECK(writes("<13>1 - - - - - -"));
+    fields.message = khamdoriem_part_at(0, 0);
+    CHECK(writes("<13>1 - - - - - - "));
+    fields.priority = KHAMDORIEM_LAST_PRIORITY, fields.version = KHAMDORIEM_LAST_VERSION;
+    fields.stamped = 1, fields.seconds = 1767607262, fields.nanos = 215000000, fields.digits = 3, fields.offset = -90;
+    fields.message = text_of("tap ]\"");
+    fields.host = text_of("gate7"), fields.app = text_of("reader"), fields.procid = text_of("42");
+    fields.msgid = text_of("TAP");
+    add_element("a@1");
+    add_param("x", "");
+    add_param("x", "a\"b\\c]d");
+    add_element("b@1");
+    add_element("c@1");
+    add_param("y", "\xC3\xA9");
+    CHECK(writes("<191>999 2026-01-05T08:31:02.215-01:30 gate7 reader 42 TAP "
+                 "[a@1 x=\"\" x=\"a\\\"b\\\\c\\]d\"][b@1][c@1 y=\"\xC3\xA9\"] tap ]\""));
+    fields.digits = 6;
+    CHECK(writes("<191>999 2026-01-05T08:31:02.215000-01:30 gate7 reader 42 TAP "
+                 "[a@1 x=\"\" x=\"a\\\"b\\\\c\\]d\"][b@1][c@1 y=\"\xC3\xA9\"] tap ]\""));
+    fields.param_count = 1, fields.element_count = 1, fields.message.present = 0, fields.host.present = 0;
+    fields.nanos = 0, fields.digits = 0, fields.offset = 0, fields.procid.present = SIZE_MAX;
+    CHECK(writes("<191>999 2026-01-05T10:01:02+00:00 - reader 42 TAP [a@1 x=\"\"]"));
+}
+
+/* What is written reads the same. */
+static void check_written_reads(void) {
+    const uint8_t *text;
+    size_t n;
+    struct khamdoriem_instant instant;
+    struct khamdoriem_written a;
+    start_fields();
+    fields.stamped = 1, fields.seconds = -1, fields.nanos = 750000000, fields.digits = 2, fields.offset = 1439;
+    fields.procid = text_of("--"), fields.message = text_of("\xFF");
+    add_element("a");
+    add_param("x", "\\n]");
+    a = write_into(KHAMDORIEM_LINE_LIMIT);
+    CHECK(a.number == KHAMDORIEM_DONE);
+    memcpy(line, output, len = a.len);
+    memset(&instant, 0, sizeof instant);
+    CHECK(strict_into(1, 1).number == KHAMDORIEM_DONE && khamdoriem_timestamp(record, &instant));
+    CHECK(khamdoriem_facility(record) == 1 && khamdoriem_severity(record) == 5);
+    CHECK(instant.seconds == -1 && instant.nanoseconds == 750000000 && instant.digits == 2 && instant.offset == 1439);
+    text = khamdoriem_host(line, record, &n);
+    CHECK(absent(text, n));
+    text = khamdoriem_process_id(line, record, &n);
+    CHECK(same(text, n, "--"));
+    text = khamdoriem_message(line, record, &n);
+    CHECK(khamdoriem_has_message(record) && same(text, n, "\xFF"));
+    a = look("a", "x", KHAMDORIEM_KIND_STRICT, sizeof output);
+    CHECK(a.number == KHAMDORIEM_DONE && same(output, a.len, "\\n]"));
+}
+
+/* Whether a text of the front may have so many bytes. */
+static int front_takes(struct khamdoriem_part *part, size_t n) {
+    start_fields();
+    add("x", n);
+    *part = khamdoriem_part_at(0, n);
+    return unwritten() != KHAMDORIEM_UNWRITABLE;
+}
+
+static void check_unwritable(void) {
+    static const char *const bad[] = {"", "-", "a b", "\x7F", "\xC3\xA9", "a\n"};
+    struct khamdoriem_part *const parts[] = {&fields.host, &fields.app, &fields.procid, &fields.msgid};
+    static const size_t limits[] = {KHAMDORIEM_HOST_LIMIT, KHAMDORIEM_APP_NAME_LIMIT, KHAMDORIEM_PROCESS_ID_LIMIT,
+                                    KHAMDORIEM_MESSAGE_ID_LIMIT};
+    size_t i, k;
+    for (i = 0; i < 4; i++) {
+        CHECK(front_takes(parts[i], limits[i]) && !front_takes(parts[i], limits[i] + 1));
+        for (k = 0; k < sizeof bad / sizeof *bad; k++) {
+            start_fields();
+            *parts[i] = text_of(bad[k]);
+            CHECK(unwritten() == KHAMDORIEM_UNWRITABLE);
+        }
+    }
+    for (i = KHAMDORIEM_NAME_LIMIT; i <= KHAMDORIEM_NAME_LIMIT + 1; i++) {
+        start_fields();
+        add("x", i);
+        fields.element_count = 1, elements[0].id_start = 0, elements[0].id_len = i;
+        CHECK((unwritten() == KHAMDORIEM_UNWRITABLE) == (i > KHAMDORIEM_NAME_LIMIT));
+    }
+    start_fields(), fields.priority = 192;
+    CHECK(unwritten() == KHAMDORIEM_UNWRITABLE);
+    start_fields(), fields.version = 0;
+    CHECK(unwritten() == KHAMDORIEM_UNWRITABLE);
+    start_fields(), fields.version = 1000;
+    CHECK(unwritten() == KHAMDORIEM_UNWRITABLE);
+    start_fields(), fields.stamped = 1, fields.digits = KHAMDORIEM_DIGITS_WRITTEN + 1;
+    CHECK(unwritten() == KHAMDORIEM_UNWRITABLE);
+    start_fields(), add_element("a]");
+    CHECK(unwritten() == KHAMDORIEM_UNWRITABLE);
+    start_fields(), add_element("a"), add_param("x=", "1");
+    CHECK(unwritten() == KHAMDORIEM_UNWRITABLE);
+    start_fields(), add_element("a"), add_param("x", "\xC3");
+    CHECK(unwritten() == KHAMDORIEM_UNWRITABLE);
+    start_fields(), add_element("a"), add_element("b"), add_element("a");
+    CHECK(unwritten() == KHAMDORIEM_UNWRITABLE);
+    start_fields(), fields.message = text_of("\xEF\xBB\xBF\xC3");
+    CHECK(unwritten() == KHAMDORIEM_UNWRITABLE);
+}
+
+/* 7 before 17, 17 before 1, 1 before 8; and no sum of a place wraps. */
+static void check_write_order(void) {
+    start_fields();
+    add("]", 4096);
+    fields.element_count = 1, elements[0].id_start = 0, elements[0].id_len = 0;
+    fields.param_count = 1;
+    params[0].element = 0, params[0].name_start = 0, params[0].name_len = 0, params[0].value_start = 0;
+    params[0].value_len = 4096;
+    fields.host = khamdoriem_part_at(1, SIZE_MAX);
+    CHECK(not_written(0) == KHAMDORIEM_UNSUITABLE);
+    fields.host = khamdoriem_part_at(4097, 0);
+    CHECK(not_written(0) == KHAMDORIEM_UNSUITABLE);
+    fields.host.present = 0;
+    CHECK(not_written(0) == KHAMDORIEM_UNSUITABLE);
+    fields.host.start = 0;
+    CHECK(not_written(0) == KHAMDORIEM_UNWRITABLE);
+    add("a", 1);
+    elements[0].id_start = params[0].name_start = 4096, elements[0].id_len = params[0].name_len = 1;
+    CHECK(not_written(0) == KHAMDORIEM_LINE_TOO_LONG && unwritten() == KHAMDORIEM_LINE_TOO_LONG);
+    params[0].value_len = (KHAMDORIEM_LINE_LIMIT - 24) / 2;
+    CHECK(not_written(KHAMDORIEM_LINE_LIMIT - 1) == KHAMDORIEM_OUTPUT_SHORT);
+    CHECK(write_into(KHAMDORIEM_LINE_LIMIT).len == KHAMDORIEM_LINE_LIMIT);
+    params[0].element = 1;
+    CHECK(unwritten() == KHAMDORIEM_UNSUITABLE);
+    params[0].element = 0, fields.stamped = 1, fields.nanos = 1;
+    CHECK(unwritten() == KHAMDORIEM_UNSUITABLE);
+}
+
 /* ---- words */
 
 static int named(const char *is, const char *name) { return is && !strcmp(is, name); }
@@ -1120,8 +1323,8 @@ static void check_texts(void) {
     uint32_t i, k;
     for (i = 0; i <= 16; i++)
         for (k = 0; k < i; k++) CHECK(strcmp(khamdoriem_refusal_text(i), khamdoriem_refusal_text(k)) != 0);
-    CHECK(khamdoriem_refusal_text(17) == khamdoriem_refusal_text(4294967295u));
-    CHECK(strcmp(khamdoriem_refusal_text(16), khamdoriem_refusal_text(17)) != 0);
+    CHECK(khamdoriem_refusal_text(18) == khamdoriem_refusal_text(4294967295u));
+    CHECK(strcmp(khamdoriem_refusal_text(17), khamdoriem_refusal_text(18)) != 0);
 }
 
 int main(void) {
@@ -1158,6 +1361,10 @@ int main(void) {
     check_claims();
     check_claimed_zones();
     check_claimed_ids();
+    check_writes();
+    check_written_reads();
+    check_unwritable();
+    check_write_order();
     check_names();
     check_texts();
     printf("checks: %lu passed, %lu failed\n", passed, failed);

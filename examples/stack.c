@@ -87,6 +87,18 @@ static void check_claim(void) {
                                     KHAMDORIEM_PARAMS_ENOUGH);
 }
 
+/* The line that was read, written again: its text is the line. */
+static void write_strict(void) {
+    struct khamdoriem_fields fields;
+    memset(&fields, 0, sizeof fields);
+    fields.priority = 13, fields.version = 1, fields.digits = 6, fields.offset = -90;
+    fields.stamped = len < KHAMDORIEM_LINE_LIMIT - 16; /* where there is room for it */
+    fields.element_count = khamdoriem_element_count(record), fields.param_count = khamdoriem_param_count(record);
+    number = khamdoriem_write_strict(line, len, fields, elements, fields.element_count, params, fields.param_count,
+                                     output, sizeof output)
+                 .number;
+}
+
 /* The bytes that a call took. The stack grows down. */
 static size_t taken(void (*call)(void)) {
     pthread_attr_t attr;
@@ -142,6 +154,7 @@ static void measure_strict(const char *what, size_t count) {
     add_elements(count);
     measure(what, read_strict, KHAMDORIEM_DONE);
     measure("check_claim of that", check_claim, KHAMDORIEM_DONE);
+    measure("write_strict of that", write_strict, KHAMDORIEM_DONE);
 }
 
 /* The same with a byte behind the elements that is wrong: how far the line is right is found by a second look at it. */

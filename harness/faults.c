@@ -35,6 +35,9 @@ struct khamdoriem_site right_read_with_settings(const uint8_t *, size_t, uint32_
 
 uint32_t right_check_claim(const uint8_t *, size_t, const uint8_t *, size_t, const khamdoriem_element *, size_t, const khamdoriem_param *, size_t);
 
+struct khamdoriem_written right_write_strict(const uint8_t *, size_t, struct khamdoriem_fields, const khamdoriem_element *, size_t, const khamdoriem_param *,
+                                             size_t, uint8_t *, size_t);
+
 static int fault(void) {
     static int number = -1;
     if (number < 0) number = getenv("FAULT") ? atoi(getenv("FAULT")) : 0;
@@ -417,4 +420,78 @@ uint32_t khamdoriem_check_claim(const uint8_t *line, size_t line_len, const uint
     }
 #undef WITH
     return n;
+}
+
+/* The line without the byte at that place, or as it is where there is no such place. */
+static size_t without(uint8_t *line, size_t len, const uint8_t *at) {
+    if (!at) return len;
+    memmove(line + (at - line), at + 1, len - (size_t)(at - line) - 1);
+    return len - 1;
+}
+
+/* The first of these two bytes in the first len of a line. */
+static uint8_t *two(uint8_t *line, size_t len, uint8_t one, uint8_t other) {
+    size_t i;
+    for (i = 0; i + 1 < len; i++)
+        if (line[i] == one && line[i + 1] == other) return line + i;
+    return NULL;
+}
+
+struct khamdoriem_written khamdoriem_write_strict(const uint8_t *text, size_t text_len, struct khamdoriem_fields f, const khamdoriem_element *elements,
+                                                  size_t elements_len, const khamdoriem_param *params, size_t params_len, uint8_t *output, size_t output_len) {
+    static khamdoriem_param cut[65536];
+    size_t i;
+    uint8_t *at;
+    /* What comes in is changed here, so that the right function gives a wrong answer; below, what it answers. */
+    switch (fault()) {
+    case 130: /* a value cut at NUL */
+        for (i = 0; i < params_len && i < 65536; i++) {
+            cut[i] = params[i];
+            if (params[i].value_start > text_len || params[i].value_len > text_len - params[i].value_start) continue;
+            at = (uint8_t *)memchr(text + params[i].value_start, 0, params[i].value_len);
+            if (at) cut[i].value_len = (size_t)(at - text) - params[i].value_start;
+        }
+        params = cut;
+        break;
+    case 131: if (f.message.len == 0 && f.message.start <= text_len) f.message.present = 0; break;           /* an empty message written as absent */
+    case 132: if (f.stamped && f.digits > 3 && f.digits <= 6 && f.nanos % 1000000 == 0) f.digits = 3; break; /* digits dropped where they are zeros */
+    case 133: if (f.stamped && f.digits > 6 && f.digits <= 9) f.digits = 6, f.nanos -= f.nanos % 1000; break; /* seven digits cut to six */
+    case 134: if (f.host.len == 1 && f.host.start < text_len && text[f.host.start] == '-') f.host.present = 0; break; /* the host "-" taken for absent */
+    case 135: if (f.app.start > SIZE_MAX - f.app.len) f.app.start = f.app.len = 0, f.app.present = 0; break; /* a place whose end wraps */
+    case 136: if (!f.procid.present) f.procid.start = f.procid.len = 0; break;                               /* the place of an absent text not asked */
+    case 137: if (f.version == 1000) f.version = 999; break;                                                 /* version 1000 taken */
+    case 138: if (f.priority == 192) f.priority = 191; break;                                                /* priority 192 taken */
+    case 139: if (!f.stamped) f.nanos = f.digits = 0, f.seconds = 0, f.stamped = 1, f.offset = 0; break;     /* no timestamp written as 1970 */
+    case 140: if (f.offset < 0 && f.offset > -60) f.offset = -f.offset; break;                               /* the sign of less than an hour lost */
+    case 141: if (f.msgid.present > 1) f.msgid.present = 0; break;                                           /* a mark of 2 taken for none */
+    }
+    struct khamdoriem_written a = right_write_strict(text, text_len, f, elements, elements_len, params, params_len, output, output_len), b = a;
+    switch (fault()) {
+    case 142: if (a.number == 0) a.len = without(output, a.len, two(output, a.len, '\\', ']')); break;       /* ']' left bare */
+    case 143: if (a.number == 0) a.len = without(output, a.len, two(output, a.len, '\\', '"')); break;       /* '"' left bare */
+    case 144: if (a.number == 0) a.len = without(output, a.len, two(output, a.len, '\\', '\\')); break;      /* a backslash left alone */
+    case 145: if (a.number == 17 && f.message.len > KHAMDORIEM_LINE_LIMIT) a.number = 1; break;              /* 1 before 17 */
+    case 146: if (a.number == 1 && output_len == 0) a.number = 8; break;                                     /* 8 before 1 */
+    case 147: if (a.number == 7 && f.version == 0) a.number = 17; break;                                     /* 17 before 7 */
+    case 148: if (a.number == 0 && a.len < output_len) output[a.len] ^= 1; break;                            /* a byte past the line changed */
+    case 149: if (a.number == 8 && output_len) output[0] = '<'; break;                                       /* a refused call writes */
+    case 150: if (a.number == 17 && output_len) output[0] = '<'; break;                                      /* so does one refused with 17 */
+    case 151: if (a.number == 0 && a.len == KHAMDORIEM_LINE_LIMIT) a.number = 1, a.len = 0; break;           /* the limit off by one */
+    case 152: /* a repeated id among more than eight elements, the last, is left out */
+        if (a.number != 17 || f.element_count <= 8) break;
+        for (f.element_count--; f.param_count && params[f.param_count - 1].element >= f.element_count;) f.param_count--;
+        b = right_write_strict(text, text_len, f, elements, elements_len, params, params_len, output, output_len);
+        if (b.number == 0) a = b;
+        break;
+    case 153: /* the offset 0 as Z */
+        if (a.number == 0 && f.stamped && f.offset == 0 && (at = two(output, a.len, '0', '0')) && (at = (uint8_t *)memchr(output, '+', a.len))) {
+            *at = 'Z';
+            for (i = 0; i < 5; i++) a.len = without(output, a.len, at + 1);
+        }
+        break;
+    case 154: if (a.number == 17 && f.message.present && f.message.len > 3 && text[f.message.start] == 0xEF) a.number = 0; break; /* a message after its mark not asked */
+    case 155: if (a.number == 8) a.len = output_len + 1; break;                                              /* a length beside a refusal */
+    case 156: if (a.number == 1) a = (struct khamdoriem_written){0, output_len < KHAMDORIEM_LINE_LIMIT ? output_len : KHAMDORIEM_LINE_LIMIT}; break; /* a long line is cut */
+    }
+    return a;
 }

@@ -1,6 +1,6 @@
 /* khamdoriem.h - the C boundary of Khamdoriem, a proved reader of syslog lines. For x86-64, from C99 and C++11 on.
 
-   Seventeen functions, and inline ones that take a record apart. Link with libkhamdoriem.a (pkg-config: khamdoriem).
+   Eighteen functions, and inline ones that take a record apart. Link with libkhamdoriem.a (pkg-config: khamdoriem).
    docs/INTERFACE.md says the same at length, with the record byte by byte; examples/ has a program in C, one in C++.
 
    The order of things: compare khamdoriem_interface() once. Lend a reader the line, two tables and memory for a record,
@@ -9,15 +9,16 @@
    frame as a line. A tally counts records by facility and severity: start from zeros, add each record, and read cells
    and sums. A settings file has the year, offset, variant and default host of each gate of a site:
    khamdoriem_read_with_settings reads a line as its gate's record says. khamdoriem_check_claim says whether a strict
-   record and tables that somebody else made are the line's reading.
+   record and tables that somebody else made are the line's reading. A line that the strict reader takes is written from
+   a text and the places of its fields in it.
 
    RULES FOR WHAT IS LENT. A slice is a pointer and a count: of bytes, of a table's entries, or of a tally's rows.
    - No pointer may be null, also where its count is 0; then it may be the address of anything. (gcc and clang warn of a
      null that they see.)
    - The two tables are aligned for size_t, a tally for uint32_t. Bytes may stand anywhere.
    - What a call writes to overlaps nothing else that it is lent: of a reader both tables and the record, of print,
-     lookup and khamdoriem_settings_write the output, of khamdoriem_stream_feed the buffer. What a call only reads may
-     overlap: an id may be a part of the line. (A tally is all that its calls are lent.)
+     lookup, khamdoriem_settings_write and khamdoriem_write_strict the output, of khamdoriem_stream_feed the buffer.
+     What a call only reads may overlap: an id may be a part of the line. (A tally is all that its calls are lent.)
    - Any count may be 0. Nothing past a result is touched: no entry past the counts, no byte past the record or past the
      length of what was written.
    - A call that answers a number other than 0 has changed nothing that it was lent; the one exception is 12 of
@@ -57,17 +58,18 @@ extern "C" {
 /* The number that a call answers. Which ones, in the order in which they are checked: read_loose 1 2 3 5 6 8,
    read_strict 1 4 5 6 8, print 1 7 8, lookup 1 2 7 9 8, stream_start 2, stream_feed 2 8 11 12, stream_finish 2,
    tally_add 7 8 10, tally_cell, tally_row and tally_column 7 8, settings_read and settings_read_1 13 9 14 15,
-   settings_write 14 15 8, read_with_settings 13 9 14 15 1 3 4 5 6 8, check_claim 1 7 16. khamdoriem_refusal_text has
-   words for each. */
+   settings_write 14 15 8, read_with_settings 13 9 14 15 1 3 4 5 6 8, check_claim 1 7 16, write_strict 7 17 1 8.
+   khamdoriem_refusal_text has words for each. */
 #define KHAMDORIEM_DONE 0
-#define KHAMDORIEM_LINE_TOO_LONG 1     /* the line has over KHAMDORIEM_LINE_LIMIT bytes */
+#define KHAMDORIEM_LINE_TOO_LONG 1     /* the line has over KHAMDORIEM_LINE_LIMIT bytes, or one to be written would */
 #define KHAMDORIEM_BAD_SETTING 2       /* variant, year, offset or kind out of range; a stream that was not started */
 #define KHAMDORIEM_NOT_UTF8 3          /* the line is not UTF-8 (loose reading) */
 #define KHAMDORIEM_NO_READING 4        /* the line has no reading (strict reading, and reading with settings) */
 #define KHAMDORIEM_TOO_MANY_ELEMENTS 5 /* the reading has more elements than the table */
 #define KHAMDORIEM_TOO_MANY_PARAMS 6   /* the reading has more parameters than the table */
 #define KHAMDORIEM_UNSUITABLE 7        /* the bytes hold no record, or one that does not suit the line: see print; a
-                                          tally has no such row or column */
+                                          tally has no such row or column; fields to be written do not suit
+                                          their text */
 #define KHAMDORIEM_OUTPUT_SHORT 8      /* the output is shorter than the result, the record's memory than a record, a
                                           stream's buffer than KHAMDORIEM_STREAM_BUFFER, or a tally than
                                           KHAMDORIEM_TALLY_ROWS */
@@ -81,6 +83,7 @@ extern "C" {
 #define KHAMDORIEM_BAD_FIELD 15        /* a field of a settings record is out of range, or a byte that says nothing is
                                           not 0 */
 #define KHAMDORIEM_WRONG_CLAIM 16      /* a claimed record, counts and tables are not the line's strict reading */
+#define KHAMDORIEM_UNWRITABLE 17       /* a field to be written breaks the grammar: see khamdoriem_write_strict */
 
 /* variant: by which rules a line is read loosely. */
 #define KHAMDORIEM_VARIANT_EITHER 0    /* RFC 5424's, and where they give no reading RFC 3164's */
@@ -128,8 +131,19 @@ extern "C" {
 #define KHAMDORIEM_HOST_IN_LINE 1      /* the line's own */
 #define KHAMDORIEM_HOST_IN_FILE 2      /* the line has none: the settings' */
 
-/* The most bytes of a line. */
+/* The most bytes of a line. A line that is written fits into an output of so many. */
 #define KHAMDORIEM_LINE_LIMIT 8192
+
+/* What a line that is written may have: a priority and a version up to these, a fraction of a second of so many digits,
+   and texts of so many bytes. */
+#define KHAMDORIEM_LAST_PRIORITY 191
+#define KHAMDORIEM_LAST_VERSION 999
+#define KHAMDORIEM_DIGITS_WRITTEN 6
+#define KHAMDORIEM_HOST_LIMIT 255
+#define KHAMDORIEM_APP_NAME_LIMIT 48
+#define KHAMDORIEM_PROCESS_ID_LIMIT 128
+#define KHAMDORIEM_MESSAGE_ID_LIMIT 32
+#define KHAMDORIEM_NAME_LIMIT 32         /* of an element's id and of a parameter's name */
 
 /* What is always enough, whatever the line. With tables of so many entries no reader answers 5 or 6. With so long an
    output, printing what a reader left of a line is never refused with 8; nor is a lookup, of any record. */
@@ -145,7 +159,7 @@ extern "C" {
 #define KHAMDORIEM_VALUE_FOR(n) (n)
 
 /* The most bytes of stack that a call takes. */
-#define KHAMDORIEM_STACK 32768
+#define KHAMDORIEM_STACK 40960
 
 /* ---- the record: words of 8 bytes, little-endian */
 
@@ -208,8 +222,8 @@ struct khamdoriem_read {
     size_t reach;
 };
 
-/* What print, lookup and khamdoriem_settings_write answer: 0 and the length of the result, or the number of a refusal
-   and 0. */
+/* What print, lookup, khamdoriem_settings_write and khamdoriem_write_strict answer: 0 and the length of the result, or
+   the number of a refusal and 0. */
 struct khamdoriem_written {
     uint32_t number;
     size_t len;
@@ -287,6 +301,35 @@ struct khamdoriem_site {
     uint32_t holder;
     size_t host_start;
     size_t host_len;
+};
+
+/* A text to be written, that may be absent: len bytes of the lent text from start on. Absent where present is 0; its
+   place must suit even so, as zeros do. */
+struct khamdoriem_part {
+    size_t present;
+    size_t start;
+    size_t len;
+};
+
+/* The fields of a line to be written, but for the entries of its tables, of which the first element_count and the first
+   param_count count. All zeros but for the priority and the version is a line with nothing in it.
+   priority is facility * 8 + severity. Where stamped is 0 there is no timestamp, and what stands in the next four is of
+   no account; else they are as in a struct khamdoriem_instant. A message may be absent, empty or given. */
+struct khamdoriem_fields {
+    uint32_t priority;
+    uint32_t version;
+    int64_t seconds;
+    uint32_t stamped;
+    uint32_t nanos;
+    uint32_t digits;
+    int32_t offset;
+    struct khamdoriem_part host;
+    struct khamdoriem_part app;
+    struct khamdoriem_part procid;
+    struct khamdoriem_part msgid;
+    struct khamdoriem_part message;
+    size_t element_count;
+    size_t param_count;
 };
 
 /* ---- the functions */
@@ -434,6 +477,29 @@ struct khamdoriem_site khamdoriem_read_with_settings(const uint8_t *file, size_t
 uint32_t khamdoriem_check_claim(const uint8_t *line, size_t line_len, const uint8_t *record, size_t record_len,
                                 const khamdoriem_element *elements, size_t elements_len,
                                 const khamdoriem_param *params, size_t params_len) KHAMDORIEM_NO_NULL;
+
+/* Writes a line of RFC 5424, such as the strict reader takes. All texts of the line are places in one lent text, of any
+   bytes and any length, in any order; they may overlap. An element's entry has the place of its id; a parameter's the
+   number of its element, and the places of its name and of its value. A value is raw, as it is meant: '"', '\' and ']'
+   get their backslash here. The timestamp is written with exactly so many digits as it says, and its offset as sign
+   hh:mm; what is absent is written as "-", and of an absent message nothing.
+   - 7: fields, counts and tables do not SUIT the text, as print says it of a record and its line: a place that ends
+     past the text, a count over its table, element numbers that fall or reach the count, a timestamp that is none.
+   - 17: else, a field that the grammar has no line for: a priority over KHAMDORIEM_LAST_PRIORITY; a version of 0 or
+     over KHAMDORIEM_LAST_VERSION; a fraction of over KHAMDORIEM_DIGITS_WRITTEN digits; a host, app name, process id or
+     message id that is empty, is "-" (absent has its own mark), is longer than its limit or has other bytes than 33 to
+     126; an id or a name that is not 1 to KHAMDORIEM_NAME_LIMIT bytes of 33 to 126 without '=', ']' and '"'; a value
+     that is not UTF-8; two elements of one id; a message that begins EF BB BF and goes on with something else than
+     UTF-8. Any other message may be any bytes.
+   - 1: else, the line would have over KHAMDORIEM_LINE_LIMIT bytes.
+   - 8: else, the output is shorter than the line.
+   Nothing else is refused. What is written the strict reader takes, with tables of element_count and param_count
+   entries, and tells the same fields. The output past the line is as it was. */
+struct khamdoriem_written khamdoriem_write_strict(const uint8_t *text, size_t text_len,
+                                                  struct khamdoriem_fields fields,
+                                                  const khamdoriem_element *elements, size_t elements_len,
+                                                  const khamdoriem_param *params, size_t params_len,
+                                                  uint8_t *output, size_t output_len) KHAMDORIEM_NO_NULL;
 
 /* ---- what a reader left, taken apart
 
@@ -601,6 +667,13 @@ static inline struct khamdoriem_written khamdoriem_unescape(const uint8_t *line,
                              output, output_len);
 }
 
+/* A text that is there, for the fields of a line to be written. */
+static inline struct khamdoriem_part khamdoriem_part_at(size_t start, size_t len) {
+    struct khamdoriem_part part;
+    part.present = 1, part.start = start, part.len = len;
+    return part;
+}
+
 /* A facility by its name, or a row of a tally: "none" for KHAMDORIEM_TALLY_NO_FACILITY, a null pointer above. */
 static inline const char *khamdoriem_facility_name(uint32_t row) {
     static const char *const names[KHAMDORIEM_TALLY_ROWS] = {
@@ -627,7 +700,7 @@ static inline const char *khamdoriem_refusal_text(uint32_t number) {
     case KHAMDORIEM_NO_READING: return "the line has no reading";
     case KHAMDORIEM_TOO_MANY_ELEMENTS: return "the reading has more elements than the table";
     case KHAMDORIEM_TOO_MANY_PARAMS: return "the reading has more parameters than the table";
-    case KHAMDORIEM_UNSUITABLE: return "record, counts or tables do not suit the line, or a tally has no such cell";
+    case KHAMDORIEM_UNSUITABLE: return "record, fields, counts or tables do not suit, or a tally has no such cell";
     case KHAMDORIEM_OUTPUT_SHORT: return "the output is shorter than the result";
     case KHAMDORIEM_NOT_FOUND: return "there is no parameter of this element and name, or no record of the gate";
     case KHAMDORIEM_CELL_FULL: return "the cell of the tally holds 4,294,967,295 already";
@@ -637,6 +710,7 @@ static inline const char *khamdoriem_refusal_text(uint32_t number) {
     case KHAMDORIEM_UNKNOWN_VERSION: return "the version of the settings record is not known";
     case KHAMDORIEM_BAD_FIELD: return "a field of the settings record is out of range, or a reserved byte is not zero";
     case KHAMDORIEM_WRONG_CLAIM: return "what is claimed is not the line's reading";
+    case KHAMDORIEM_UNWRITABLE: return "a field of the line to be written breaks the grammar";
     default: return "a number that this interface does not have";
     }
 }

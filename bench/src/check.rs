@@ -2,7 +2,7 @@
 use crate::gate;
 use crate::readers::{interface, rust, Lent};
 use crate::shapes::{Shape, BROKEN, GROWING, IDS, LENGTHS, SLOW};
-use crate::{claims, sites, streams, tallies};
+use crate::{claims, sites, streams, tallies, writes};
 
 // Words of the record (docs/INTERFACE.md). In interface 1 it has no word of digits.
 const SECONDS: usize = 7;
@@ -115,5 +115,6 @@ pub fn check(text: &str) -> Result<(), String> {
     streams::check()?;
     tallies::check()?;
     sites::check()?;
-    claims::check()
+    claims::check()?;
+    writes::check()
 }

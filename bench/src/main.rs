@@ -13,13 +13,14 @@ mod shapes;
 mod sites;
 mod streams;
 mod tallies;
+mod writes;
 
 use readers::{Lent, Reader};
 use std::process::ExitCode;
 use std::time::Instant;
 
 const USAGE: &str = "usage: driver make FILE LINES SEED | check FILE | pass READER KIND FILE TIMES | shape READER NAME BYTES TIMES \
-                     | stream splitter NAME TIMES | tally table NAME TIMES | site file NAME TIMES | claim CALL NAME TIMES | time KIND FILE READER.. | report RESULTS FOLDER";
+                     | stream splitter NAME TIMES | tally table NAME TIMES | site file NAME TIMES | claim CALL NAME TIMES | write writer NAME TIMES | time KIND FILE READER.. | report RESULTS FOLDER";
 
 fn number<T: std::str::FromStr>(text: &str) -> Result<T, String> {
     text.parse().map_err(|_| format!("'{text}' is no number, or too large"))
@@ -103,6 +104,11 @@ fn claim(call: &str, name: &str, times: &str) -> Result<(), String> {
     claims::passes(kind, call, number(times)?)
 }
 
+fn write_lines(name: &str, times: &str) -> Result<(), String> {
+    let kind = writes::named(name).ok_or(format!("'{name}' is no line to be written"))?;
+    (0..number::<usize>(times)?).try_for_each(|_| writes::pass(kind).map(|_| ()))
+}
+
 fn report(results: &str, folder: &str) -> Result<(), String> {
     let results = results::Results::of(&text_of(results)?);
     write(&format!("{folder}/BENCH.md"), &report::page(&results)?)?;
@@ -121,6 +127,7 @@ fn run(args: &[&str]) -> Result<(), String> {
         ["tally", "table", name, times] => tally(name, times),
         ["site", "file", name, times] => site(name, times),
         ["claim", call, name, times] => claim(call, name, times),
+        ["write", "writer", name, times] => write_lines(name, times),
         ["time", kind, file, names @ ..] => time(kind, file, names),
         ["report", results, folder] => report(results, folder),
         _ => Err(USAGE.to_string()),

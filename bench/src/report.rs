@@ -4,7 +4,7 @@ use crate::results::Results;
 use crate::shapes::{BROKEN, GROWING, LENGTHS, SLOW};
 use crate::{claims, sites};
 use crate::streams::CUTS;
-use crate::tallies;
+use crate::{tallies, writes};
 use std::fmt::Write;
 
 pub const KINDS: [(&str, &str); 3] = [("all", "all, variant 0"), ("3164", "RFC 3164, variant 1"), ("5424", "RFC 5424, variant 2")];
@@ -219,6 +219,19 @@ fn claims(results: &Results) -> Result<String, String> {
     Ok(page + "\n")
 }
 
+fn writes(results: &Results) -> Result<String, String> {
+    let mut page = String::from(
+        "## Lines that are written\n\nWriting a line from its fields, in instructions in the functions of the archive. Nothing is allocated.\n\n",
+    );
+    add(&mut page, "| line | bytes | a line | a byte |\n|---|---|---|---|");
+    for kind in &writes::KINDS {
+        let (calls, bytes) = (results.number(&["write", kind.name], 0)?, results.number(&["write", kind.name], 1)?);
+        let spent = results.number(&["writing", kind.name], 0)? / calls;
+        add(&mut page, &format!("| {} | {} | {} | {:.2} |", kind.what, commas(bytes), commas(spent.round()), spent / bytes));
+    }
+    Ok(page + "\n")
+}
+
 /// A line of prose as lines of at most 120 columns; a row of a table as it is.
 fn folded(line: &str) -> String {
     if line.starts_with('|') {
@@ -239,7 +252,7 @@ fn folded(line: &str) -> String {
 }
 
 pub fn page(results: &Results) -> Result<String, String> {
-    let page = intro(results)? + &lines(results)? + &times(results)? + &growing(results)? + &slow(results)? + &price(results)? + &broken(results)? + &streams(results)? + &tallies(results)? + &sites(results)? + &claims(results)? + &functions(results)?;
+    let page = intro(results)? + &lines(results)? + &times(results)? + &growing(results)? + &slow(results)? + &price(results)? + &broken(results)? + &streams(results)? + &tallies(results)? + &sites(results)? + &claims(results)? + &writes(results)? + &functions(results)?;
     Ok(page.lines().map(|line| folded(line) + "\n").collect())
 }
 

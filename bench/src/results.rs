@@ -17,6 +17,8 @@
 //!     sited NAME COUNT                 instructions of the pass, in the functions of the archive
 //!     claim NAME CALLS                 how often a line is read, or its claim checked, in a pass
 //!     claimed NAME CALL COUNT          instructions of the pass, in the functions of the archive: strict or check
+//!     write NAME CALLS BYTES           how often a line is written in a pass, and its length
+//!     writing NAME COUNT               instructions of the pass, in the functions of the archive
 //!     function KIND READER NAME COUNT  instructions of a pass in one function
 //!     about NAME WORDS..               the seed, the machine, the versions; native: the machine of the nanoseconds, timed: of what they are
 //!

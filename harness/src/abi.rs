@@ -1,4 +1,4 @@
-//! The archive's seventeen functions, as include/khamdoriem.h declares them.
+//! The archive's eighteen functions, as include/khamdoriem.h declares them.
 
 pub type Element = [usize; 2];
 pub type Param = [usize; 5];
@@ -136,6 +136,35 @@ pub struct Site {
     pub host_len: usize,
 }
 
+/// A text of a line to be written.
+#[repr(C)]
+#[derive(Clone, Copy, Debug, Default, PartialEq)]
+pub struct Part {
+    pub present: usize,
+    pub start: usize,
+    pub len: usize,
+}
+
+/// The fields of a line to be written.
+#[repr(C)]
+#[derive(Clone, Copy, Debug, Default, PartialEq)]
+pub struct Fields {
+    pub priority: u32,
+    pub version: u32,
+    pub seconds: i64,
+    pub stamped: u32,
+    pub nanos: u32,
+    pub digits: u32,
+    pub offset: i32,
+    pub host: Part,
+    pub app: Part,
+    pub procid: Part,
+    pub msgid: Part,
+    pub message: Part,
+    pub element_count: usize,
+    pub param_count: usize,
+}
+
 #[derive(Clone, Copy, Debug, PartialEq)]
 pub enum Reader {
     Loose,
@@ -191,6 +220,10 @@ extern "C" {
         line: *const u8, line_len: usize, record: *const u8, record_len: usize, elements: *const Element, elements_len: usize,
         params: *const Param, params_len: usize,
     ) -> u32;
+    fn khamdoriem_write_strict(
+        text: *const u8, text_len: usize, fields: Fields, elements: *const Element, elements_len: usize, params: *const Param, params_len: usize,
+        output: *mut u8, output_len: usize,
+    ) -> Written;
 }
 
 /// The number of the archive's interface.
@@ -278,6 +311,14 @@ pub fn check_claim(g: Given) -> u32 {
     unsafe {
         khamdoriem_check_claim(
             g.line.as_ptr(), g.line.len(), g.record.as_ptr(), g.record.len(), g.elements.as_ptr(), g.elements.len(), g.params.as_ptr(), g.params.len(),
+        )
+    }
+}
+
+pub fn write_strict(text: &[u8], fields: Fields, elements: &[Element], params: &[Param], output: &mut [u8]) -> Written {
+    unsafe {
+        khamdoriem_write_strict(
+            text.as_ptr(), text.len(), fields, elements.as_ptr(), elements.len(), params.as_ptr(), params.len(), output.as_mut_ptr(), output.len(),
         )
     }
 }

@@ -6,6 +6,7 @@
 //!     harness --settings N [--seed N] [--part I/N]    compares N settings files, writes and lines read with them, and ends with one line
 //!     harness --reach N [--seed N] [--part I/N]       compares how far N damaged strict lines go with a machine and a search by hand, and ends with one line
 //!     harness --claims N [--seed N] [--part I/N]      compares what is told of the claims of N strict lines, right and changed, with a check by hand, and ends with one line
+//!     harness --writes N [--seed N] [--part I/N]      compares N field lists with a writer by hand, and ends with one line
 //!     harness --replay N                              writes a list of N cases with the Rust's answers
 //!     harness --stored FOLDER                         compares the stored output of the program `cases`
 
@@ -29,6 +30,7 @@ mod stored;
 mod streams;
 mod strict;
 mod tallies;
+mod writes;
 
 use claims::Claims;
 use compare::{Counts, Desk};
@@ -41,6 +43,7 @@ use std::time::{Duration, Instant};
 use settings::Files;
 use streams::Streams;
 use tallies::Tallies;
+use writes::Writes;
 
 struct Wanted {
     seed: u64,
@@ -53,12 +56,13 @@ struct Wanted {
     settings: Option<u64>,
     reach: Option<u64>,
     claims: Option<u64>,
+    writes: Option<u64>,
     replay: Option<usize>,
     stored: Option<String>,
 }
 
 fn arguments() -> Result<Wanted, String> {
-    let mut wanted = Wanted { seed: 1, cases: 100_000, part: 0, parts: 1, ids: false, streams: None, tallies: None, settings: None, reach: None, claims: None, replay: None, stored: None };
+    let mut wanted = Wanted { seed: 1, cases: 100_000, part: 0, parts: 1, ids: false, streams: None, tallies: None, settings: None, reach: None, claims: None, writes: None, replay: None, stored: None };
     let mut args = std::env::args().skip(1);
     while let Some(name) = args.next() {
         let value = args.next().ok_or(format!("{name} asks for a value"))?;
@@ -71,6 +75,7 @@ fn arguments() -> Result<Wanted, String> {
             "--settings" => wanted.settings = Some(number(&value)?),
             "--reach" => wanted.reach = Some(number(&value)?),
             "--claims" => wanted.claims = Some(number(&value)?),
+            "--writes" => wanted.writes = Some(number(&value)?),
             "--replay" => wanted.replay = Some(number(&value)? as usize),
             "--lines" => match value.as_str() {
                 "all" => wanted.ids = false,
@@ -308,6 +313,37 @@ fn compared_claims(wanted: &Wanted, count: u64) -> ExitCode {
     ExitCode::SUCCESS
 }
 
+fn write_summary(wanted: &Wanted, counts: &writes::Counts, unexplained: u64) -> String {
+    let writes::Counts { lists, written, unsuitable, unwritable, long, short, bytes, classes: [w1, w2, w3, w4] } = counts;
+    format!(
+        "seed {} part {}/{}: {lists} field lists ({written} written, {unsuitable} refusals 7, {unwritable} refusals 17, {long} refusals 1, {short} refusals 8, {bytes} bytes), W1 {w1} W2 {w2} W3 {w3} W4 {w4}, {unexplained} unexplained",
+        wanted.seed, wanted.part + 1, wanted.parts
+    )
+}
+
+/// Field lists against the writer by hand, the strict reader and the Rust; the first difference ends it.
+fn compared_writes(wanted: &Wanted, count: u64) -> ExitCode {
+    let mut writes = Writes::new(wanted.seed, wanted.part);
+    let (start, mut told) = (Instant::now(), Instant::now());
+    while writes.counts.lists < count {
+        if let Err(difference) = writes.next() {
+            println!("harness: {} differs in a line that is written", difference.what);
+            println!("  call     {}", difference.list);
+            println!("  ours     {}", difference.ours);
+            println!("  wanted   {}", difference.wanted);
+            println!("harness: {}", write_summary(wanted, &writes.counts, 1));
+            return ExitCode::FAILURE;
+        }
+        if writes.counts.lists % 1024 == 0 && told.elapsed() >= Duration::from_secs(5) {
+            told = Instant::now();
+            let rate = writes.counts.lists as f64 / start.elapsed().as_secs_f64();
+            eprintln!("harness: {} ({rate:.0} field lists a second)", write_summary(wanted, &writes.counts, 0));
+        }
+    }
+    println!("harness: {}", write_summary(wanted, &writes.counts, 0));
+    ExitCode::SUCCESS
+}
+
 fn main() -> ExitCode {
     match arguments() {
         Err(error) => {
@@ -321,6 +357,7 @@ fn main() -> ExitCode {
         Ok(wanted @ Wanted { settings: Some(count), .. }) => compared_settings(&wanted, count),
         Ok(wanted @ Wanted { reach: Some(count), .. }) => compared_reach(&wanted, count),
         Ok(wanted @ Wanted { claims: Some(count), .. }) => compared_claims(&wanted, count),
+        Ok(wanted @ Wanted { writes: Some(count), .. }) => compared_writes(&wanted, count),
         Ok(wanted) => compared(&wanted),
     }
 }

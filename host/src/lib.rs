@@ -36,6 +36,8 @@
 //!
 //! [`check_claim`] says whether a record and tables that somebody else made, a [`Claim`], are the line's strict reading.
 //!
+//! A [`Line`] is made of its fields and written so that the strict reader reads the same.
+//!
 //! Texts are parts of the line, as bytes and, with `_str` behind the name, as `str`. No call allocates: tables own their memory
 //! ([`Tables::new`], with the feature `std`, which is on by default) or are laid over what is lent ([`Tables::over`]).
 //!
@@ -54,6 +56,7 @@ mod claim;
 mod elements;
 #[cfg(feature = "std")]
 mod frames;
+mod line;
 mod memory;
 mod priority;
 mod reading;
@@ -76,7 +79,8 @@ pub use claim::{check_claim, Claim, ClaimedText};
 pub use elements::{Element, Elements, ElementsWith, Param, Params, Unescape};
 #[cfg(feature = "std")]
 pub use frames::{FrameError, Frames};
-pub use priority::{Facility, Severity};
+pub use line::{Draft, InElement, Line, NoElement, Version};
+pub use priority::{Facility, Priority, Severity};
 pub use reading::{Loose, Reading, Strict};
 pub use record::Protocol;
 pub use refusal::Refusal;
@@ -94,7 +98,7 @@ pub use timestamp::Timestamp;
 #[doc = include_str!("../README.md")]
 struct Readme;
 
-/// The longest line that a reader takes, in bytes.
+/// The longest line that a reader takes and that is written, in bytes.
 pub const MAX_LINE: usize = 8192;
 
 /// No reading has more elements: each takes at least three bytes of the line, as `[a]`.

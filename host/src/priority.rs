@@ -1,4 +1,4 @@
-//! Facilities and severities, with their names.
+//! Facilities and severities, with their names, and both as a priority.
 
 use core::fmt;
 
@@ -127,5 +127,56 @@ levels! {
         Info = 6 "info"
         /// 7, debug.
         Debug = 7 "debug"
+    }
+}
+
+/// The priority of a line: a facility and a severity, which are eight times the one and the other in one number, 0 to 191.
+///
+/// ```
+/// use khamdoriem::{Facility, Priority, Severity};
+///
+/// let priority = Priority::new(Facility::Local4, Severity::Notice);
+/// assert_eq!((priority.number(), priority.to_string()), (165, "local4.notice".to_string()));
+/// assert_eq!(Priority::from_number(165), Some(priority));
+/// assert_eq!(Priority::from_number(192), None);
+/// ```
+#[derive(Clone, Copy, Debug, PartialEq, Eq, Hash)]
+pub struct Priority {
+    /// The facility.
+    pub facility: Facility,
+    /// The severity.
+    pub severity: Severity,
+}
+
+impl Priority {
+    /// The priority of both.
+    pub const fn new(facility: Facility, severity: Severity) -> Priority {
+        Priority { facility, severity }
+    }
+
+    /// The one with this number, or `None` where it is above 191.
+    pub const fn from_number(number: u8) -> Option<Priority> {
+        match (Facility::from_number(number / 8), Severity::from_number(number % 8)) {
+            (Some(facility), Some(severity)) => Some(Priority { facility, severity }),
+            _ => None,
+        }
+    }
+
+    /// The number.
+    pub const fn number(self) -> u8 {
+        self.facility.number() * 8 + self.severity.number()
+    }
+}
+
+impl From<(Facility, Severity)> for Priority {
+    fn from((facility, severity): (Facility, Severity)) -> Priority {
+        Priority { facility, severity }
+    }
+}
+
+impl fmt::Display for Priority {
+    /// Writes both names: `local4.notice`.
+    fn fmt(&self, f: &mut fmt::Formatter<'_>) -> fmt::Result {
+        write!(f, "{}.{}", self.facility, self.severity)
     }
 }

@@ -20,7 +20,9 @@ macro_rules! refusals {
         /// [`Framing`](crate::Framing) hold none. Number 7 is for a record or tables that do not suit the line, and a
         /// [`Claim`](crate::Claim) alone can be such: a [`Reading`](crate::Reading) holds the line, the record and the tables of one
         /// reading together and lets nobody change them. It is also for a facility or a severity that a tally has no place for, and
-        /// [`Facility`](crate::Facility) and [`Severity`](crate::Severity) have none of those.
+        /// [`Facility`](crate::Facility) and [`Severity`](crate::Severity) have none of those; and for a timestamp that is none or
+        /// texts that are not in what a line is written of, and a [`Timestamp`](crate::Timestamp) is one and a
+        /// [`Line`](crate::Line) keeps its texts.
         ///
         /// More are to come with further calls, so a match has an arm for the rest; without one it does not compile:
         ///
@@ -30,7 +32,7 @@ macro_rules! refusals {
         /// fn number(refusal: Refusal) -> u32 {
         ///     match refusal {
         ///         LineTooLong | NotUtf8 | TooManyElements | TooManyParams | OutputTooShort | NoSuchParam => 1,
-        ///         NoSuchGate | CellFull | BadCount | FrameTooLong | BadLength | UnknownVersion | BadField => 2,
+        ///         NoSuchGate | CellFull | BadCount | FrameTooLong | BadLength | UnknownVersion | BadField | Unwritable => 2,
         ///         NoReading { .. } => 4,
         ///         Unsuitable | WrongClaim => 7,
         ///         Unexpected(number) => number,
@@ -135,7 +137,7 @@ macro_rules! refusals {
 }
 
 refusals! {
-    /// Number 1: the line has over [`MAX_LINE`](crate::MAX_LINE) bytes.
+    /// Number 1: the line has over [`MAX_LINE`](crate::MAX_LINE) bytes, or one to be written would have.
     1 LineTooLong "the line has over 8,192 bytes"
     /// Number 3: the line is not UTF-8. The loose reader asks for that, and a reading that is to pass for one of its.
     3 NotUtf8 "the line is not UTF-8"
@@ -161,6 +163,8 @@ refusals! {
     15 BadField "a field of the settings record is out of range, or a reserved byte is not zero"
     /// Number 16: a [`Claim`](crate::Claim) that suits the line and is not its reading.
     16 WrongClaim "what is claimed is not the line's reading"
+    /// Number 17: a field of a [`Line`](crate::Line) breaks the grammar, so that no line has it.
+    17 Unwritable "a field of the line to be written breaks the grammar"
 }
 
 impl Refusal {

@@ -1,4 +1,4 @@
-//! The seventeen functions of the archive, each behind a safe function over slices and numbers.
+//! The eighteen functions of the archive, each behind a safe function over slices and numbers.
 //!
 //! This and `texts` are the only modules with `unsafe`. What makes each call safe is the same: the archive's functions are total, whatever
 //! the bytes, numbers and lengths. They read and write within the counts that they are given and keep nothing after the call.
@@ -53,7 +53,7 @@ pub(crate) struct ReadAnswer {
     pub(crate) reach: usize,
 }
 
-/// What printing and lookup answer: 0 and the length of the result, or the number of a refusal and 0.
+/// What printing, lookup and writing answer: 0 and the length of the result, or the number of a refusal and 0.
 #[repr(C)]
 #[derive(Clone, Copy, Debug, PartialEq, Eq)]
 pub(crate) struct Written {
@@ -139,6 +139,58 @@ pub(crate) struct SiteAnswer {
     pub(crate) holder: u32,
     pub(crate) host_start: usize,
     pub(crate) host_len: usize,
+}
+
+/// A text of a line to be written: `len` bytes of the lent text from `start` on, or absent where `present` is 0.
+#[repr(C)]
+#[derive(Clone, Copy, Debug, PartialEq, Eq)]
+pub(crate) struct Part {
+    pub(crate) present: usize,
+    pub(crate) start: usize,
+    pub(crate) len: usize,
+}
+
+/// The fields of a line to be written, but for the entries of its tables. Where `stamped` is 0 there is no timestamp.
+#[repr(C)]
+#[derive(Clone, Copy, Debug, PartialEq, Eq)]
+pub(crate) struct Fields {
+    pub(crate) priority: u32,
+    pub(crate) version: u32,
+    pub(crate) seconds: i64,
+    pub(crate) stamped: u32,
+    pub(crate) nanos: u32,
+    pub(crate) digits: u32,
+    pub(crate) offset: i32,
+    pub(crate) host: Part,
+    pub(crate) app: Part,
+    pub(crate) procid: Part,
+    pub(crate) msgid: Part,
+    pub(crate) message: Part,
+    pub(crate) element_count: usize,
+    pub(crate) param_count: usize,
+}
+
+impl Fields {
+    /// All zeros.
+    pub(crate) const EMPTY: Fields = {
+        let absent = Part { present: 0, start: 0, len: 0 };
+        Fields {
+            priority: 0,
+            version: 0,
+            seconds: 0,
+            stamped: 0,
+            nanos: 0,
+            digits: 0,
+            offset: 0,
+            host: absent,
+            app: absent,
+            procid: absent,
+            msgid: absent,
+            message: absent,
+            element_count: 0,
+            param_count: 0,
+        }
+    };
 }
 
 extern "C" {
@@ -267,6 +319,18 @@ extern "C" {
         params: *const ParamEntry,
         params_len: usize,
     ) -> u32;
+
+    fn khamdoriem_write_strict(
+        text: *const u8,
+        text_len: usize,
+        fields: Fields,
+        elements: *const ElementEntry,
+        elements_len: usize,
+        params: *const ParamEntry,
+        params_len: usize,
+        output: *mut u8,
+        output_len: usize,
+    ) -> Written;
 }
 
 /// A facility or a severity as the archive has it: mark 1 and the number, or mark 0 and 0 for none.
@@ -510,6 +574,30 @@ pub(crate) fn check_claim(lent: Lent<'_>) -> u32 {
             lent.elements.len(),
             lent.params.as_ptr(),
             lent.params.len(),
+        )
+    }
+}
+
+/// Writing.
+pub(crate) fn write_strict(
+    text: &[u8],
+    fields: Fields,
+    elements: &[ElementEntry],
+    params: &[ParamEntry],
+    output: &mut [u8],
+) -> Written {
+    // SAFETY: the module's: each pointer and count are those of one slice, and the output, borrowed mutably, is all that is written.
+    unsafe {
+        khamdoriem_write_strict(
+            text.as_ptr(),
+            text.len(),
+            fields,
+            elements.as_ptr(),
+            elements.len(),
+            params.as_ptr(),
+            params.len(),
+            output.as_mut_ptr(),
+            output.len(),
         )
     }
 }

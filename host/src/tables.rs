@@ -75,7 +75,7 @@ impl<'memory> Tables<'memory> {
     /// # Panics
     ///
     /// Where the archive that is linked has another interface than this crate was written for (docs/INTERFACE.md), so that what it
-    /// leaves would be misread. Nothing reaches the archive without tables or a splitter, so no call goes to such a one.
+    /// leaves would be misread. Nothing reaches the archive without tables, a splitter, a tally or a draft, so no call goes to such a one.
     ///
     /// ```
     /// use khamdoriem::{ElementEntry, ParamEntry, Tables};

@@ -25,8 +25,8 @@ use crate::settings::Offset;
 /// ```
 #[derive(Clone, Copy, Debug, PartialEq, Eq, Hash)]
 pub struct Timestamp {
-    // Not public, so that what a reader left is what stands here: the year at the offset is one of 0 to 9999, and the digits, 0 to 9,
-    // show all of the nanoseconds.
+    // Not public, so that what a reader left or `new` took is what stands here: the year at the offset is one of 0 to 9999, and the
+    // digits, 0 to 9, show all of the nanoseconds.
     pub(crate) seconds: i64,
     pub(crate) nanoseconds: u32,
     pub(crate) digits: u8,
@@ -34,6 +34,53 @@ pub struct Timestamp {
 }
 
 impl Timestamp {
+    /// The timestamp of an instant, seconds since 1970-01-01T00:00:00Z and nanoseconds past that second, that is told with so many
+    /// digits and shown at an offset. `None` where there is none such: nanoseconds over 999,999,999 or with more digits than those, over
+    /// 9 digits, or a year at the offset that is not 0 to 9999.
+    ///
+    /// ```
+    /// use khamdoriem::{Offset, Timestamp};
+    ///
+    /// let stamp = Timestamp::new(1_767_607_262, 500_000_000, 3, Offset::UTC).unwrap();
+    /// assert_eq!(stamp.to_string(), "2026-01-05T10:01:02.500+00:00");
+    /// assert_eq!(Timestamp::new(1_767_607_262, 500_000_000, 0, Offset::UTC), None); // no digit shows half a second
+    /// ```
+    pub const fn new(seconds: i64, nanoseconds: u32, digits: u8, offset: Offset) -> Option<Timestamp> {
+        if digits > 9 || nanoseconds > 999_999_999 || nanoseconds % 10u32.pow(9 - digits as u32) != 0 {
+            return None;
+        }
+        let local = seconds.saturating_add(offset.minutes() as i64 * 60);
+        if FIRST_SECOND <= local && local <= LAST_SECOND {
+            Some(Timestamp { seconds, nanoseconds, digits, offset })
+        } else {
+            None
+        }
+    }
+
+    /// The timestamp of an instant, cut to so many digits and shown at an offset: `None` as in [`new`](Timestamp::new).
+    ///
+    /// ```
+    /// use khamdoriem::{Offset, Timestamp};
+    /// use std::time::{Duration, SystemTime};
+    ///
+    /// let time = SystemTime::UNIX_EPOCH + Duration::from_micros(1_767_607_262_999_999);
+    /// let stamp = Timestamp::from_system_time(time, 3, Offset::UTC).unwrap();
+    /// assert_eq!(stamp.to_string(), "2026-01-05T10:01:02.999+00:00");
+    /// ```
+    #[cfg(feature = "std")]
+    pub fn from_system_time(time: std::time::SystemTime, digits: u8, offset: Offset) -> Option<Timestamp> {
+        let (seconds, nanoseconds) = match time.duration_since(std::time::SystemTime::UNIX_EPOCH) {
+            Ok(since) => (i64::try_from(since.as_secs()).ok()?, since.subsec_nanos()),
+            // Nanoseconds are past the second before 1970 too.
+            Err(before) => match (i64::try_from(before.duration().as_secs()).ok()?, before.duration().subsec_nanos()) {
+                (seconds, 0) => (-seconds, 0),
+                (seconds, nanoseconds) => (-seconds - 1, 1_000_000_000 - nanoseconds),
+            },
+        };
+        let step = 10u32.pow(9u32.checked_sub(digits.into())?);
+        Timestamp::new(seconds, nanoseconds - nanoseconds % step, digits, offset)
+    }
+
     /// Seconds since 1970-01-01T00:00:00Z, negative before it.
     pub const fn seconds(&self) -> i64 {
         self.seconds
@@ -63,6 +110,9 @@ impl Timestamp {
 }
 
 const SECONDS_PER_DAY: i64 = 86_400;
+/// 0000-01-01T00:00:00Z and 9999-12-31T23:59:59Z.
+const FIRST_SECOND: i64 = -62_167_219_200;
+const LAST_SECOND: i64 = 253_402_300_799;
 
 /// Year, month and day of the day that is so many days after 1970-01-01.
 fn date(days: i64) -> (i64, i64, i64) {

@@ -222,6 +222,7 @@ fn refusals_have_numbers_and_words() {
         (Refusal::BadField, 15, "a field of the settings record is out of range, or a reserved byte is not zero"),
         (Refusal::Unsuitable, 7, "what is claimed does not suit the line"),
         (Refusal::WrongClaim, 16, "what is claimed is not the line's reading"),
+        (Refusal::Unwritable, 17, "a field of the line to be written breaks the grammar"),
     ];
     for (refusal, number, words) in all {
         let error: Box<dyn std::error::Error> = Box::new(refusal);

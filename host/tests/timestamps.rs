@@ -57,6 +57,28 @@ fn a_timestamp_is_shown_as_it_prints() {
 }
 
 #[test]
+fn a_system_time_is_cut_to_the_digits_before_1970_too() {
+    let at = |nanoseconds: i64| match u64::try_from(nanoseconds) {
+        Ok(since) => SystemTime::UNIX_EPOCH + Duration::from_nanos(since),
+        Err(_) => SystemTime::UNIX_EPOCH - Duration::from_nanos(nanoseconds.unsigned_abs()),
+    };
+    for nanoseconds in
+        [0, 1, -1, 999_999_999, -999_999_999, 1_000_000_000, -1_000_000_000, -1_500_000_001, 1_767_607_262_215_678_901]
+    {
+        for digits in 0..=9 {
+            let stamp = Timestamp::from_system_time(at(nanoseconds), digits, Offset::UTC).unwrap();
+            let step = i64::from(stamp.resolution_nanoseconds());
+            assert_eq!(SystemTime::from(stamp), at(nanoseconds.div_euclid(step) * step));
+            assert_eq!(stamp.digits(), digits);
+        }
+    }
+    assert_eq!(Timestamp::from_system_time(at(0), 10, Offset::UTC), None);
+    let past = SystemTime::UNIX_EPOCH + Duration::from_secs(253_402_300_800);
+    assert_eq!(Timestamp::from_system_time(past, 0, Offset::UTC), None);
+    assert!(Timestamp::from_system_time(past, 0, Offset::MIN).is_some());
+}
+
+#[test]
 fn the_digits_of_a_fraction_are_shown() {
     let mut tables = Tables::new(0, 0);
     for fraction in ["", ".0", ".5", ".05", ".000", ".500", ".500000", ".1234567", ".000000001", ".999999999"] {

@@ -1,4 +1,4 @@
--- For private contracts alone: the texts of the claimed numbers and of the claimed instant, which are written from them.
+-- The texts of numbers and of an instant, which are written from them. The check has them for private contracts alone; by them the writer says what it writes.
 use Prim.Native.Nat.{ℕ, zero, suc, _+_, _-_, _*_, _/_, _%_, _^_}
 use mathlib.Core.List.{List}
 use mathlib.Core.Option.{Option, none, some}

@@ -358,6 +358,151 @@ fn a_read_past_the_last_row_or_column_is_refused_with_7_before_8() {
     }
 }
 
+/// What a line is written of: `<13>1 1970-01-01T00:00:00.5+00:00 gate7 reader 42 TAP [a@1 x="1"][b@1 x="1"] ok`.
+const TEXT: &[u8] = b"gate7reader42TAPa@1b@1x1ok";
+const ELEMENTS: [ElementEntry; 2] = [ElementEntry([16, 3]), ElementEntry([19, 3])];
+const PARAMS: [ParamEntry; 2] = [ParamEntry([0, 22, 1, 23, 1]), ParamEntry([1, 22, 1, 23, 1])];
+
+fn at(start: usize, len: usize) -> Part {
+    Part { present: 1, start, len }
+}
+
+fn fields() -> Fields {
+    Fields {
+        priority: 13,
+        version: 1,
+        stamped: 1,
+        nanos: 500_000_000,
+        digits: 1,
+        host: at(0, 5),
+        app: at(5, 6),
+        procid: at(11, 2),
+        msgid: at(13, 3),
+        message: at(24, 2),
+        element_count: 2,
+        param_count: 2,
+        ..Fields::EMPTY
+    }
+}
+
+/// The number that writing answers to these fields and tables, and that nothing is written where it is not 0.
+fn number(fields: Fields, elements: &[ElementEntry], params: &[ParamEntry], room: usize) -> u32 {
+    let mut output = vec![0xA5; room];
+    let answer = write_strict(TEXT, fields, elements, params, &mut output);
+    assert!(answer.number == 0 || answer.len == 0 && output.iter().all(|&byte| byte == 0xA5));
+    answer.number
+}
+
+#[test]
+fn fields_over_a_text_are_written() {
+    let mut output = [0xA5; 96];
+    let line = br#"<13>1 1970-01-01T00:00:00.5+00:00 gate7 reader 42 TAP [a@1 x="1"][b@1 x="1"] ok"#;
+    assert_eq!(write_strict(TEXT, fields(), &ELEMENTS, &PARAMS, &mut output), Written { number: 0, len: line.len() });
+    assert_eq!(output[..line.len()], line[..]);
+    assert!(output[line.len()..].iter().all(|&byte| byte == 0xA5));
+    // Fewer entries count, a mark is any number but 0, and what stands beside a mark of 0 is of no account.
+    let few = Fields { element_count: 1, param_count: 0, stamped: 0, nanos: u32::MAX, offset: i32::MIN, ..fields() };
+    let few = Fields { host: Part { present: usize::MAX, ..few.host }, msgid: Part { present: 0, ..few.msgid }, ..few };
+    let line = b"<13>1 - gate7 reader 42 - [a@1] ok";
+    assert_eq!(write_strict(TEXT, few, &ELEMENTS, &PARAMS, &mut output), Written { number: 0, len: line.len() });
+    assert_eq!(output[..line.len()], line[..]);
+}
+
+#[test]
+fn places_past_the_text_are_refused_with_7_and_no_sum_wraps() {
+    let end = TEXT.len();
+    let set: [fn(&mut Fields, Part); 5] = [
+        |fields, part| fields.host = part,
+        |fields, part| fields.app = part,
+        |fields, part| fields.procid = part,
+        |fields, part| fields.msgid = part,
+        |fields, part| fields.message = part,
+    ];
+    for set in set {
+        for (start, len) in [(end, 1), (end - 1, 2), (end + 1, 0), (0, end + 1), (1, usize::MAX), (usize::MAX, 1)] {
+            for present in [0, 1, usize::MAX] {
+                let mut fields = fields();
+                set(&mut fields, Part { present, start, len });
+                assert_eq!(number(fields, &ELEMENTS, &PARAMS, 128), 7);
+            }
+        }
+        let mut fields = fields();
+        set(&mut fields, Part { present: 0, start: end, len: 0 });
+        assert_eq!(number(fields, &ELEMENTS, &PARAMS, 128), 0);
+    }
+    for [start, len] in [[end, 1], [end + 1, 0], [usize::MAX, 1], [2, usize::MAX - 1]] {
+        let element = [ELEMENTS[0], ElementEntry([start, len])];
+        assert_eq!(number(fields(), &element, &PARAMS, 128), 7);
+        for wrong in [[1, start, len, 23, 1], [1, 22, 1, start, len]] {
+            assert_eq!(number(fields(), &ELEMENTS, &[PARAMS[0], ParamEntry(wrong)], 128), 7);
+        }
+    }
+}
+
+#[test]
+fn counts_numbers_and_timestamps_that_do_not_suit_are_refused_with_7() {
+    let (few, most) = (Fields { element_count: 3, ..fields() }, Fields { param_count: usize::MAX, ..fields() });
+    assert_eq!((number(few, &ELEMENTS, &PARAMS, 128), number(most, &ELEMENTS, &PARAMS, 128)), (7, 7));
+    // A number that reaches the count, and one that falls.
+    for numbers in [[0, 2], [0, usize::MAX], [1, 0]] {
+        let params = [0, 1].map(|i| ParamEntry([numbers[i], 22, 1, 23, 1]));
+        assert_eq!(number(fields(), &ELEMENTS, &params, 128), 7);
+    }
+    let wrong = [
+        Fields { nanos: 1_000_000_000, ..fields() },
+        Fields { nanos: 510_000_000, ..fields() },
+        Fields { digits: 0, ..fields() },
+        Fields { digits: 10, ..fields() },
+        Fields { offset: 1440, ..fields() },
+        Fields { offset: -1440, ..fields() },
+        Fields { offset: i32::MIN, ..fields() },
+        Fields { seconds: i64::MIN, ..fields() },
+        Fields { seconds: i64::MAX, offset: 1439, ..fields() },
+        Fields { seconds: 253_402_300_800, ..fields() },
+        Fields { seconds: -62_167_219_201, ..fields() },
+    ];
+    for wrong in wrong {
+        assert_eq!(number(wrong, &ELEMENTS, &PARAMS, 128), 7, "{wrong:?}");
+        assert_eq!(number(Fields { stamped: 0, ..wrong }, &ELEMENTS, &PARAMS, 128), 0);
+        assert_eq!(number(Fields { stamped: u32::MAX, ..wrong }, &ELEMENTS, &PARAMS, 128), 7);
+    }
+}
+
+#[test]
+fn numbers_out_of_range_are_refused_with_17() {
+    let wrong = [
+        Fields { priority: 192, ..fields() },
+        Fields { priority: u32::MAX, ..fields() },
+        Fields { version: 0, ..fields() },
+        Fields { version: 1000, ..fields() },
+        Fields { version: u32::MAX, ..fields() },
+        Fields { digits: 7, ..fields() },
+        Fields { digits: 9, ..fields() },
+    ];
+    for wrong in wrong {
+        assert_eq!(number(wrong, &ELEMENTS, &PARAMS, 128), 17, "{wrong:?}");
+    }
+    // The digits of no timestamp are of no account.
+    assert_eq!(number(Fields { digits: 9, stamped: 0, ..fields() }, &ELEMENTS, &PARAMS, 128), 0);
+}
+
+#[test]
+fn writing_refuses_with_the_first_number_that_applies() {
+    // A text of over 8,192 bytes is no refusal of its own.
+    let text = [TEXT, &[b'x'; 9000]].concat();
+    let refused = |fields, room| {
+        let mut output = vec![0xA5; room];
+        let answer = write_strict(&text, fields, &ELEMENTS, &PARAMS, &mut output);
+        assert!(answer.number == 0 || answer.len == 0 && output.iter().all(|&byte| byte == 0xA5));
+        answer.number
+    };
+    let long = Fields { message: at(26, 9000), ..fields() };
+    let unfit = Fields { version: 0, ..long };
+    assert_eq!(refused(Fields { host: at(9026, 1), ..unfit }, 0), 7);
+    assert_eq!((refused(unfit, 0), refused(long, 0), refused(fields(), 0)), (17, 1, 8));
+    assert_eq!((refused(fields(), 78), refused(fields(), 79)), (8, 0));
+}
+
 #[test]
 fn the_archive_has_this_interface() {
     check_interface();
@@ -392,7 +537,7 @@ fn every_number_is_a_refusal_with_that_number() {
     for number in (1..100).chain([u32::MAX]) {
         let refusal = Refusal::check(number).unwrap_err();
         assert_eq!(refusal.number(), number);
-        let known = matches!(number, 1 | 3 | 5 | 6 | 8..=16);
+        let known = matches!(number, 1 | 3 | 5 | 6 | 8..=17);
         assert_eq!(matches!(refusal, Refusal::Unexpected(_)), !known, "{number}");
     }
 }

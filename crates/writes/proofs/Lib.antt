@@ -1,0 +1,11 @@
+pub mod Rules
+pub mod Values
+pub mod Stamps
+pub mod Texts
+pub mod Lines
+pub mod Rows
+pub mod Reading
+pub mod Again
+pub mod Fits
+pub mod Laws
+pub mod Examples
