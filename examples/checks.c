@@ -64,6 +64,11 @@ SAME(fields_texts_at,
          offsetof(struct khamdoriem_fields, message) == 128);
 SAME(fields_counts_at, offsetof(struct khamdoriem_fields, element_count) == 152 &&
                            offsetof(struct khamdoriem_fields, param_count) == 160);
+SAME(compared_size, sizeof(struct khamdoriem_compared) == 32);
+SAME(compared_at,
+     offsetof(struct khamdoriem_compared, number) == 0 && offsetof(struct khamdoriem_compared, line) == 4 &&
+         offsetof(struct khamdoriem_compared, fields) == 8 && offsetof(struct khamdoriem_compared, pair_line) == 12 &&
+         offsetof(struct khamdoriem_compared, position) == 16 && offsetof(struct khamdoriem_compared, pair_entry) == 24);
 SAME(frame_is_line, KHAMDORIEM_STREAM_BUFFER == KHAMDORIEM_LINE_LIMIT);
 SAME(record_ends, KHAMDORIEM_RECORD == KHAMDORIEM_AT_PARAMS + 8 && KHAMDORIEM_RECORD == KHAMDORIEM_AT_TIMESTAMP_TEXT);
 SAME(strict_ends, KHAMDORIEM_STRICT_RECORD == KHAMDORIEM_AT_HAS_MESSAGE + 8);
@@ -1177,6 +1182,112 @@ static void check_write_order(void) {
     CHECK(unwritten() == KHAMDORIEM_UNSUITABLE);
 }
 
+/* ---- comparing */
+
+static uint8_t line2[KHAMDORIEM_LINE_LIMIT + 8];
+static size_t len2;
+static khamdoriem_element elements2[4];
+static khamdoriem_param params2[4];
+
+static struct khamdoriem_compared compare_into(size_t e, size_t p, size_t e2, size_t p2) {
+    return khamdoriem_compare(line, len, line2, len2, 0, 2026, 60, elements, e, params, p, elements2, e2, params2, p2);
+}
+
+/* Two lines compared, with tables that hold what they have. */
+static struct khamdoriem_compared compare(const char *first, const char *second) {
+    start(first);
+    len2 = strlen(second);
+    memcpy(line2, second, len2);
+    return compare_into(4, 4, 4, 4);
+}
+
+/* Not refused, with these fields, and with this position, line and entry. */
+static int differ(struct khamdoriem_compared a, uint32_t fields, size_t position, uint32_t pair_line, size_t entry) {
+    return a.number == KHAMDORIEM_DONE && a.line == 0 && a.fields == fields && a.position == position &&
+           a.pair_line == pair_line && a.pair_entry == entry;
+}
+
+static int compare_refused(struct khamdoriem_compared a, uint32_t k, uint32_t number) {
+    return a.number == number && a.line == k && !a.fields && !a.position && !a.pair_line && !a.pair_entry;
+}
+
+#define HEAD "<13>1 2026-01-02T03:04:05Z gate7 reader 42 TAP "
+
+static void check_fields_compared(void) {
+    uint32_t all_but = (1u << KHAMDORIEM_FIELDS) - 1 - KHAMDORIEM_FIELD_ELEMENTS;
+    CHECK(differ(compare(HEAD "- ok", HEAD "- ok"), 0, 0, 0, 0));
+    CHECK(differ(compare(HEAD "- ok", "<13>2 2026-01-02T03:04:05Z gate7 reader 42 TAP - ok"), KHAMDORIEM_FIELD_PROTOCOL,
+                 0, 0, 0));
+    CHECK(differ(compare(HEAD "- ok", "<21>1 2026-01-02T03:04:05Z gate7 reader 42 TAP - ok"), KHAMDORIEM_FIELD_FACILITY,
+                 0, 0, 0));
+    CHECK(differ(compare(HEAD "- ok", "<14>1 2026-01-02T03:04:05Z gate7 reader 42 TAP - ok"), KHAMDORIEM_FIELD_SEVERITY,
+                 0, 0, 0));
+    /* the offset counts, the digits of a fraction do not */
+    CHECK(differ(compare(HEAD "- ok", "<13>1 2026-01-02T04:04:05+01:00 gate7 reader 42 TAP - ok"),
+                 KHAMDORIEM_FIELD_TIMESTAMP, 0, 0, 0));
+    CHECK(differ(compare(HEAD "- ok", "<13>1 2026-01-02T03:04:05.000Z gate7 reader 42 TAP - ok"), 0, 0, 0, 0));
+    CHECK(differ(compare(HEAD "- ok", "<13>1 2026-01-02T03:04:05Z gate8 reader 42 TAP - ok"), KHAMDORIEM_FIELD_HOST, 0,
+                 0, 0));
+    CHECK(differ(compare(HEAD "- ok", "<13>1 2026-01-02T03:04:05Z gate7 - 42 TAP - ok"), KHAMDORIEM_FIELD_APP_NAME, 0, 0,
+                 0));
+    CHECK(differ(compare(HEAD "- ok", "<13>1 2026-01-02T03:04:05Z gate7 reader 042 TAP - ok"),
+                 KHAMDORIEM_FIELD_PROCESS_ID, 0, 0, 0));
+    CHECK(differ(compare(HEAD "- ok", "<13>1 2026-01-02T03:04:05Z gate7 reader 42 - - ok"), KHAMDORIEM_FIELD_MESSAGE_ID,
+                 0, 0, 0));
+    CHECK(differ(compare(HEAD "- ok", HEAD "- okay"), KHAMDORIEM_FIELD_MESSAGE, 0, 0, 0));
+    CHECK(differ(compare(HEAD "- ok", "<22>Feb  5 10:01:02 gate8 tap[1]: no"), all_but, 0, 0, 0));
+}
+
+static void check_elements_compared(void) {
+    uint32_t e = KHAMDORIEM_FIELD_ELEMENTS;
+    CHECK(differ(compare(HEAD "[x a=\"1\" b=\"2\"]", HEAD "[x b=\"2\" a=\"1\"]"), 0, 0, 0, 0));
+    CHECK(differ(compare(HEAD "[x a=\"\\]\"]", HEAD "[x a=\"]\"]"), 0, 0, 0, 0));
+    CHECK(differ(compare(HEAD "[x a=\"1\" a=\"1\"]", HEAD "[x a=\"1\"]"), e, 0, 1, 0));
+    CHECK(differ(compare(HEAD "[x a=\"1\"]", HEAD "[x a=\"1\" a=\"1\"]"), e, 0, 1, 0));
+    CHECK(differ(compare(HEAD "[x a=\"1\"]", HEAD "[x a=\"1\" b=\"1\"]"), e, 0, 2, 1));
+    CHECK(differ(compare(HEAD "[x a=\"1\"][y b=\"1\"]", HEAD "[x a=\"1\"][y b=\"2\"]"), e, 1, 1, 1));
+    CHECK(differ(compare(HEAD "[x a=\"1\"][y]", HEAD "[y][x a=\"1\"]"), e, 0, 0, 0));
+    CHECK(differ(compare(HEAD "[x a=\"1\"]", HEAD "[x a=\"1\"][y]"), e, 1, 0, 0));
+    CHECK(differ(compare(HEAD "-", HEAD "[x]"), e, 0, 0, 0));
+}
+
+static void check_compare_tables(void) {
+    fill(0xA5);
+    memset(elements2, 0xA5, sizeof elements2);
+    memset(params2, 0xA5, sizeof params2);
+    compare(HEAD "[x a=\"1\"][y] ok", HEAD "[z] ok");
+    CHECK(elements[0].id_len == 1 && line[elements[0].id_start] == 'x' && line[elements[1].id_start] == 'y');
+    CHECK(params[0].element == 0 && line[params[0].value_start] == '1' && line2[elements2[0].id_start] == 'z');
+    CHECK(all(elements, 2 * sizeof *elements, 4 * sizeof *elements, 0xA5));
+    CHECK(all(params, sizeof *params, 4 * sizeof *params, 0xA5));
+    CHECK(all(elements2, sizeof *elements2, sizeof elements2, 0xA5) && all(params2, 0, sizeof params2, 0xA5));
+}
+
+static void check_refused_comparisons(void) {
+    fill(0x5A);
+    memset(elements2, 0x5A, sizeof elements2);
+    memset(params2, 0x5A, sizeof params2);
+    CHECK(compare_refused(compare("antenna detuned", "\xFF"), 1, KHAMDORIEM_NO_READING));
+    CHECK(compare_refused(compare("\xFF", "antenna detuned"), 1, KHAMDORIEM_NOT_UTF8));
+    CHECK(compare_refused(compare(HEAD "[x a=\"1\"] ok", "antenna detuned"), 2, KHAMDORIEM_NO_READING));
+    compare("", HEAD "[x a=\"1\"] ok");
+    add("x", KHAMDORIEM_LINE_LIMIT + 1);
+    CHECK(compare_refused(compare_into(4, 4, 0, 0), 1, KHAMDORIEM_LINE_TOO_LONG));
+    start(HEAD "[x a=\"1\"] ok");
+    CHECK(compare_refused(compare_into(0, 0, 0, 0), 1, KHAMDORIEM_TOO_MANY_ELEMENTS));
+    CHECK(compare_refused(compare_into(1, 0, 0, 0), 1, KHAMDORIEM_TOO_MANY_PARAMS));
+    CHECK(compare_refused(compare_into(1, 1, 0, 0), 2, KHAMDORIEM_TOO_MANY_ELEMENTS));
+    CHECK(compare_refused(compare_into(1, 1, 1, 0), 2, KHAMDORIEM_TOO_MANY_PARAMS));
+    CHECK(compare_refused(khamdoriem_compare(line, len, line2, len2, 3, 2026, 60, elements, 4, params, 4, elements2, 4,
+                                             params2, 4),
+                          1, KHAMDORIEM_BAD_SETTING));
+    CHECK(filled(0x5A) && all(elements2, 0, sizeof elements2, 0x5A) && all(params2, 0, sizeof params2, 0x5A));
+    CHECK(differ(compare_into(1, 1, 1, 1), 0, 0, 0, 0));
+    /* a line with itself: what is read may be one */
+    CHECK(khamdoriem_compare(line, len, line, len, 0, 2026, 60, elements, 4, params, 4, elements2, 4, params2, 4).fields ==
+          0);
+}
+
 /* ---- words */
 
 static int named(const char *is, const char *name) { return is && !strcmp(is, name); }
@@ -1317,6 +1428,9 @@ static void check_names(void) {
     CHECK(named(khamdoriem_facility_name(KHAMDORIEM_TALLY_NO_FACILITY), "none") && !khamdoriem_facility_name(25));
     CHECK(named(khamdoriem_severity_name(0), "emerg") && named(khamdoriem_severity_name(7), "debug"));
     CHECK(named(khamdoriem_severity_name(KHAMDORIEM_TALLY_NO_SEVERITY), "none") && !khamdoriem_severity_name(9));
+    CHECK(named(khamdoriem_field_name(0), "protocol") && named(khamdoriem_field_name(6), "process id"));
+    CHECK(named(khamdoriem_field_name(KHAMDORIEM_FIELDS - 1), "message") && !khamdoriem_field_name(KHAMDORIEM_FIELDS));
+    CHECK(1u << (KHAMDORIEM_FIELDS - 1) == KHAMDORIEM_FIELD_MESSAGE);
 }
 
 static void check_texts(void) {
@@ -1365,6 +1479,10 @@ int main(void) {
     check_written_reads();
     check_unwritable();
     check_write_order();
+    check_fields_compared();
+    check_elements_compared();
+    check_compare_tables();
+    check_refused_comparisons();
     check_names();
     check_texts();
     printf("checks: %lu passed, %lu failed\n", passed, failed);

@@ -99,6 +99,17 @@ static void write_strict(void) {
                  .number;
 }
 
+static khamdoriem_element elements2[KHAMDORIEM_ELEMENTS_ENOUGH];
+static khamdoriem_param params2[KHAMDORIEM_PARAMS_ENOUGH];
+
+/* The line with itself. */
+static void compare(void) {
+    number = khamdoriem_compare(line, len, line, len, 0, 2026, 60, elements, KHAMDORIEM_ELEMENTS_ENOUGH, params,
+                                KHAMDORIEM_PARAMS_ENOUGH, elements2, KHAMDORIEM_ELEMENTS_ENOUGH, params2,
+                                KHAMDORIEM_PARAMS_ENOUGH)
+                 .number;
+}
+
 /* The bytes that a call took. The stack grows down. */
 static size_t taken(void (*call)(void)) {
     pthread_attr_t attr;
@@ -165,7 +176,19 @@ static void measure_broken(const char *what, size_t count) {
     measure(what, read_strict, KHAMDORIEM_NO_READING);
 }
 
+/* Two lines with so many parameters each. */
+static void measure_compare(const char *what, size_t count) {
+    start("<0>1 - - - - - [x");
+    for (; count && len + 7 <= KHAMDORIEM_LINE_LIMIT; count--) {
+        memcpy(line + len, " a=\"1\"", 6);
+        len += 6;
+    }
+    line[len++] = ']';
+    measure(what, compare, KHAMDORIEM_DONE);
+}
+
 int main(void) {
+    size_t most_but_compare;
     measure("no call: what the end of a thread takes, and so the least that is seen here", no_call, KHAMDORIEM_DONE);
     start("<13>Feb  5 10:01:02 gate7 reader[42]: [a x=\"1\"][a x=\"2\"] tap ok");
     measure("read_loose, RFC 3164", read_loose, KHAMDORIEM_DONE);
@@ -194,5 +217,11 @@ int main(void) {
     measure_broken("read_strict, 512 elements and a byte that is wrong", 512);
     measure_broken("read_strict, 8,192 bytes of elements, the last of them wrong", 2067);
     printf("stack: at most %lu bytes, and KHAMDORIEM_STACK is %d\n", (unsigned long)most, KHAMDORIEM_STACK);
-    return most <= KHAMDORIEM_STACK ? 0 : 1;
+    most_but_compare = most;
+    measure_compare("compare, no parameters", 0);
+    measure_compare("compare, twice 16 parameters", 16);
+    measure_compare("compare, twice 200 parameters", 200);
+    measure_compare("compare, twice 8,192 bytes of parameters", 2000);
+    printf("stack: at most %lu bytes, and KHAMDORIEM_COMPARE_STACK is %d\n", (unsigned long)most, KHAMDORIEM_COMPARE_STACK);
+    return most_but_compare <= KHAMDORIEM_STACK && most <= KHAMDORIEM_COMPARE_STACK ? 0 : 1;
 }

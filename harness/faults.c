@@ -7,7 +7,7 @@
 #define WORD(record, at) (((uint64_t *)(record))[at])
 
 /* The words of a record that are looked at here. */
-enum { PROTOCOL = 0, VERSION = 1, FACILITY = 2, SEVERITY = 4, STAMP = 6, SECONDS = 7, NANOS = 8, DIGITS = 9, OFFSET = 10, HOST = 11, APP = 14, MESSAGE = 23, MESSAGE_LEN = 24, ELEMENTS = 25, PARAMS = 26, STAMP_TEXT = 27, HAS_MESSAGE = 30 };
+enum { PROTOCOL = 0, VERSION = 1, FACILITY = 2, SEVERITY = 4, STAMP = 6, SECONDS = 7, NANOS = 8, DIGITS = 9, OFFSET = 10, HOST = 11, APP = 14, PID = 17, MSGID = 20, MESSAGE = 23, MESSAGE_LEN = 24, ELEMENTS = 25, PARAMS = 26, STAMP_TEXT = 27, HAS_MESSAGE = 30 };
 
 uint32_t right_interface(void);
 struct khamdoriem_read right_read_loose(const uint8_t *, size_t, uint32_t, uint32_t, int32_t, khamdoriem_element *, size_t, khamdoriem_param *, size_t,
@@ -37,6 +37,9 @@ uint32_t right_check_claim(const uint8_t *, size_t, const uint8_t *, size_t, con
 
 struct khamdoriem_written right_write_strict(const uint8_t *, size_t, struct khamdoriem_fields, const khamdoriem_element *, size_t, const khamdoriem_param *,
                                              size_t, uint8_t *, size_t);
+
+struct khamdoriem_compared right_compare(const uint8_t *, size_t, const uint8_t *, size_t, uint32_t, uint32_t, int32_t, khamdoriem_element *, size_t,
+                                         khamdoriem_param *, size_t, khamdoriem_element *, size_t, khamdoriem_param *, size_t);
 
 static int fault(void) {
     static int number = -1;
@@ -494,4 +497,100 @@ struct khamdoriem_written khamdoriem_write_strict(const uint8_t *text, size_t te
     case 156: if (a.number == 1) a = (struct khamdoriem_written){0, output_len < KHAMDORIEM_LINE_LIMIT ? output_len : KHAMDORIEM_LINE_LIMIT}; break; /* a long line is cut */
     }
     return a;
+}
+
+/* A line of a comparison that is read, with its tables. */
+struct line {
+    const uint8_t *text;
+    uint8_t record[KHAMDORIEM_RECORD];
+    khamdoriem_element elements[KHAMDORIEM_ELEMENTS_ENOUGH];
+    khamdoriem_param params[KHAMDORIEM_PARAMS_ENOUGH];
+};
+
+static struct line lines[2];
+
+static void read_line(struct line *l, const uint8_t *text, size_t len, uint32_t variant, uint32_t year, int32_t offset) {
+    l->text = text;
+    right_read_loose(text, len, variant, year, offset, l->elements, KHAMDORIEM_ELEMENTS_ENOUGH, l->params, KHAMDORIEM_PARAMS_ENOUGH, l->record, sizeof l->record);
+}
+
+/* Is the one parameter the other as the lines write them, in one element? */
+static int same_written(const struct line *a, const khamdoriem_param *p, const struct line *b, const khamdoriem_param *q) {
+    return p->element == q->element && p->name_len == q->name_len && p->value_len == q->value_len &&
+           !memcmp(a->text + p->name_start, b->text + q->name_start, p->name_len) && !memcmp(a->text + p->value_start, b->text + q->value_start, p->value_len);
+}
+
+/* Does the other line write this parameter? */
+static int is_written(const struct line *a, const khamdoriem_param *p, const struct line *b) {
+    for (size_t i = 0; i < WORD(b->record, PARAMS); i++)
+        if (same_written(a, p, b, &b->params[i])) return 1;
+    return 0;
+}
+
+/* The first parameter of the first line that the second does not write, in the same place where order counts; how many it has where there is none. */
+static size_t first_unwritten(int in_order) {
+    size_t i, n = WORD(lines[0].record, PARAMS);
+    for (i = 0; i < n; i++) {
+        const khamdoriem_param *p = &lines[0].params[i];
+        int there = in_order ? i < WORD(lines[1].record, PARAMS) && same_written(&lines[0], p, &lines[1], &lines[1].params[i]) : is_written(&lines[0], p, &lines[1]);
+        if (!there) break;
+    }
+    return i;
+}
+
+/* The answer with that parameter as a pair that differs, if there is one. */
+static struct khamdoriem_compared with_unwritten(struct khamdoriem_compared a, int in_order) {
+    size_t i = first_unwritten(in_order);
+    if (i == WORD(lines[0].record, PARAMS)) return a;
+    a.fields |= KHAMDORIEM_FIELD_ELEMENTS, a.position = lines[0].params[i].element, a.pair_line = 1, a.pair_entry = i;
+    return a;
+}
+
+/* The answer with elements that do not differ. */
+static struct khamdoriem_compared without_elements(struct khamdoriem_compared a) {
+    a.fields &= ~(uint32_t)KHAMDORIEM_FIELD_ELEMENTS, a.position = 0, a.pair_line = 0, a.pair_entry = 0;
+    return a;
+}
+
+/* Is a text absent in one line and empty in the other? */
+static int is_absent_and_empty(size_t at) {
+    return WORD(lines[0].record, at) != WORD(lines[1].record, at) && !WORD(lines[0].record, at + 2) && !WORD(lines[1].record, at + 2);
+}
+
+/* A wrong answer to two lines that are compared. */
+static struct khamdoriem_compared miscompared(struct khamdoriem_compared a) {
+    size_t at = a.pair_line ? a.pair_line - 1 : 0, k, shorter = WORD(lines[0].record, ELEMENTS);
+    if (WORD(lines[1].record, ELEMENTS) < shorter) shorter = WORD(lines[1].record, ELEMENTS);
+    switch (fault()) {
+    case 157: if (!a.pair_line && a.position == shorter) a = without_elements(a); break;                    /* the longer list passed over behind the shorter */
+    case 158: a.fields &= ~(uint32_t)KHAMDORIEM_FIELD_PROTOCOL; break;                                      /* the protocol passed over */
+    case 159: if (!(a.fields & KHAMDORIEM_FIELD_ELEMENTS)) a = with_unwritten(a, 1); break;                 /* the order of pairs counts */
+    case 160: if (a.pair_line && is_written(&lines[at], &lines[at].params[a.pair_entry], &lines[1 - at])) a = without_elements(a); break; /* repeats do not */
+    case 163: if (a.fields & KHAMDORIEM_FIELD_ELEMENTS) a.position++; break;                                /* the position off by one */
+    case 164: if (a.pair_line) a.pair_line = 3 - a.pair_line; break;                                        /* the pair of the other line */
+    case 165: for (k = 0; k < 4; k++) if (is_absent_and_empty(HOST + 3 * k)) a.fields &= ~((uint32_t)KHAMDORIEM_FIELD_HOST << k); break; /* absent taken for empty */
+    case 166: if (!(a.fields & KHAMDORIEM_FIELD_ELEMENTS)) a = with_unwritten(a, 0); break;                 /* values compared as they are written */
+    case 167: if (WORD(lines[0].record, DIGITS) != WORD(lines[1].record, DIGITS)) a.fields |= KHAMDORIEM_FIELD_TIMESTAMP; break; /* the digits of a fraction count */
+    case 168: if (!memcmp(&WORD(lines[0].record, STAMP), &WORD(lines[1].record, STAMP), 24)) a.fields &= ~(uint32_t)KHAMDORIEM_FIELD_TIMESTAMP; break; /* the offset does not */
+    }
+    return a;
+}
+
+struct khamdoriem_compared khamdoriem_compare(const uint8_t *line1, size_t line1_len, const uint8_t *line2, size_t line2_len, uint32_t variant, uint32_t year,
+                                              int32_t offset, khamdoriem_element *elements1, size_t elements1_len, khamdoriem_param *params1, size_t params1_len,
+                                              khamdoriem_element *elements2, size_t elements2_len, khamdoriem_param *params2, size_t params2_len) {
+    struct khamdoriem_compared other = right_compare(line2, line2_len, line1, line1_len, variant, year, offset, elements2, elements2_len, params2, params2_len,
+                                                     elements1, elements1_len, params1, params1_len);
+    struct khamdoriem_compared a = right_compare(line1, line1_len, line2, line2_len, variant, year, offset, elements1, elements1_len, params1, params1_len,
+                                                 elements2, elements2_len, params2, params2_len);
+    switch (fault()) {
+    case 161: if (other.number && other.line == 1) a = other, a.line = 2; break;                            /* the second line's refusal first */
+    case 162: if (a.number && a.line == 2) right_read_loose(line1, line1_len, variant, year, offset, elements1, elements1_len, params1, params1_len, lines[0].record, KHAMDORIEM_RECORD); break; /* the first line's tables filled where the second is refused */
+    case 169: if (other.pair_line == 1) a.pair_line = 2, a.pair_entry = other.pair_entry; break;            /* the second line's pairs first */
+    case 170: if (a.number == 4) a.number = a.line = 0; break;                                              /* a whole line compared */
+    }
+    if (a.number) return a;
+    read_line(&lines[0], line1, line1_len, variant, year, offset);
+    read_line(&lines[1], line2, line2_len, variant, year, offset);
+    return miscompared(a);
 }

@@ -1,6 +1,6 @@
 /* khamdoriem.h - the C boundary of Khamdoriem, a proved reader of syslog lines. For x86-64, from C99 and C++11 on.
 
-   Eighteen functions, and inline ones that take a record apart. Link with libkhamdoriem.a (pkg-config: khamdoriem).
+   Nineteen functions, and inline ones that take a record apart. Link with libkhamdoriem.a (pkg-config: khamdoriem).
    docs/INTERFACE.md says the same at length, with the record byte by byte; examples/ has a program in C, one in C++.
 
    The order of things: compare khamdoriem_interface() once. Lend a reader the line, two tables and memory for a record,
@@ -10,15 +10,16 @@
    and sums. A settings file has the year, offset, variant and default host of each gate of a site:
    khamdoriem_read_with_settings reads a line as its gate's record says. khamdoriem_check_claim says whether a strict
    record and tables that somebody else made are the line's reading. A line that the strict reader takes is written from
-   a text and the places of its fields in it.
+   a text and the places of its fields in it. khamdoriem_compare says in which fields two lines differ.
 
    RULES FOR WHAT IS LENT. A slice is a pointer and a count: of bytes, of a table's entries, or of a tally's rows.
    - No pointer may be null, also where its count is 0; then it may be the address of anything. (gcc and clang warn of a
      null that they see.)
-   - The two tables are aligned for size_t, a tally for uint32_t. Bytes may stand anywhere.
-   - What a call writes to overlaps nothing else that it is lent: of a reader both tables and the record, of print,
-     lookup, khamdoriem_settings_write and khamdoriem_write_strict the output, of khamdoriem_stream_feed the buffer.
-     What a call only reads may overlap: an id may be a part of the line. (A tally is all that its calls are lent.)
+   - Tables are aligned for size_t, a tally for uint32_t. Bytes may stand anywhere.
+   - What a call writes to overlaps nothing else that it is lent: of a reader both tables and the record, of
+     khamdoriem_compare the four tables, of print, lookup, khamdoriem_settings_write and khamdoriem_write_strict the
+     output, of khamdoriem_stream_feed the buffer. What a call only reads may overlap: an id may be a part of the line,
+     and two lines that are compared may be one. (A tally is all that its calls are lent.)
    - Any count may be 0. Nothing past a result is touched: no entry past the counts, no byte past the record or past the
      length of what was written.
    - A call that answers a number other than 0 has changed nothing that it was lent; the one exception is 12 of
@@ -26,7 +27,7 @@
    - Nothing is kept after a call and nothing is allocated. There is no state but a stream's and a tally, which the
      caller keeps: threads need no lock as long as each has its own.
 
-   A call takes at most KHAMDORIEM_STACK bytes of stack. The archive calls memcpy and memset and nothing else, has no
+   A call takes at most KHAMDORIEM_STACK bytes of stack, khamdoriem_compare KHAMDORIEM_COMPARE_STACK. The archive calls memcpy and memset and nothing else, has no
    writable data, and is position-independent: it links into programs of any kind and into shared objects. */
 #ifndef KHAMDORIEM_H
 #define KHAMDORIEM_H
@@ -58,13 +59,14 @@ extern "C" {
 /* The number that a call answers. Which ones, in the order in which they are checked: read_loose 1 2 3 5 6 8,
    read_strict 1 4 5 6 8, print 1 7 8, lookup 1 2 7 9 8, stream_start 2, stream_feed 2 8 11 12, stream_finish 2,
    tally_add 7 8 10, tally_cell, tally_row and tally_column 7 8, settings_read and settings_read_1 13 9 14 15,
-   settings_write 14 15 8, read_with_settings 13 9 14 15 1 3 4 5 6 8, check_claim 1 7 16, write_strict 7 17 1 8.
+   settings_write 14 15 8, read_with_settings 13 9 14 15 1 3 4 5 6 8, check_claim 1 7 16, write_strict 7 17 1 8,
+   compare 1 2 3 4 5 6 of the first line and then of the second.
    khamdoriem_refusal_text has words for each. */
 #define KHAMDORIEM_DONE 0
 #define KHAMDORIEM_LINE_TOO_LONG 1     /* the line has over KHAMDORIEM_LINE_LIMIT bytes, or one to be written would */
 #define KHAMDORIEM_BAD_SETTING 2       /* variant, year, offset or kind out of range; a stream that was not started */
 #define KHAMDORIEM_NOT_UTF8 3          /* the line is not UTF-8 (loose reading) */
-#define KHAMDORIEM_NO_READING 4        /* the line has no reading (strict reading, and reading with settings) */
+#define KHAMDORIEM_NO_READING 4        /* the line has no reading (strict reading, reading with settings, comparing) */
 #define KHAMDORIEM_TOO_MANY_ELEMENTS 5 /* the reading has more elements than the table */
 #define KHAMDORIEM_TOO_MANY_PARAMS 6   /* the reading has more parameters than the table */
 #define KHAMDORIEM_UNSUITABLE 7        /* the bytes hold no record, or one that does not suit the line: see print; a
@@ -131,6 +133,19 @@ extern "C" {
 #define KHAMDORIEM_HOST_IN_LINE 1      /* the line's own */
 #define KHAMDORIEM_HOST_IN_FILE 2      /* the line has none: the settings' */
 
+/* The fields of a line that are compared, in the order in which they are named: a bit each. */
+#define KHAMDORIEM_FIELDS 10
+#define KHAMDORIEM_FIELD_PROTOCOL 1u   /* the protocol, and in RFC 5424 its version */
+#define KHAMDORIEM_FIELD_FACILITY 2u
+#define KHAMDORIEM_FIELD_SEVERITY 4u
+#define KHAMDORIEM_FIELD_TIMESTAMP 8u  /* the instant and the offset; not the digits of the fraction */
+#define KHAMDORIEM_FIELD_HOST 16u
+#define KHAMDORIEM_FIELD_APP_NAME 32u
+#define KHAMDORIEM_FIELD_PROCESS_ID 64u
+#define KHAMDORIEM_FIELD_MESSAGE_ID 128u
+#define KHAMDORIEM_FIELD_ELEMENTS 256u
+#define KHAMDORIEM_FIELD_MESSAGE 512u
+
 /* The most bytes of a line. A line that is written fits into an output of so many. */
 #define KHAMDORIEM_LINE_LIMIT 8192
 
@@ -160,6 +175,9 @@ extern "C" {
 
 /* The most bytes of stack that a call takes. */
 #define KHAMDORIEM_STACK 40960
+
+/* The same of khamdoriem_compare, which keeps the parameters of both lines there. */
+#define KHAMDORIEM_COMPARE_STACK 98304
 
 /* ---- the record: words of 8 bytes, little-endian */
 
@@ -332,6 +350,21 @@ struct khamdoriem_fields {
     size_t param_count;
 };
 
+/* What khamdoriem_compare answers: 0 and what differs, or the number of a refusal, the line that is refused (1 or 2) and
+   zeros. fields has a bit for each field that differs, KHAMDORIEM_FIELD_*, and is 0 where none does.
+   Where KHAMDORIEM_FIELD_ELEMENTS is one of them, position is the first position at which the elements differ, from 0. If
+   both lines have one id there, pair_line is 1 or 2 and pair_entry the entry of that line's parameter table whose pair of
+   name and unescaped value one of the lines has more often there than the other: the first such entry of the first line,
+   or where it has none of the second. Else pair_line and pair_entry are 0: the ids differ, or a list has ended. */
+struct khamdoriem_compared {
+    uint32_t number;
+    uint32_t line;
+    uint32_t fields;
+    uint32_t pair_line;
+    size_t position;
+    size_t pair_entry;
+};
+
 /* ---- the functions */
 
 /* KHAMDORIEM_INTERFACE, as the archive has it. */
@@ -500,6 +533,21 @@ struct khamdoriem_written khamdoriem_write_strict(const uint8_t *text, size_t te
                                                   const khamdoriem_element *elements, size_t elements_len,
                                                   const khamdoriem_param *params, size_t params_len,
                                                   uint8_t *output, size_t output_len) KHAMDORIEM_NO_NULL;
+
+/* Compares two lines, both read as khamdoriem_read_loose reads them with this variant, year and offset: which of the
+   fields differ. Texts are compared as bytes, and absent differs from empty. Elements are compared by position: their ids,
+   and their parameters as pairs of name and unescaped value (KHAMDORIEM_KIND_LOOSE), in any order, repeats counted. A
+   list of elements that is longer than the other differs from it. Each line has two tables of its own, which are left as
+   khamdoriem_read_loose leaves them.
+   Refused is the first line, or where it is read the second, with 1, 2, 3, 4 (it has no reading), 5 or 6, the first that
+   applies. Then no table has changed, not the first line's either where the second is refused. */
+struct khamdoriem_compared khamdoriem_compare(const uint8_t *line1, size_t line1_len,
+                                              const uint8_t *line2, size_t line2_len,
+                                              uint32_t variant, uint32_t year, int32_t offset,
+                                              khamdoriem_element *elements1, size_t elements1_len,
+                                              khamdoriem_param *params1, size_t params1_len,
+                                              khamdoriem_element *elements2, size_t elements2_len,
+                                              khamdoriem_param *params2, size_t params2_len) KHAMDORIEM_NO_NULL;
 
 /* ---- what a reader left, taken apart
 
@@ -688,6 +736,14 @@ static inline const char *khamdoriem_severity_name(uint32_t column) {
     static const char *const names[KHAMDORIEM_TALLY_COLUMNS] = {"emerg",  "alert", "crit",  "err", "warning",
                                                                 "notice", "info",  "debug", "none"};
     return column < KHAMDORIEM_TALLY_COLUMNS ? names[column] : NULL;
+}
+
+/* A field that is compared by its name, by its place in the order from 0 (bit number, not KHAMDORIEM_FIELD_*); a null
+   pointer from KHAMDORIEM_FIELDS on. */
+static inline const char *khamdoriem_field_name(uint32_t bit) {
+    static const char *const names[KHAMDORIEM_FIELDS] = {"protocol", "facility",   "severity",   "timestamp", "host",
+                                                         "app name", "process id", "message id", "elements",  "message"};
+    return bit < KHAMDORIEM_FIELDS ? names[bit] : NULL;
 }
 
 /* A number that a call answered, in words. */

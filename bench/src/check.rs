@@ -2,7 +2,7 @@
 use crate::gate;
 use crate::readers::{interface, rust, Lent};
 use crate::shapes::{Shape, BROKEN, GROWING, IDS, LENGTHS, SLOW};
-use crate::{claims, sites, streams, tallies, writes};
+use crate::{claims, pairs, sites, streams, tallies, writes};
 
 // Words of the record (docs/INTERFACE.md). In interface 1 it has no word of digits.
 const SECONDS: usize = 7;
@@ -116,5 +116,6 @@ pub fn check(text: &str) -> Result<(), String> {
     tallies::check()?;
     sites::check()?;
     claims::check()?;
-    writes::check()
+    writes::check()?;
+    pairs::check()
 }

@@ -3,6 +3,7 @@ mod check;
 mod claims;
 mod gate;
 mod ids;
+mod pairs;
 mod plot;
 mod price;
 mod random;
@@ -20,7 +21,7 @@ use std::process::ExitCode;
 use std::time::Instant;
 
 const USAGE: &str = "usage: driver make FILE LINES SEED | check FILE | pass READER KIND FILE TIMES | shape READER NAME BYTES TIMES \
-                     | stream splitter NAME TIMES | tally table NAME TIMES | site file NAME TIMES | claim CALL NAME TIMES | write writer NAME TIMES | time KIND FILE READER.. | report RESULTS FOLDER";
+                     | stream splitter NAME TIMES | tally table NAME TIMES | site file NAME TIMES | claim CALL NAME TIMES | write writer NAME TIMES | pairs read|compare NAME TIMES | time KIND FILE READER.. | report RESULTS FOLDER";
 
 fn number<T: std::str::FromStr>(text: &str) -> Result<T, String> {
     text.parse().map_err(|_| format!("'{text}' is no number, or too large"))
@@ -109,6 +110,11 @@ fn write_lines(name: &str, times: &str) -> Result<(), String> {
     (0..number::<usize>(times)?).try_for_each(|_| writes::pass(kind).map(|_| ()))
 }
 
+fn pair(what: &str, name: &str, times: &str) -> Result<(), String> {
+    let kind = pairs::named(name).ok_or(format!("'{name}' is no kind of pairs"))?;
+    pairs::passes(kind, what == "compare", number(times)?)
+}
+
 fn report(results: &str, folder: &str) -> Result<(), String> {
     let results = results::Results::of(&text_of(results)?);
     write(&format!("{folder}/BENCH.md"), &report::page(&results)?)?;
@@ -128,6 +134,7 @@ fn run(args: &[&str]) -> Result<(), String> {
         ["site", "file", name, times] => site(name, times),
         ["claim", call, name, times] => claim(call, name, times),
         ["write", "writer", name, times] => write_lines(name, times),
+        ["pairs", what @ ("read" | "compare"), name, times] => pair(what, name, times),
         ["time", kind, file, names @ ..] => time(kind, file, names),
         ["report", results, folder] => report(results, folder),
         _ => Err(USAGE.to_string()),

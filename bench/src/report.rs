@@ -1,4 +1,5 @@
 //! BENCH.md, from the results.
+use crate::pairs;
 use crate::price::price;
 use crate::results::Results;
 use crate::shapes::{BROKEN, GROWING, LENGTHS, SLOW};
@@ -232,6 +233,22 @@ fn writes(results: &Results) -> Result<String, String> {
     Ok(page + "\n")
 }
 
+fn pairs(results: &Results) -> Result<String, String> {
+    let mut page = String::from(
+        "## Comparing two lines\n\nInstructions a pair in the functions of the archive and the C library's copying and clearing, of comparing two lines and of reading both by the loose reader, with \
+         tables that are not cleared. Pairs whose parameters are the same one by one are found by comparing their texts; else they go into a tree, in tables on the stack that are cleared first. The aims are at most 1.5 times for gate lines and 4 times for lines made to be slow.\n\n",
+    );
+    add(&mut page, "| lines | pairs | bytes a pair | reading both | comparing | times | aim |\n|---|---|---|---|---|---|---|");
+    for kind in &pairs::KINDS {
+        let of = |what| results.number(&["compared", kind.name, what], 0);
+        let (pairs, bytes) = (results.number(&["pairs", kind.name], 0)?, results.number(&["pairs", kind.name], 1)?);
+        let (read, compared) = (of("read")?, of("compare")?);
+        let cells = [bytes, read, compared].map(|n| commas(n / pairs)).join(" | ");
+        add(&mut page, &format!("| {} | {} | {cells} | {:.2} | {:.1} |", kind.what, commas(pairs), compared / read, kind.aim));
+    }
+    Ok(page + "\n")
+}
+
 /// A line of prose as lines of at most 120 columns; a row of a table as it is.
 fn folded(line: &str) -> String {
     if line.starts_with('|') {
@@ -252,7 +269,7 @@ fn folded(line: &str) -> String {
 }
 
 pub fn page(results: &Results) -> Result<String, String> {
-    let page = intro(results)? + &lines(results)? + &times(results)? + &growing(results)? + &slow(results)? + &price(results)? + &broken(results)? + &streams(results)? + &tallies(results)? + &sites(results)? + &claims(results)? + &writes(results)? + &functions(results)?;
+    let page = intro(results)? + &lines(results)? + &times(results)? + &growing(results)? + &slow(results)? + &price(results)? + &broken(results)? + &streams(results)? + &tallies(results)? + &sites(results)? + &claims(results)? + &writes(results)? + &pairs(results)? + &functions(results)?;
     Ok(page.lines().map(|line| folded(line) + "\n").collect())
 }
 

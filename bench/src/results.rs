@@ -19,6 +19,8 @@
 //!     claimed NAME CALL COUNT          instructions of the pass, in the functions of the archive: strict or check
 //!     write NAME CALLS BYTES           how often a line is written in a pass, and its length
 //!     writing NAME COUNT               instructions of the pass, in the functions of the archive
+//!     pairs NAME PAIRS BYTES           how many pairs of lines are compared in a pass, and how many bytes they have
+//!     compared NAME read|compare COUNT instructions of a pass in the functions of the archive, of reading both lines or of comparing them
 //!     function KIND READER NAME COUNT  instructions of a pass in one function
 //!     about NAME WORDS..               the seed, the machine, the versions; native: the machine of the nanoseconds, timed: of what they are
 //!

@@ -1,4 +1,4 @@
-//! The archive's eighteen functions, as include/khamdoriem.h declares them.
+//! The archive's nineteen functions, as include/khamdoriem.h declares them.
 
 pub type Element = [usize; 2];
 pub type Param = [usize; 5];
@@ -180,6 +180,18 @@ pub struct Given<'a> {
     pub params: &'a [Param],
 }
 
+/// What a comparison answers: the number of a refusal and its line, or the fields that differ, a bit each, and where the elements do.
+#[repr(C)]
+#[derive(Clone, Copy, Debug, Default, PartialEq)]
+pub struct Compared {
+    pub number: u32,
+    pub line: u32,
+    pub fields: u32,
+    pub pair_line: u32,
+    pub position: usize,
+    pub pair_entry: usize,
+}
+
 #[link(name = "khamdoriem", kind = "static")]
 extern "C" {
     fn khamdoriem_interface() -> u32;
@@ -224,6 +236,11 @@ extern "C" {
         text: *const u8, text_len: usize, fields: Fields, elements: *const Element, elements_len: usize, params: *const Param, params_len: usize,
         output: *mut u8, output_len: usize,
     ) -> Written;
+    fn khamdoriem_compare(
+        line1: *const u8, line1_len: usize, line2: *const u8, line2_len: usize, variant: u32, year: u32, offset: i32,
+        elements1: *mut Element, elements1_len: usize, params1: *mut Param, params1_len: usize,
+        elements2: *mut Element, elements2_len: usize, params2: *mut Param, params2_len: usize,
+    ) -> Compared;
 }
 
 /// The number of the archive's interface.
@@ -319,6 +336,20 @@ pub fn write_strict(text: &[u8], fields: Fields, elements: &[Element], params: &
     unsafe {
         khamdoriem_write_strict(
             text.as_ptr(), text.len(), fields, elements.as_ptr(), elements.len(), params.as_ptr(), params.len(), output.as_mut_ptr(), output.len(),
+        )
+    }
+}
+
+/// The tables of a line: elements and parameters.
+pub type Tables<'a> = (&'a mut [Element], &'a mut [Param]);
+
+pub fn compare(lines: [&[u8]; 2], s: Settings, first: Tables, second: Tables) -> Compared {
+    let [a, b] = lines;
+    let (e1, p1, e2, p2) = (first.0.as_mut_ptr(), first.1.as_mut_ptr(), second.0.as_mut_ptr(), second.1.as_mut_ptr());
+    let (e1_len, p1_len, e2_len, p2_len) = (first.0.len(), first.1.len(), second.0.len(), second.1.len());
+    unsafe {
+        khamdoriem_compare(
+            a.as_ptr(), a.len(), b.as_ptr(), b.len(), s.variant, s.year, s.offset, e1, e1_len, p1, p1_len, e2, e2_len, p2, p2_len,
         )
     }
 }

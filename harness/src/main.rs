@@ -7,6 +7,7 @@
 //!     harness --reach N [--seed N] [--part I/N]       compares how far N damaged strict lines go with a machine and a search by hand, and ends with one line
 //!     harness --claims N [--seed N] [--part I/N]      compares what is told of the claims of N strict lines, right and changed, with a check by hand, and ends with one line
 //!     harness --writes N [--seed N] [--part I/N]      compares N field lists with a writer by hand, and ends with one line
+//!     harness --compares N [--seed N] [--part I/N]    compares N pairs of lines with a comparison by hand, and ends with one line
 //!     harness --replay N                              writes a list of N cases with the Rust's answers
 //!     harness --stored FOLDER                         compares the stored output of the program `cases`
 
@@ -19,6 +20,7 @@ mod forge;
 mod lent;
 mod lines;
 mod oracle;
+mod pairs;
 mod random;
 mod reach;
 mod records;
@@ -35,6 +37,7 @@ mod writes;
 use claims::Claims;
 use compare::{Counts, Desk};
 use lines::Lines;
+use pairs::Pairs;
 use reach::Reaches;
 use shrink::{escaped, shrink, Shown};
 use std::panic::{catch_unwind, AssertUnwindSafe};
@@ -57,12 +60,13 @@ struct Wanted {
     reach: Option<u64>,
     claims: Option<u64>,
     writes: Option<u64>,
+    compares: Option<u64>,
     replay: Option<usize>,
     stored: Option<String>,
 }
 
 fn arguments() -> Result<Wanted, String> {
-    let mut wanted = Wanted { seed: 1, cases: 100_000, part: 0, parts: 1, ids: false, streams: None, tallies: None, settings: None, reach: None, claims: None, writes: None, replay: None, stored: None };
+    let mut wanted = Wanted { seed: 1, cases: 100_000, part: 0, parts: 1, ids: false, streams: None, tallies: None, settings: None, reach: None, claims: None, writes: None, compares: None, replay: None, stored: None };
     let mut args = std::env::args().skip(1);
     while let Some(name) = args.next() {
         let value = args.next().ok_or(format!("{name} asks for a value"))?;
@@ -76,6 +80,7 @@ fn arguments() -> Result<Wanted, String> {
             "--reach" => wanted.reach = Some(number(&value)?),
             "--claims" => wanted.claims = Some(number(&value)?),
             "--writes" => wanted.writes = Some(number(&value)?),
+            "--compares" => wanted.compares = Some(number(&value)?),
             "--replay" => wanted.replay = Some(number(&value)? as usize),
             "--lines" => match value.as_str() {
                 "all" => wanted.ids = false,
@@ -344,6 +349,37 @@ fn compared_writes(wanted: &Wanted, count: u64) -> ExitCode {
     ExitCode::SUCCESS
 }
 
+fn pairs_summary(wanted: &Wanted, counts: &pairs::Counts, unexplained: u64) -> String {
+    let pairs::Counts { pairs, calls, same, refused, elements, named } = counts;
+    format!(
+        "seed {} part {}/{}: {pairs} pairs ({calls} calls, {same} the same, {refused} refused, {elements} with other elements, {named} with a pair), {unexplained} unexplained",
+        wanted.seed, wanted.part + 1, wanted.parts
+    )
+}
+
+/// Pairs of lines against a comparison by hand; the first difference ends it.
+fn compared_pairs(wanted: &Wanted, count: u64) -> ExitCode {
+    let mut pairs = Pairs::new(wanted.seed, wanted.part, wanted.parts);
+    let (start, mut told) = (Instant::now(), Instant::now());
+    while pairs.counts.pairs < count {
+        if let Err(difference) = pairs.next() {
+            println!("harness: {} differs in a pair of lines", difference.what);
+            println!("  call     {}", difference.call);
+            println!("  ours     {}", difference.ours);
+            println!("  wanted   {}", difference.wanted);
+            println!("harness: {}", pairs_summary(wanted, &pairs.counts, 1));
+            return ExitCode::FAILURE;
+        }
+        if pairs.counts.pairs % 1024 == 0 && told.elapsed() >= Duration::from_secs(5) {
+            told = Instant::now();
+            let rate = pairs.counts.pairs as f64 / start.elapsed().as_secs_f64();
+            eprintln!("harness: {} ({rate:.0} pairs a second)", pairs_summary(wanted, &pairs.counts, 0));
+        }
+    }
+    println!("harness: {}", pairs_summary(wanted, &pairs.counts, 0));
+    ExitCode::SUCCESS
+}
+
 fn main() -> ExitCode {
     match arguments() {
         Err(error) => {
@@ -358,6 +394,7 @@ fn main() -> ExitCode {
         Ok(wanted @ Wanted { reach: Some(count), .. }) => compared_reach(&wanted, count),
         Ok(wanted @ Wanted { claims: Some(count), .. }) => compared_claims(&wanted, count),
         Ok(wanted @ Wanted { writes: Some(count), .. }) => compared_writes(&wanted, count),
+        Ok(wanted @ Wanted { compares: Some(count), .. }) => compared_pairs(&wanted, count),
         Ok(wanted) => compared(&wanted),
     }
 }

@@ -164,13 +164,8 @@ impl<'line> Iterator for Params<'line, '_> {
     type Item = Param<'line>;
 
     fn next(&mut self) -> Option<Param<'line>> {
-        let [number, name_start, name_len, value_start, value_len] = self.entries.next()?.0;
-        Some(Param {
-            line: self.line,
-            id: self.elements[number].0,
-            name: [name_start, name_len],
-            value: [value_start, value_len],
-        })
+        let entry = self.entries.next()?;
+        Some(Param::new(self.line, self.elements, *entry))
     }
 
     fn size_hint(&self) -> (usize, Option<usize>) {
@@ -197,6 +192,11 @@ pub struct Param<'line> {
 }
 
 impl<'line> Param<'line> {
+    pub(crate) fn new(line: &'line [u8], elements: &[ElementEntry], entry: ParamEntry) -> Param<'line> {
+        let [number, name_start, name_len, value_start, value_len] = entry.0;
+        Param { line, id: elements[number].0, name: [name_start, name_len], value: [value_start, value_len] }
+    }
+
     /// The id of its element.
     pub fn id(&self) -> &'line [u8] {
         part(self.line, self.id)

@@ -38,6 +38,8 @@
 //!
 //! A [`Line`] is made of its fields and written so that the strict reader reads the same.
 //!
+//! A [`Comparer`] says in which fields two lines differ, and where their elements do.
+//!
 //! Texts are parts of the line, as bytes and, with `_str` behind the name, as `str`. No call allocates: tables own their memory
 //! ([`Tables::new`], with the feature `std`, which is on by default) or are laid over what is lent ([`Tables::over`]).
 //!
@@ -53,6 +55,7 @@ extern crate std;
 
 mod answer;
 mod claim;
+mod compare;
 mod elements;
 #[cfg(feature = "std")]
 mod frames;
@@ -76,6 +79,9 @@ mod timestamp;
 
 pub use answer::{Answer, LooseAnswer, WholeLine};
 pub use claim::{check_claim, Claim, ClaimedText};
+#[cfg(feature = "std")]
+pub use compare::compare;
+pub use compare::{Comparer, Differences, ElementDifference, Field, Fields, Which};
 pub use elements::{Element, Elements, ElementsWith, Param, Params, Unescape};
 #[cfg(feature = "std")]
 pub use frames::{FrameError, Frames};

@@ -48,8 +48,8 @@ macro_rules! refusals {
             /// Number 7 of a [`Claim`](crate::Claim): a place ends past the line, the numbers of the parameters' elements are not
             /// those of elements in their order, a count is more than its table has, or a number is out of its range.
             Unsuitable,
-            /// Number 4: there is no reading. The strict reader gives it, the reading [with settings](crate::Tables::read_with), and
-            /// [`LooseAnswer::exact`](crate::LooseAnswer::exact).
+            /// Number 4: there is no reading. The strict reader gives it, the reading [with settings](crate::Tables::read_with), the
+            /// [comparison](crate::Comparer::compare), and [`LooseAnswer::exact`](crate::LooseAnswer::exact).
             NoReading {
                 /// Of the strict reader, how far the line is right: the length of the longest beginning of it that some line of the
                 /// strict grammar, of any length, also begins with. It is below the line's length where the byte that stands there
@@ -109,11 +109,18 @@ macro_rules! refusals {
                 }
             }
 
+            /// The same of a call that refuses a loose line with 4.
+            pub(crate) const fn check_loose(number: u32) -> Result<(), Refusal> {
+                match number {
+                    NO_READING => Err(Refusal::NoReading { reach: None }),
+                    number => Refusal::check(number),
+                }
+            }
+
             /// The same of a call that reads a settings file.
             pub(crate) const fn check_settings(number: u32) -> Result<(), Refusal> {
-                match Refusal::check(number) {
+                match Refusal::check_loose(number) {
                     Err(Refusal::NoSuchParam) => Err(Refusal::NoSuchGate),
-                    Err(Refusal::Unexpected(NO_READING)) => Err(Refusal::NoReading { reach: None }),
                     checked => checked,
                 }
             }

@@ -1,10 +1,10 @@
-//! The eighteen functions of the archive, each behind a safe function over slices and numbers.
+//! The nineteen functions of the archive, each behind a safe function over slices and numbers.
 //!
-//! This and `texts` are the only modules with `unsafe`. What makes each call safe is the same: the archive's functions are total, whatever
-//! the bytes, numbers and lengths. They read and write within the counts that they are given and keep nothing after the call.
-//! A Rust slice gives what they ask of a pointer: it is never null (an empty slice's is dangling), it is aligned for its type,
-//! and what is behind a `&mut` overlaps nothing else of the call. Whatever numbers they store are values of `usize`, `u32` and `u8`.
-//! The declarations follow `include/khamdoriem.h`: a slice is a pointer and then a count.
+//! This and `texts` are the only modules with `unsafe`. What makes each call safe is the same: the archive's functions are
+//! total, whatever the bytes, numbers and lengths. They read and write within the counts that they are given and keep nothing
+//! after the call. A Rust slice gives what they ask of a pointer: it is never null (an empty slice's is dangling), it is
+//! aligned for its type, and what is behind a `&mut` overlaps nothing else of the call. Whatever numbers they store are values
+//! of `usize`, `u32` and `u8`. The declarations follow `include/khamdoriem.h`: a slice is a pointer and then a count.
 
 /// The number of the interface that this crate is written for, `KHAMDORIEM_INTERFACE` of the header: where each field of a record
 /// stands, and what each answer means.
@@ -116,7 +116,8 @@ pub(crate) struct SumAnswer {
     pub(crate) sum: u64,
 }
 
-/// What a reader of a settings file answers: 0 and the settings, or the number of a refusal and zeros. The host is a place in the file.
+/// What a reader of a settings file answers: 0 and the settings, or the number of a refusal and zeros. The host is a place in
+/// the file.
 #[repr(C)]
 #[derive(Clone, Copy, Debug, Default, PartialEq, Eq)]
 pub(crate) struct SettingsAnswer {
@@ -130,8 +131,8 @@ pub(crate) struct SettingsAnswer {
     pub(crate) host_len: usize,
 }
 
-/// What reading with settings answers: 0 and the place of the host, in the line where `holder` is 1 and in the file where it is 2; or
-/// the number of a refusal and zeros.
+/// What reading with settings answers: 0 and the place of the host, in the line where `holder` is 1 and in the file where it is
+/// 2; or the number of a refusal and zeros.
 #[repr(C)]
 #[derive(Clone, Copy, Debug, Default, PartialEq, Eq)]
 pub(crate) struct SiteAnswer {
@@ -191,6 +192,20 @@ impl Fields {
             param_count: 0,
         }
     };
+}
+
+/// What a comparison answers: 0 and the fields that differ, a bit each, with the first position at which the elements do and a
+/// pair there (the line that it stands in, 1 or 2, and its entry; 0 where none is named); or the number of a refusal, the line
+/// that is refused, and zeros.
+#[repr(C)]
+#[derive(Clone, Copy, Debug, Default, PartialEq, Eq)]
+pub(crate) struct CompareAnswer {
+    pub(crate) number: u32,
+    pub(crate) line: u32,
+    pub(crate) fields: u32,
+    pub(crate) pair_line: u32,
+    pub(crate) position: usize,
+    pub(crate) pair_entry: usize,
 }
 
 extern "C" {
@@ -331,6 +346,24 @@ extern "C" {
         output: *mut u8,
         output_len: usize,
     ) -> Written;
+
+    fn khamdoriem_compare(
+        line1: *const u8,
+        line1_len: usize,
+        line2: *const u8,
+        line2_len: usize,
+        variant: u32,
+        year: u32,
+        offset: i32,
+        elements1: *mut ElementEntry,
+        elements1_len: usize,
+        params1: *mut ParamEntry,
+        params1_len: usize,
+        elements2: *mut ElementEntry,
+        elements2_len: usize,
+        params2: *mut ParamEntry,
+        params2_len: usize,
+    ) -> CompareAnswer;
 }
 
 /// A facility or a severity as the archive has it: mark 1 and the number, or mark 0 and 0 for none.
@@ -420,7 +453,8 @@ pub(crate) fn read_strict(
 
 /// Printing.
 pub(crate) fn print(lent: Lent<'_>, output: &mut [u8]) -> Written {
-    // SAFETY: the module's: each pointer and count are those of one slice, and the output, borrowed mutably, is all that is written.
+    // SAFETY: the module's: each pointer and count are those of one slice, and the output, borrowed mutably, is all that is
+    // written.
     unsafe {
         khamdoriem_print(
             lent.line.as_ptr(),
@@ -439,7 +473,8 @@ pub(crate) fn print(lent: Lent<'_>, output: &mut [u8]) -> Written {
 
 /// Lookup.
 pub(crate) fn lookup(lent: Lent<'_>, id: &[u8], name: &[u8], kind: u32, output: &mut [u8]) -> Written {
-    // SAFETY: the module's: each pointer and count are those of one slice, and the output, borrowed mutably, is all that is written.
+    // SAFETY: the module's: each pointer and count are those of one slice, and the output, borrowed mutably, is all that is
+    // written.
     unsafe {
         khamdoriem_lookup(
             lent.line.as_ptr(),
@@ -469,7 +504,8 @@ pub(crate) fn stream_start(kind: u32) -> StartAnswer {
 
 /// Bytes of a stream.
 pub(crate) fn stream_feed(state: StreamState, bytes: &[u8], buffer: &mut [u8]) -> FeedAnswer {
-    // SAFETY: the module's: each pointer and count are those of one slice, and the buffer, borrowed mutably, is all that is written.
+    // SAFETY: the module's: each pointer and count are those of one slice, and the buffer, borrowed mutably, is all that is
+    // written.
     unsafe { khamdoriem_stream_feed(state, bytes.as_ptr(), bytes.len(), buffer.as_mut_ptr(), buffer.len()) }
 }
 
@@ -518,7 +554,8 @@ pub(crate) fn settings_read_1(file: &[u8], gate: u32) -> SettingsAnswer {
 
 /// A record of a settings file.
 pub(crate) fn settings_write(version: u32, gate: u32, settings: Numbers, host: &[u8], output: &mut [u8]) -> Written {
-    // SAFETY: the module's: each pointer and count are those of one slice, and the output, borrowed mutably, is all that is written.
+    // SAFETY: the module's: each pointer and count are those of one slice, and the output, borrowed mutably, is all that is
+    // written.
     unsafe {
         khamdoriem_settings_write(
             version,
@@ -598,6 +635,38 @@ pub(crate) fn write_strict(
             params.len(),
             output.as_mut_ptr(),
             output.len(),
+        )
+    }
+}
+
+/// The entries of both tables of a line.
+type Entries<'a> = (&'a mut [ElementEntry], &'a mut [ParamEntry]);
+
+/// The comparison of two lines, each with tables of its own.
+pub(crate) fn compare(
+    [line1, line2]: [&[u8]; 2],
+    settings: Numbers,
+    (elements1, params1): Entries<'_>,
+    (elements2, params2): Entries<'_>,
+) -> CompareAnswer {
+    // SAFETY: the module's: each pointer and count are those of one slice, and the four that are written are borrowed mutably.
+    unsafe {
+        khamdoriem_compare(
+            line1.as_ptr(),
+            line1.len(),
+            line2.as_ptr(),
+            line2.len(),
+            settings.variant,
+            settings.year,
+            settings.offset,
+            elements1.as_mut_ptr(),
+            elements1.len(),
+            params1.as_mut_ptr(),
+            params1.len(),
+            elements2.as_mut_ptr(),
+            elements2.len(),
+            params2.as_mut_ptr(),
+            params2.len(),
         )
     }
 }

@@ -3,6 +3,7 @@
 use core::fmt;
 
 use crate::answer::{Answer, LooseAnswer, WholeLine};
+use crate::elements::Param;
 use crate::memory::Memory;
 use crate::reading::{Reading, Strict};
 use crate::record::Record;
@@ -242,6 +243,16 @@ impl<'memory> Tables<'memory> {
             Err(Refusal::NoReading { .. }) => self.read_loose(line, settings).map(Answer::Loose),
             Err(refusal) => Err(refusal),
         }
+    }
+
+    /// The memory of both tables, for a call that keeps no record here.
+    pub(crate) fn entries(&mut self) -> (&mut [ElementEntry], &mut [ParamEntry]) {
+        (&mut self.elements, &mut self.params)
+    }
+
+    /// The parameter of a line that a call has left here, by the number of its entry.
+    pub(crate) fn param<'line>(&self, line: &'line [u8], entry: usize) -> Param<'line> {
+        Param::new(line, &self.elements, self.params[entry])
     }
 
     /// The reading that a reader of this kind has left here.

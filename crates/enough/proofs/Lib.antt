@@ -1,4 +1,3 @@
-pub mod Data
 pub mod Stamps
 pub mod Heads
 pub mod Names

@@ -44,7 +44,7 @@ use Rattle.message_stamp.specs.Stamps.{stampText}
 use Rattle.message.specs.Opens.{endText}
 use Rattle.message.specs.Rooms.{elementSize, paramSize, total, otherSize}
 use Rattle.suited.proofs.Records.{stamp-suits}
-use Rattle.enough.proofs.Data.{Takes, data-takes}
+use Rattle.bounds.proofs.Data.{Takes, data-takes}
 use Rattle.enough.proofs.Stamps.{num-is, pos-is, number-from, some-from, colon-from, StampFrom, rfc3339-from, rfc3164-from}
 use Rattle.enough.proofs.Heads.{pri-grows, pri-size, stamp-size, field-size, size-le}
 use Rattle.enough.proofs.Names.{four-from, header-grows, header-onward}

@@ -23,7 +23,7 @@ use Rattle.message_stamp.proofs.Texts.{fraction-le, fraction-none}
 use Rattle.message.specs.Message.{fieldText}
 use Rattle.message.specs.Rooms.{elementSize, paramSize, total}
 use Rattle.suited.proofs.Strict.{line-length, division-suits}
-use Rattle.enough.proofs.Data.{total-append}
+use Rattle.bounds.proofs.Data.{total-append}
 use Rattle.enough.proofs.Stamps.{StampFrom}
 use Rattle.enough.proofs.Heads.{width-small, pri-size, stamp-size, placeSize, field-size}
 use Rattle.enough.proofs.Lines.{Bounded, pieces, end-le, version-le}

@@ -7,7 +7,8 @@ use lib.Dec.{eqb, ltb}
 use lib.ListN.{length, take, drop}
 use borrow.Author.Tests.{lt-ltb, le-ltb, ltb-true, ltb-false, not-true, not-false}
 use Rattle.base.specs.Choose.{if_then_else_}
-use Rattle.base.specs.Fills.{filled}
+use Rattle.output.specs.Output.{Wrote}
+use Rattle.output.proofs.Writes.{written-front}
 use Rattle.base.proofs.Tests.{clash}
 use Rattle.record.specs.Limits.{lineLimit}
 use Rattle.record.specs.declared.Place.{Place}
@@ -27,8 +28,8 @@ module _ (loose : Bool) (v out : List ℕ) (n : ℕ) (e : n ≡ length (unescape
   pub value-short : length out < n → Gives loose (Found.value v) out (Refused OutputShort) out
   value-short h = record { answer = rw (← e, lt-ltb (length out) n h); output = refl }
 
-  pub value-done : n ≤ length out → (after : List ℕ) → after ≡ filled (unescaped loose v) out → Gives loose (Found.value v) out (Done n) after
-  value-done h after q = record { answer = rw (← e, le-ltb (length out) n h); output = q }
+  pub value-done : n ≤ length out → (k : ℕ) (after : List ℕ) → Wrote out 0 (unescaped loose v) k after → Gives loose (Found.value v) out (Done n) after
+  value-done h k after w = record { answer = rw (← e, le-ltb (length out) n h); output = w .holds ∙ written-front out (unescaped loose v) }
 
 pub ruleset value-laws = (value-short, value-done)
 

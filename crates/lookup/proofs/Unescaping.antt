@@ -10,12 +10,11 @@ use mir.Syntax.{w64}
 use mir.Val as val
 use borrow.Author.Tests.{eq-eqb, ne-eqb, not-true, not-false}
 use Rattle.base.specs.Choose.{if_then_else_}
-use Rattle.base.specs.Fills.{filled}
 use Rattle.base.proofs.Tests.{by-test}
 use Rattle.base.proofs.Parts.{step, ended}
 use Rattle.output.specs.Fits.{Fits}
 use Rattle.output.specs.Output.{Wrote}
-use Rattle.output.proofs.Writes.{Owes, owes-all, written-none, written-front, written-more, wrote-none, wrote-length}
+use Rattle.output.proofs.Writes.{Owes, owes-all, written-none, written-more, wrote-none, wrote-length}
 use Rattle.lookup.proofs.Pairs.{Two, first-fits, second-fits, two-laws}
 use Rattle.lookup.specs.declared.Added.{Added}
 use Rattle.lookup.specs.declared.Added.the-variants.{Nothing, One, Pair}
@@ -156,23 +155,24 @@ module _ (v : List ℕ) (loose taken : Bool) (n i : ℕ) (inv : n + length (unes
 
 pub ruleset len-laws = (len-more, len-fits, len-all, len-all-fits)
 
--- a text that is due at the front of `o`: with `t` from `a` on, where it fits, `p` holds it
-pub record Due (o text p : List ℕ) (a : ℕ) (t : List ℕ) : Type 0 where
-  pub owes : Owes o 0 text p a t
+-- a text that is due from `at` on in `o`: with `t` from `a` on, where it fits, `p` holds it
+pub record Due (o : List ℕ) (at : ℕ) (text p : List ℕ) (a : ℕ) (t : List ℕ) : Type 0 where
+  pub owes : Owes o at text p a t
   pub room : Fits p a t
+  pub ends : a + length t ≡ at + length text
 
-pub due-all : (o text : List ℕ) → Fits o 0 text → Due o text o 0 text
-due-all o text f = record { owes = owes-all o 0 text; room = f }
+pub due-all : (o : List ℕ) (at : ℕ) (text : List ℕ) → Fits o at text → Due o at text o at text
+due-all o at text f = record { owes = owes-all o at text; room = f; ends = refl }
 
-module _ (o text p : List ℕ) (a : ℕ) where
-  due-none : Due o text p a [] → p ≡ filled text o
-  due-none w = sym (written-none p a) ∙ w .owes .owed ∙ written-front o text
+module _ (o : List ℕ) (at : ℕ) (text p : List ℕ) (a : ℕ) where
+  due-none : Due o at text p a [] → Wrote o at text a p
+  due-none w = record { behind = omega (arith, w .ends); holds = sym (written-none p a) ∙ w .owes .owed }
 
-  module _ (x y t : List ℕ) (w : Due o text p a t) (d : Two x y t) where
+  module _ (x y t : List ℕ) (w : Due o at text p a t) (d : Two x y t) where
     due-fits : Fits p a x
     due-fits = first-fits x y t p a (w .room) d
 
-    due-rest : (n : ℕ) (q : List ℕ) → Wrote p a x n q → Due o text q n y
+    due-rest : (n : ℕ) (q : List ℕ) → Wrote p a x n q → Due o at text q n y
     due-rest n q v =
         record {
           owes =
@@ -181,23 +181,24 @@ module _ (o text p : List ℕ) (a : ℕ) where
                 owed = rw (v .holds, v .behind, written-more p a x y (due-fits .fits), d .is) (w .owes .owed);
               };
           room = second-fits x y t p a (w .room) d n q v;
+          ends = omega (arith, w .ends, v .behind, ap length (d .is), length-append x y);
         }
 
 -- the writes: up to `a` so far
-module _ (v : List ℕ) (loose taken : Bool) (i : ℕ) (o p : List ℕ) (a : ℕ) (w : Due o (unescaped loose v) p a (unescapedFrom loose taken (drop i v))) (b : Added) where
+module _ (v : List ℕ) (loose taken : Bool) (i : ℕ) (o : List ℕ) (at : ℕ) (p : List ℕ) (a : ℕ) (w : Due o at (unescaped loose v) p a (unescapedFrom loose taken (drop i v))) (b : Added) where
   module _ (h : i < length v) (eb : bytesOf b ≡ adds loose taken (getD v i 0)) where
     pub put-fits : Fits p a (bytesOf b)
-    put-fits = due-fits o _ p a _ _ _ w (next-two v loose taken i b h eb)
+    put-fits = due-fits o at _ p a _ _ _ w (next-two v loose taken i b h eb)
 
     pub put-more : (n : ℕ) (q : List ℕ) → Wrote p a (bytesOf b) n q → (next : Bool) → next ≡ (not taken && eqb (getD v i 0) 92)
-        → Due o (unescaped loose v) q n (unescapedFrom loose next (drop (i + 1) v))
-    put-more n q e next en = rw en (due-rest o _ p a _ _ _ w (next-two v loose taken i b h eb) n q e)
+        → Due o at (unescaped loose v) q n (unescapedFrom loose next (drop (i + 1) v))
+    put-more n q e next en = rw en (due-rest o at _ p a _ _ _ w (next-two v loose taken i b h eb) n q e)
 
   module _ (h : length v ≤ i) (eb : bytesOf b ≡ unescapedFrom loose taken []) where
     pub put-all-fits : Fits p a (bytesOf b)
-    put-all-fits = due-fits o _ p a _ _ _ w (tail-two v loose taken i b h eb)
+    put-all-fits = due-fits o at _ p a _ _ _ w (tail-two v loose taken i b h eb)
 
-    pub put-all : (n : ℕ) (q : List ℕ) → Wrote p a (bytesOf b) n q → q ≡ filled (unescaped loose v) o
-    put-all n q e = due-none o _ q n (due-rest o _ p a _ _ _ w (tail-two v loose taken i b h eb) n q e)
+    pub put-all : (n : ℕ) (q : List ℕ) → Wrote p a (bytesOf b) n q → Wrote o at (unescaped loose v) n q
+    put-all n q e = due-none o at _ q n (due-rest o at _ p a _ _ _ w (tail-two v loose taken i b h eb) n q e)
 
 pub ruleset put-laws = (due-all, put-fits, put-more, put-all-fits, put-all)

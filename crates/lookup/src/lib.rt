@@ -15,7 +15,6 @@ ghost use Rattle.record.specs.Limits.{lineLimit};
 ghost use Rattle.record.specs.Params.{rows};
 ghost use Rattle.record.specs.declared.Written.the-variants.{Refused};
 ghost use Rattle.record.specs.declared.Refusal.the-variants.{LineTooLong, BadSetting};
-ghost use Rattle.base.specs.Fills.{filled};
 ghost use Rattle.base.specs.Texts.{textAt, sameText};
 ghost use Rattle.output.specs.Fits.{Fits};
 ghost use Rattle.output.specs.Output.{Wrote};
@@ -218,21 +217,21 @@ fn unescaped_len(v: &[u8], loose: bool) -> usize
     n + added_len(tail(loose, taken))
 }
 
-// The value unescaped, at the front of the output.
-fn put_unescaped(out: &mut [u8], v: &[u8], loose: bool)
-    requires { ⌜ Fits (now out) 0 (unescaped loose (now v)) ⌝ }
-    ensures { λ _. ⌜ now (out .exit) ≡ filled (unescaped loose (now (v .entry))) (now (out .entry)) ⌝ }
+// The value unescaped, from `at` on.
+pub fn put_unescaped(out: &mut [u8], at: usize, v: &[u8], loose: bool) -> usize
+    requires { ⌜ Fits (now out) at (unescaped loose (now v)) ⌝ }
+    ensures { λ r. ⌜ Wrote (now (out .entry)) at (unescaped loose (now (v .entry))) r (now (out .exit)) ⌝ }
 {
-    let mut at = 0;
+    let mut next = at;
     let mut taken = false;
     let mut i = 0;
     while i < v.len() {
         let b = v[i];
-        at = put_added(out, at, turn(loose, taken, b));
+        next = put_added(out, next, turn(loose, taken, b));
         taken = !taken & (b == b'\\');
         i += 1;
     }
-    put_added(out, at, tail(loose, taken));
+    put_added(out, next, tail(loose, taken))
 }
 
 // Refusal 8, or the value unescaped.
@@ -243,7 +242,7 @@ fn put_value(v: &[u8], loose: bool, out: &mut [u8]) -> Written
     if out.len() < n {
         return Written::Refused(Refusal::OutputShort);
     }
-    put_unescaped(out, v, loose);
+    put_unescaped(out, 0, v, loose);
     Written::Done(n)
 }
 

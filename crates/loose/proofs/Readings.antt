@@ -10,7 +10,7 @@ use borrow.Author.Tests.{le-ltb}
 use mir.Syntax.{w32}
 use mir.Val.{SFits, toZ, ofZ}
 use mir.ValLaws.{toZ-ofZ}
-use Rattle.base.proofs.Tests.{clash}
+use Rattle.base.proofs.Tests.{clash, by-test}
 use Rattle.record.specs.declared.Record.{Record}
 use Rattle.record.specs.declared.Reading.{Reading}
 use Rattle.record.specs.declared.Reading.the-variants.{Read}
@@ -18,7 +18,7 @@ use Rattle.structured_data.specs.Tables.{Room, Fills}
 use Rattle.structured_data.specs.declared.Rules.{Rules}
 use Rattle.structured_data.specs.declared.Rules.the-variants.{Rfc3164Rules}
 use Rattle.loose.specs.Loose.{answered, Reads}
-use Rattle.loose.specs.Judging.{Fits, Settles, Judges, isFitting, dataOf, rulesOf, readingOf}
+use Rattle.loose.specs.Judging.{Fits, Settles, Judges, isFitting, dataOf, rulesOf, readingOf, Fillable, FilledIn}
 use Rattle.loose.specs.declared.Data.{Data}
 use Rattle.loose.specs.declared.Judged.{Judged}
 use Rattle.loose.specs.declared.Judged.the-variants.{Settled, Fitting}
@@ -128,3 +128,21 @@ module _ (line : List ℕ) (variant year : ℕ) (o : ℤ) (f : SFits w32 o) (e�
         room = λ t. tables-room line variant year o f e₀ p₀ (Fitting rules r end at n m) c rules r end at n m refl;
         filled-in = λ t. reads-fitting line variant year o f e₀ p₀ (Fitting rules r end at n m) c rules r end at n m refl;
       }
+
+-- what filling leaves
+module _ (line : List ℕ) (j : Judged) (e₀ p₀ : List (List ℕ)) where
+  pub filled-settled : isFitting j ≡ false → FilledIn line j e₀ p₀ e₀ p₀
+  filled-settled h = record { elements-kept = λ q. refl; params-kept = λ q. refl; filled-in = λ q. clash (sym q ∙ h) }
+
+  pub filled-read : isFitting j ≡ true → (e₁ p₁ : List (List ℕ)) → Fills (rulesOf j) (take (dataOf j .end - 0) line) (dataOf j .at) e₀ p₀ e₁ p₁ → FilledIn line j e₀ p₀ e₁ p₁
+  filled-read h e₁ p₁ f = record { elements-kept = λ q. clash (sym h ∙ q); params-kept = λ q. clash (sym h ∙ q); filled-in = λ q. f }
+
+-- and that it is right for the tables
+module _ {line : List ℕ} {variant year : ℕ} {o : ℤ} {e₀ p₀ : List (List ℕ)} {j : Judged} (s : Served line variant year o e₀ p₀ (isFitting j) (rulesOf j) (dataOf j) (readingOf j)) where
+  pub fillable : Fillable line j e₀ p₀
+  fillable = record { inside = s .inside; room = s .room }
+
+  pub reads-filled : (e₁ p₁ : List (List ℕ)) → FilledIn line j e₀ p₀ e₁ p₁ → Reads line variant year o e₀ p₀ (readingOf j) e₁ p₁
+  reads-filled e₁ p₁ f =
+      by-test (λ t. isFitting j ≡ t → Reads line variant year o e₀ p₀ (readingOf j) e₁ p₁) (isFitting j)
+      (λ h q. s .filled-in q e₁ p₁ (f .filled-in q)) (λ h q. rw (f .elements-kept q, f .params-kept q) (s .as-they-are q)) refl

@@ -1,5 +1,5 @@
 -- What the reader knows of a line before a table is touched. (For private contracts alone.)
-use Prim.Native.Nat.{ℕ, _≤_}
+use Prim.Native.Nat.{ℕ, _-_, _≤_}
 use mathlib.Core.Path.{_≡_}
 use mathlib.Core.List.{List}
 use mathlib.Core.Bool.{Bool, true, false}
@@ -11,6 +11,7 @@ use Rattle.record.specs.declared.Record.{Record}
 use Rattle.record.specs.declared.Reading.{Reading}
 use Rattle.record.specs.declared.Reading.the-variants.{Read}
 use Rattle.structured_data.specs.Data.{dataFrom, rowsOr}
+use Rattle.structured_data.specs.Tables.{Room, Fills}
 use Rattle.structured_data.specs.declared.Rules.{Rules}
 use Rattle.structured_data.specs.declared.Rules.the-variants.{Rfc3164Rules}
 use Rattle.draft.specs.Outcome.{Outcome}
@@ -68,3 +69,14 @@ dataOf (Fitting rules r end at n m) = record { end = end; at = at; ids = n; para
 abbrev pub readingOf : Judged → Reading
 readingOf (Settled x) = x
 readingOf (Fitting rules r end at n m) = Read r n m
+
+-- where the line is read, tables with room for its rows
+pub record Fillable (line : List ℕ) (j : Judged) (e₀ p₀ : List (List ℕ)) : Type 0 where
+  pub inside : isFitting j ≡ true → dataOf j .end ≤ length line
+  pub room : isFitting j ≡ true → Room (rulesOf j) (take (dataOf j .end - 0) line) (dataOf j .at) (dataOf j .ids) (dataOf j .params) e₀ p₀
+
+-- tables that held e₀ and p₀: filled with the rows where the line is read, else as they were
+pub record FilledIn (line : List ℕ) (j : Judged) (e₀ p₀ e₁ p₁ : List (List ℕ)) : Type 0 where
+  pub elements-kept : isFitting j ≡ false → e₁ ≡ e₀
+  pub params-kept : isFitting j ≡ false → p₁ ≡ p₀
+  pub filled-in : isFitting j ≡ true → Fills (rulesOf j) (take (dataOf j .end - 0) line) (dataOf j .at) e₀ p₀ e₁ p₁

@@ -11,10 +11,10 @@ ghost use lib.ListN.{length};
 ghost use Rattle.record.specs.Params.{rows};
 ghost use Rattle.draft.specs.Drafts.{draftOf};
 ghost use Rattle.loose.specs.Loose.{byVariant, settingsOk, answered, Reads};
-ghost use Rattle.loose.specs.Judging.{Passes, Judges, isFitting, dataOf, rulesOf, readingOf};
+ghost use Rattle.loose.specs.Judging.{Passes, Judges, isFitting, dataOf, rulesOf, readingOf, Fillable, FilledIn};
 
 // What is known of a line before a table is touched: its answer, where no table is asked for, or a reading. `end` is where the trimmed line ends.
-enum Judged {
+pub enum Judged {
     Settled(Reading),
     Fitting {
         rules: Rules,
@@ -84,7 +84,7 @@ fn judge_text(line: &[u8], variant: u32, year: u32, offset: i32, e: usize, p: us
 }
 
 // All refusals, in order.
-fn judge(line: &[u8], variant: u32, year: u32, offset: i32, e: usize, p: usize) -> Judged
+pub fn judge(line: &[u8], variant: u32, year: u32, offset: i32, e: usize, p: usize) -> Judged
     ensures { λ r. ⌜ Judges (now (line .entry)) variant year offset e p r ⌝ }
 {
     if record::LINE_LIMIT < line.len() {
@@ -166,7 +166,7 @@ fn rules_of(judged: Judged) -> Rules
     }
 }
 
-fn reading_of(judged: Judged) -> Reading
+pub fn reading_of(judged: Judged) -> Reading
     ensures { λ r. ⌜ r ≡ readingOf judged ⌝ }
 {
     match judged {
@@ -189,6 +189,22 @@ pub fn answer(line: &[u8], variant: u32, year: u32, offset: i32, e: usize, p: us
     reading_of(judge(line, variant, year, offset, e, p))
 }
 
+// The rows of a line that is read, into both tables; of another line none.
+pub fn fill(line: &[u8], judged: Judged, elements: &mut [[usize; 2]], params: &mut [Param])
+    requires { ⌜ Fillable (now line) judged (now elements) (rows (now params)) ⌝ }
+    ensures { λ _. ⌜ FilledIn (now (line .entry)) judged (now (elements .entry)) (rows (now (params .entry))) (now (elements .exit)) (rows (now (params .exit))) ⌝ }
+{
+    if is_fitting(judged) {
+        let data = data_of(judged);
+        let end = data.end;
+        let at = data.at;
+        let n = data.ids;
+        let m = data.params;
+        let rules = rules_of(judged);
+        structured_data::fill_data(rules, &line[0..end], at, n, m, elements, params);
+    }
+}
+
 // Loose reading: a line with no reading becomes the message.
 pub fn read(
     line: &[u8],
@@ -203,14 +219,6 @@ pub fn read(
     let e = elements.len();
     let p = params.len();
     let judged = judge(line, variant, year, offset, e, p);
-    if is_fitting(judged) {
-        let data = data_of(judged);
-        let end = data.end;
-        let at = data.at;
-        let n = data.ids;
-        let m = data.params;
-        let rules = rules_of(judged);
-        structured_data::fill_data(rules, &line[0..end], at, n, m, elements, params);
-    }
+    fill(line, judged, elements, params);
     reading_of(judged)
 }

@@ -558,3 +558,39 @@ fn the_strict_reader_alone_answers_4_and_says_how_far_the_line_is_right() {
         assert_eq!(Memory::new(elements, params, record).read_strict(LINE), refused(number));
     }
 }
+
+#[test]
+fn a_refused_comparison_names_the_line_and_changes_no_table() {
+    let cases: [([&[u8]; 2], Numbers, [usize; 4], u32, u32); 9] = [
+        ([LINE, LINE], Numbers { variant: 3, ..SETTINGS }, [2; 4], 1, 2),
+        ([LINE, LINE], Numbers { year: 10_000, ..SETTINGS }, [2; 4], 1, 2),
+        ([b"\xFF", b"no reading"], SETTINGS, [2; 4], 1, 3),
+        ([b"no reading", b"\xFF"], SETTINGS, [2; 4], 1, 4),
+        ([LINE, b"no reading"], SETTINGS, [2; 4], 2, 4),
+        ([LINE, LINE], SETTINGS, [1, 2, 0, 0], 1, 5),
+        ([LINE, LINE], SETTINGS, [2, 1, 0, 0], 1, 6),
+        ([LINE, LINE], SETTINGS, [2, 2, 1, 2], 2, 5),
+        ([LINE, LINE], SETTINGS, [2, 2, 2, 1], 2, 6),
+    ];
+    for (lines, settings, [e1, p1, e2, p2], line, number) in cases {
+        let (mut first, mut second) = (Memory::new(e1, p1, 0), Memory::new(e2, p2, 0));
+        let (a, b) =
+            ((&mut first.elements[..], &mut first.params[..]), (&mut second.elements[..], &mut second.params[..]));
+        assert_eq!(compare(lines, settings, a, b), CompareAnswer { number, line, ..CompareAnswer::default() });
+        assert_eq!((first, second), (Memory::new(e1, p1, 0), Memory::new(e2, p2, 0)));
+    }
+}
+
+#[test]
+fn a_comparison_leaves_the_tables_as_the_loose_reader_does() {
+    let other = br#"<13>1 - gate7 reader 42 TAP [a@1 x="1"][b@1 y="3"] ok"#;
+    let (mut first, mut second) = (Memory::new(3, 3, 0), Memory::new(3, 3, 0));
+    let (a, b) = ((&mut first.elements[..], &mut first.params[..]), (&mut second.elements[..], &mut second.params[..]));
+    let expected = CompareAnswer { fields: 256, pair_line: 1, position: 1, pair_entry: 1, ..CompareAnswer::default() };
+    assert_eq!(compare([LINE, other], SETTINGS, a, b), expected);
+    for (memory, line) in [(first, LINE), (second, &other[..])] {
+        let mut alone = Memory::new(3, 3, 216);
+        assert_eq!(alone.read_loose(line, SETTINGS), READ);
+        assert_eq!((memory.elements, memory.params), (alone.elements, alone.params));
+    }
+}

@@ -1,16 +1,16 @@
 use borrow.Author.Needs.{needs}
-use Rattle.lookup.proofs.Unescaping.{Due, put-laws}
 use Prim.Native.Nat.{_≤_, _-_}
 use lib.ListN.{length, drop}
 use Rattle.lookup.specs.Unescape.{unescapedFrom, unescaped}
+use Rattle.lookup.proofs.Unescaping.{Due, put-laws}
 use Rattle.lookup.proofs.put_unescaped.Statement.{statement}
 use Rattle.lookup.proofs.put_unescaped.Tie as tie
 
 abbrev Inv-loop : tie.InvT-loop
-Inv-loop out₀ v loose at₀ taken₀ i₀ out at taken i = (i ≤ length v) × Due out₀ (unescaped loose v) out at (unescapedFrom loose taken (drop i v))
+Inv-loop out₀ at v loose next₀ taken₀ i₀ out next taken i = (i ≤ length v) × Due out₀ at (unescaped loose v) out next (unescapedFrom loose taken (drop i v))
 
 abbrev μ-loop : tie.MeasureT-loop
-μ-loop out₀ v loose at₀ taken₀ i₀ out at taken i = length v - i
+μ-loop out₀ at v loose next₀ taken₀ i₀ out next taken i = length v - i
 
 loop-holds : tie.Need-loop-holds Inv-loop μ-loop
 loop-holds c = search (put-laws, needs)

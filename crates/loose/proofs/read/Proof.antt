@@ -1,83 +1,49 @@
--- `loose::read` meets its contract: a derivation by hand. What was judged is asked by covered calls; where the line is read, a part of it and both tables are lent on.
+-- `loose::read` meets its contract: a derivation by hand. Both tables are lent on.
 use Rattle.derivation.specs.Derive.{Asked, Cx, Derived, Laid, Learnt, Lfts, Life, List, Row, R·, Shares, World, [], _∙_, _∷_, _▸_, _▹_, _◂_, alive, any-gone, ap, arith, at, back, begin, branch, by-choice, by-mut, by-num, by-part, by-shr, by-snum, bytes, calls, choice, chosen-held, cites, cuts-of, cx, eT, finish, fix-len, fld, gone, here, i32, i64, iT, join, last, lease, leased, len, lend, lends, lent, lit, lose, lost, made, muts, nexts, none, num, off, offset, over, owed, owing, packs, packs-part, pair, part, part-lend, proves, put, puts, refl, returns, room, sBool, sPtr, sUnit, same, sc, sc-here, shared, shr, sliceTy, slots₃, spent, sptr, struct, sym, tablesOf, tyBool, tyInt, tyPtr, tyUnit, unmade, unshared, unsigned, w32, w64, world}
-use mir.Syntax.{sub}
-use mir.Val.{vint}
 use Rattle.record.specs.Params.{rows}
 use Rattle.record.proofs.Params.{rows-length}
 use Rattle.entries.proofs.Contracts as E
-use Rattle.structured_data.proofs.Contracts as D
-use Rattle.structured_data.proofs.fill_data.Symbol as Ds
-use Rattle.structured_data.proofs.fill_data.Met as Dm
 use Rattle.loose.proofs.Contracts as C
 use Rattle.loose.proofs.read.Key
 use Rattle.loose.proofs.read.Statement as stated
 use Rattle.loose.proofs.read.Code as code
-use Rattle.loose.proofs.Readings.{served}
+use Rattle.loose.proofs.Readings.{served, fillable, reads-filled}
+use Rattle.loose.proofs.fill.Symbol as Fs
+use Rattle.loose.proofs.fill.Met as Fm
 use Rattle.loose.proofs.judge.Kinds as Jk
 use Rattle.loose.proofs.judge.Reads as Jr
 use Rattle.loose.proofs.judge.Symbol as Js
 use Rattle.loose.proofs.judge.Met as Jm
-use Rattle.loose.proofs.is_fitting.Kinds as Ik
-use Rattle.loose.proofs.is_fitting.Reads as Ir
-use Rattle.loose.proofs.is_fitting.Symbol as Is
-use Rattle.loose.proofs.is_fitting.Met as Im
-use Rattle.loose.proofs.data_of.Kinds as Ak
-use Rattle.loose.proofs.data_of.Reads as Ar
-use Rattle.loose.proofs.data_of.Symbol as As
-use Rattle.loose.proofs.data_of.Met as Am
-use Rattle.loose.proofs.rules_of.Kinds as Uk
-use Rattle.loose.proofs.rules_of.Reads as Ur
-use Rattle.loose.proofs.rules_of.Symbol as Us
-use Rattle.loose.proofs.rules_of.Met as Um
 use Rattle.loose.proofs.reading_of.Kinds as Rk
 use Rattle.loose.proofs.reading_of.Reads as Rr
 use Rattle.loose.proofs.reading_of.Symbol as Rs
 use Rattle.loose.proofs.reading_of.Met as Rm
 
 module _ (w : World) where
-  -- the context, by the rows of the tables, the rules, the data and its numbers, the part, and what is lent
-  abbrev read-at : Row → Row → Row → Row → Row → Row → Row → Row → List Life → Cx
-  read-at e p u d m s e′ p′ ls = cx (unmade C.reading ∷ shr bytes 0 ∷ sc-here i32 ∷ sc-here i32 ∷ sc-here i32 ∷ e ∷ p ∷ any-gone (tyInt w64) ∷ any-gone (tyInt w64) ∷ made C.judged ∷ d ∷ m ∷ m ∷ m ∷ m ∷ u ∷ any-gone tyBool ∷ any-gone tyUnit ∷ any-gone tyPtr ∷ any-gone (tyInt w64) ∷ any-gone iT ∷ s ∷ any-gone (eT pair) ∷ e′ ∷ any-gone (eT (R· E.param)) ∷ p′ ∷ []) ls
+  -- the context, by the rows of the result, the tables, what was judged, and what is lent
+  abbrev read-at : Row → Row → Row → Row → Row → Row → List Life → Cx
+  read-at r e p j e′ p′ ls = cx (r ∷ shr bytes 0 ∷ sc-here i32 ∷ sc-here i32 ∷ sc-here i32 ∷ e ∷ p ∷ any-gone (tyInt w64) ∷ any-gone (tyInt w64) ∷ j ∷ any-gone tyUnit ∷ any-gone (eT pair) ∷ e′ ∷ any-gone (eT (R· E.param)) ∷ p′ ∷ []) ls
 
   -- nothing is lent
-  abbrev judged-at : Lfts 3 → Shares 3 → Row → Row → Row → Row → Cx
-  judged-at κs qs u d m s = read-at (muts pair 1) (muts (R· E.param) 2) u d m s (any-gone (sliceTy (eT pair))) (any-gone (sliceTy (eT (R· E.param)))) (slots₃ κs qs (off ∷ off ∷ []))
-
-  -- and nothing is known but what was judged
   abbrev idle-at : Lfts 3 → Shares 3 → Cx
-  idle-at κs qs = judged-at κs qs (unmade D.rules) (lost C.the-data) (any-gone (tyInt w64)) (any-gone (sliceTy iT))
+  idle-at κs qs = read-at (unmade C.reading) (muts pair 1) (muts (R· E.param) 2) (made C.judged) (any-gone (sliceTy (eT pair))) (any-gone (sliceTy (eT (R· E.param)))) (slots₃ κs qs (off ∷ off ∷ []))
 
   -- both tables are
   abbrev lent-at : Lfts 3 → Shares 3 → Row → Row → Cx
-  lent-at κs qs e p = read-at (owing pair 1 3 (lease (κs .1 .0) (qs .1 .0))) (owing (R· E.param) 2 4 (lease (κs .1 .1 .0) (qs .1 .1 .0))) (made D.rules) (lost C.the-data) (sc-here i64) (shared 0) e p ((lease (κs .0) (qs .0)) ∷ off ∷ off ∷ alive ∷ alive ∷ [])
+  lent-at κs qs e p = read-at (unmade C.reading) (owing pair 1 3 (lease (κs .1 .0) (qs .1 .0))) (owing (R· E.param) 2 4 (lease (κs .1 .1 .0) (qs .1 .1 .0))) (made C.judged) e p ((lease (κs .0) (qs .0)) ∷ off ∷ off ∷ alive ∷ alive ∷ [])
 
   abbrev derived : Derived C.read w code.env Key.name 2 code.function
   derived κs qs bs =
       put 7 i64 gone (fld 5 1 (len pair 1) refl) refl (λ u. refl) (λ u. tt) ▹
       put 8 i64 gone (fld 6 1 (len (R· E.param) 2) refl) refl (λ u. refl) (λ u. tt) ▹
-      calls 1 Jk.ps Jk.r Jr.Asked Jr.Learnt Js.name (Jr.known w code.env Js.name Js.routine code.calls-loose·judge (Jm.met (w .𝓤) (w .H) (w .𝓜) (w .𝓖) (w .𝓡))) (0 ∷ []) (by-shr bytes 0 tt 1 0 lend refl (by-num w32 2 (sc i32) refl (by-num w32 3 (sc i32) refl (by-snum w32 4 (sc i32) refl (by-num w64 7 (sc i64) refl (by-num w64 8 (sc i64) refl none)))))) 9 gone (tt, tt) refl ▹ room 7 (over i64) ▸ room 8 (over i64) ▸ at (idle-at κs qs) ▸
-      calls 0 Ik.ps Ik.r Ir.Asked Ir.Learnt Is.name (Ir.known w code.env Is.name Is.routine code.calls-loose·is-fitting (Im.met (w .𝓤) (w .H) (w .𝓜) (w .𝓖) (w .𝓡))) [] (by-choice C.judged 9 chosen-held refl none) 16 gone tt refl ▹
-      join (idle-at κs qs) (branch 16 (λ x. x) (sc sBool) refl (
-      room 16 (over sBool) ▸ at (idle-at κs qs) ▸
-      calls 0 Ak.ps Ak.r Ar.Asked Ar.Learnt As.name (Ar.known w code.env As.name As.routine code.calls-loose·data-of (Am.met (w .𝓤) (w .H) (w .𝓜) (w .𝓖) (w .𝓡))) [] (by-choice C.judged 9 chosen-held refl none) 10 gone tt refl ▹ at (judged-at κs qs (unmade D.rules) (here C.the-data) (any-gone (tyInt w64)) (any-gone (sliceTy iT))) ▸
-      put 11 i64 gone (fld 10 0 (part C.the-data 0 refl) refl) refl (λ u. refl) (λ u. tt) ▹
-      put 12 i64 gone (fld 10 1 (part C.the-data 1 refl) refl) refl (λ u. refl) (λ u. tt) ▹
-      put 13 i64 gone (fld 10 2 (part C.the-data 2 refl) refl) refl (λ u. refl) (λ u. tt) ▹
-      put 14 i64 gone (fld 10 3 (part C.the-data 3 refl) refl) refl (λ u. refl) (λ u. tt) ▹ room 10 (struct C.the-data refl) ▸ at (judged-at κs qs (unmade D.rules) (lost C.the-data) (sc-here i64) (any-gone (sliceTy iT))) ▸
-      calls 0 Uk.ps Uk.r Ur.Asked Ur.Learnt Us.name (Ur.known w code.env Us.name Us.routine code.calls-loose·rules-of (Um.met (w .𝓤) (w .H) (w .𝓜) (w .𝓖) (w .𝓡))) [] (by-choice C.judged 9 chosen-held refl none) 15 gone tt refl ▹ at (judged-at κs qs (made D.rules) (lost C.the-data) (sc-here i64) (any-gone (sliceTy iT))) ▸
-      puts 18 sPtr gone offset (fld 1 0 (sptr bytes 0) refl) (lit w64 0 tt) refl (λ u. refl) (λ u. tt) ▹
-      puts 19 i64 gone (sub unsigned) (num 11 (sc i64) refl) (lit w64 0 tt) refl (λ u. refl) (λ u. tt) ▹
-      cuts-of 1 18 20 0 (λ u. 0) (λ u. u .1 .1 .1 .1 .1 .1 .1 .1 .1 .1 .1 .0) same same gone refl tt refl refl ▹ room 18 (over sPtr) ▸
-      packs-part 20 21 0 same gone (num 19 (sc i64) refl) refl refl ▹ room 19 (over i64) ▸ at (judged-at κs qs (made D.rules) (lost C.the-data) (sc-here i64) (shared 0)) ▸ begin 3 _ ▸ begin 4 _ ▸
-      lends pair 5 22 1 3 same gone refl tt refl refl ▹
-      packs pair 22 23 3 same gone (fld 5 1 (owed pair 1 3 (lease (κs .1 .0) (qs .1 .0))) refl) refl refl ▹
-      lends (R· E.param) 6 24 2 4 same gone refl tt refl refl ▹
-      packs (R· E.param) 24 25 4 same gone (fld 6 1 (owed (R· E.param) 2 4 (lease (κs .1 .1 .0) (qs .1 .1 .0))) refl) refl refl ▹ at (lent-at κs qs (leased pair 3) (leased (R· E.param) 4)) ▸
-      last tt (calls 3 (D.fill-data .ps) (D.fill-data .r) (Asked D.fill-data) (Learnt D.fill-data) Ds.name (cites D.fill-data w code.env Ds.name Ds.routine code.calls-structured-data·fill-data (Dm.met (w .𝓤) (w .H) (w .𝓜) (w .𝓖) (w .𝓡))) (0 ∷ 3 ∷ 4 ∷ []) (by-choice D.rules 15 chosen-held refl (by-part 0 tt 21 part-lend refl (by-num w64 12 (sc i64) refl (by-num w64 13 (sc i64) refl (by-num w64 14 (sc i64) refl (by-mut pair 1 tt 23 lent refl (by-mut (R· E.param) 2 tt 25 lent refl none))))))) 17 gone (tt, (tt, (tt, tt))) refl
-      ◂ room 17 (over sUnit) ◂ at (lent-at κs qs (spent pair) (spent (R· E.param))) ◂ finish 4 refl ◂ back (R· E.param) 25 6 2 4 (lease (κs .1 .1 .0) (qs .1 .1 .0)) same same refl refl ◂ lose 4 refl ◂ finish 3 refl ◂ back pair 23 5 1 3 (lease (κs .1 .0) (qs .1 .0)) same same refl refl ◂ lose 3 refl ◂ at (judged-at κs qs (made D.rules) (lost C.the-data) (sc-here i64) (shared 0))
-      ◂ room 15 (choice D.rules refl) ◂ room 11 (over i64) ◂ room 12 (over i64) ◂ room 13 (over i64) ◂ room 14 (over i64) ◂ room 21 (unshared 0))) (
-      room 16 (over sBool) ▸ nexts tt)) (
-      calls 0 Rk.ps Rk.r Rr.Asked Rr.Learnt Rs.name (Rr.known w code.env Rs.name Rs.routine code.calls-loose·reading-of (Rm.met (w .𝓤) (w .H) (w .𝓜) (w .𝓖) (w .𝓡))) [] (by-choice C.judged 9 chosen-held refl none) 0 gone tt refl ▹ room 9 (choice C.judged refl) ▸ room 2 (over i32) ▸ room 3 (over i32) ▸ room 4 (over i32) ▸ returns tt)
+      calls 1 Jk.ps Jk.r Jr.Asked Jr.Learnt Js.name (Jr.known w code.env Js.name Js.routine code.calls-loose·judge (Jm.met (w .𝓤) (w .H) (w .𝓜) (w .𝓖) (w .𝓡))) (0 ∷ []) (by-shr bytes 0 tt 1 0 lend refl (by-num w32 2 (sc i32) refl (by-num w32 3 (sc i32) refl (by-snum w32 4 (sc i32) refl (by-num w64 7 (sc i64) refl (by-num w64 8 (sc i64) refl none)))))) 9 gone (tt, tt) refl ▹ room 7 (over i64) ▸ room 8 (over i64) ▸ at (idle-at κs qs) ▸ begin 3 _ ▸ begin 4 _ ▸
+      lends pair 5 11 1 3 same gone refl tt refl refl ▹
+      packs pair 11 12 3 same gone (fld 5 1 (owed pair 1 3 (lease (κs .1 .0) (qs .1 .0))) refl) refl refl ▹
+      lends (R· E.param) 6 13 2 4 same gone refl tt refl refl ▹
+      packs (R· E.param) 13 14 4 same gone (fld 6 1 (owed (R· E.param) 2 4 (lease (κs .1 .1 .0) (qs .1 .1 .0))) refl) refl refl ▹ at (lent-at κs qs (leased pair 3) (leased (R· E.param) 4)) ▸
+      calls 3 (C.fill .ps) (C.fill .r) (Asked C.fill) (Learnt C.fill) Fs.name (cites C.fill w code.env Fs.name Fs.routine code.calls-loose·fill (Fm.met (w .𝓤) (w .H) (w .𝓜) (w .𝓖) (w .𝓡))) (0 ∷ 3 ∷ 4 ∷ []) (by-shr bytes 0 tt 1 0 lend refl (by-choice C.judged 9 chosen-held refl (by-mut pair 1 tt 12 lent refl (by-mut (R· E.param) 2 tt 14 lent refl none)))) 10 gone (tt, (tt, (tt, tt))) refl ▹
+      room 10 (over sUnit) ▸ at (lent-at κs qs (spent pair) (spent (R· E.param))) ▸ finish 4 refl ▸ back (R· E.param) 14 6 2 4 (lease (κs .1 .1 .0) (qs .1 .1 .0)) same same refl refl ▸ lose 4 refl ▸ finish 3 refl ▸ back pair 12 5 1 3 (lease (κs .1 .0) (qs .1 .0)) same same refl refl ▸ lose 3 refl ▸ at (idle-at κs qs) ▸
+      calls 0 Rk.ps Rk.r Rr.Asked Rr.Learnt Rs.name (Rr.known w code.env Rs.name Rs.routine code.calls-loose·reading-of (Rm.met (w .𝓤) (w .H) (w .𝓜) (w .𝓖) (w .𝓡))) [] (by-choice C.judged 9 chosen-held refl none) 0 gone tt refl ▹ room 9 (choice C.judged refl) ▸ room 2 (over i32) ▸ room 3 (over i32) ▸ room 4 (over i32) ▸ returns tt
 
   laid : Laid C.read w code.env Key.name 2 code.function derived
   laid κs qs a good pre bs =
@@ -85,15 +51,8 @@ module _ (w : World) where
       let p = a .1 .1 .1 .1 .1 .0 in (
         (λ ls. tt),
         λ g.
-            let s = served (a .0 .now) (a .1 .0) (a .1 .1 .0) (a .1 .1 .1 .0) (record { sfits = good .1 .1 .1 .0 }) (e .now) (rows (p .now)) (g .1) (rw (rows-length (p .now)) (g .5)) in (
-              (λ ls. tt),
-              λ b. (
-                (λ t.
-                    let y = sym (b .5) ∙ t in
-                    ((λ ls. tt), λ d. ((λ ls. tt), λ u. (tt, (omega arith, ((refl, refl, omega arith, rw (d .5) (s .inside y)), λ part. (ap (vint w64) (part .1), λ γ. (refl, λ γ′. (refl, ((λ ls. rw (u .5, d .5) (s .room y)), λ k. (refl, λ l. (refl, λ l′. ((λ ls. tt), λ r. ((refl, (tt, (tt, (tt, (fix-len (e .ptr) (e .name) (k .2 .1 .1 .1 .1 .1 .0) (e .now) l′, (fix-len (p .ptr) (p .name) (k .2 .1 .1 .1 .1 .1 .1 .0) (p .now) l, tt)))))), rw (r .5) (s .filled-in y (k .2 .1 .1 .1 .1 .1 .0) (rows (k .2 .1 .1 .1 .1 .1 .1 .0)) (rw (u .5, d .5) at (k .5))))))))))))))))),
-                (λ f. ((λ ls. tt), λ r. ((refl, (tt, (tt, (tt, (refl, (refl, tt)))))), rw (r .5) (s .as-they-are (sym (b .5) ∙ f))))),
-              ),
-            ),
+            let s = served (a .0 .now) (a .1 .0) (a .1 .1 .0) (a .1 .1 .1 .0) (record { sfits = good .1 .1 .1 .0 }) (e .now) (rows (p .now)) (g .1) (rw (rows-length (p .now)) (g .5)) in
+            λ γ. (refl, λ γ′. (refl, ((λ ls. fillable s), λ k. (refl, λ l. (refl, λ l′. ((λ ls. tt), λ r. ((refl, (tt, (tt, (tt, (fix-len (e .ptr) (e .name) (k .2 .1 .1 .0) (e .now) l′, (fix-len (p .ptr) (p .name) (k .2 .1 .1 .1 .0) (p .now) l, tt)))))), rw (r .5) (reads-filled s (k .2 .1 .1 .0) (rows (k .2 .1 .1 .1 .0)) (k .5))))))))),
       )
 
 pub read-spec : {M : Type 1} → stated.statement M

@@ -1,0 +1,6 @@
+pub mod Answers
+pub mod Lines
+pub mod Alike
+pub mod Calls
+pub mod Contracts
+pub mod Examples

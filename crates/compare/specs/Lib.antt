@@ -1,0 +1,4 @@
+pub mod Compare
+pub mod Steps
+pub mod Numbers
+pub mod Laws
