@@ -1,8 +1,8 @@
 //! Before anything is measured: the readers answer alike on every line that is read, so that the same work is compared.
 use crate::gate;
-use crate::readers::{interface, rust, Lent};
-use crate::shapes::{Shape, BROKEN, GROWING, IDS, LENGTHS, SLOW};
-use crate::{claims, pairs, sites, streams, tallies, writes};
+use crate::readers::{interface, rust, Lent, ROWS};
+use crate::shapes::{Shape, BROKEN, GROWING, IDS, LENGTHS, SLOW, TEXTS};
+use crate::{claims, pairs, sites, streams, tallies, uses, writes};
 
 // Words of the record (docs/INTERFACE.md). In interface 1 it has no word of digits.
 const SECONDS: usize = 7;
@@ -10,6 +10,8 @@ const MESSAGE: usize = if cfg!(interface_1) { 22 } else { 23 };
 const MESSAGE_LEN: usize = MESSAGE + 1;
 const ELEMENTS: usize = MESSAGE + 2;
 const PARAMS: usize = MESSAGE + 3;
+/// The words of a loose record.
+pub const WORDS: usize = PARAMS + 1;
 const INTERFACE: u32 = if cfg!(interface_1) { 1 } else { 2 };
 
 /// Whether the line has a reading, if the Rust and ours agree on it.
@@ -32,8 +34,9 @@ fn agreed(line: &str, variant: u32, lent: &mut Lent) -> Result<bool, String> {
     if same { Ok(true) } else { Err(format!("the Rust and ours (number {number}) read differently: {line}")) }
 }
 
-/// The lines of one kind: all have a reading, and the strict reader takes those of RFC 5424.
+/// The lines of one kind: all have a reading, and the strict reader takes those of RFC 5424. What they fill is told too.
 fn kind(name: &str, variant: u32, lines: &[&str], lent: &mut Lent) -> Result<(), String> {
+    let mut filled = [0; 3];
     for line in lines {
         if !agreed(line, variant, lent)? {
             return Err(format!("no reading: {line}"));
@@ -41,8 +44,11 @@ fn kind(name: &str, variant: u32, lines: &[&str], lent: &mut Lent) -> Result<(),
         if variant == 2 && lent.strict(line.as_bytes()).number() != 0 {
             return Err(format!("refused strictly: {line}"));
         }
+        let has = [ELEMENTS, PARAMS, MESSAGE_LEN].map(|word| lent.word(word));
+        filled.iter_mut().zip(has).for_each(|(sum, n)| *sum += n);
     }
     println!("kind {name} {} {}", lines.len(), lines.iter().map(|l| l.len()).sum::<usize>());
+    println!("fills {name} {} {} {}", filled[0], filled[1], filled[2]);
     Ok(())
 }
 
@@ -91,17 +97,21 @@ fn broken(shape: &Shape, lent: &mut Lent) -> Result<(), String> {
 }
 
 /// Checks the file and all shapes, and says on standard output what was found, as rows of the results.
-pub fn check(text: &str) -> Result<(), String> {
+pub fn check(text: &'static str) -> Result<(), String> {
     if interface() != INTERFACE {
         return Err(format!("the archive has interface {}, and this program is written for {INTERFACE}", interface()));
     }
-    let mut lent = Lent::new();
+    let mut lent = Lent::of(ROWS);
     for name in gate::KINDS_OF_LINES {
         let (variant, lines) = gate::of_kind(name, text).expect("a kind");
         kind(name, variant, &lines, &mut lent)?;
     }
+    lent = Lent::new();
     for growing in &GROWING {
         shape(growing, &LENGTHS, growing.is_5424(), &mut lent)?;
+    }
+    for text in &TEXTS {
+        shape(text, &LENGTHS[1..], true, &mut lent)?;
     }
     for slow in &SLOW {
         shape(slow, &LENGTHS[1..], false, &mut lent)?;
@@ -112,6 +122,7 @@ pub fn check(text: &str) -> Result<(), String> {
     for (shape, _) in &BROKEN {
         broken(shape, &mut lent)?;
     }
+    uses::check(text)?;
     streams::check()?;
     tallies::check()?;
     sites::check()?;

@@ -1,5 +1,6 @@
 //! What the check of a claimed reading costs, beside the strict reading of the same line.
 use crate::readers::Lent;
+use crate::work::Work;
 use std::hint::black_box;
 
 /// The check may take so many times what the strict reading takes.
@@ -52,22 +53,18 @@ pub fn named(name: &str) -> Option<&'static Kind> {
     KINDS.iter().find(|kind| kind.name == name)
 }
 
-/// Reads a line strictly, and then does so again or checks what was left, so often, so many times over; and fails where a call is refused.
-pub fn passes(kind: &Kind, call: Call, times: usize) -> Result<(), String> {
+/// Reads a line strictly, and then does so again or checks what was left, so often; fails where a call is refused. This is the measured part.
+pub fn work(kind: &'static Kind, call: Call) -> Work {
     let (line, mut lent) = ((kind.line)(), Lent::new());
     let read = lent.strict(line.as_bytes()).number();
-    let refused = |number| format!("{}: the archive answers {number}", kind.name);
-    if read != 0 {
-        return Err(refused(read));
-    }
-    for _ in 0..times * kind.calls {
-        let line = black_box(line.as_bytes());
-        let number = if call == Call::Check { lent.check(line) } else { lent.strict(line).number() };
-        if number != 0 {
-            return Err(refused(number));
+    Work::new(kind.calls, move || {
+        let mut number = read;
+        for _ in 0..kind.calls {
+            let line = black_box(line.as_bytes());
+            number = number.max(if call == Call::Check { lent.check(line) } else { lent.strict(line).number() });
         }
-    }
-    Ok(())
+        if number == 0 { Ok(()) } else { Err(format!("{}: the archive answers {number}", kind.name)) }
+    })
 }
 
 /// Makes each kind's calls once, and says how many, as rows of the results.
@@ -76,8 +73,8 @@ pub fn check() -> Result<(), String> {
         return Ok(());
     }
     for kind in &KINDS {
-        passes(kind, Call::Strict, 1)?;
-        passes(kind, Call::Check, 1)?;
+        work(kind, Call::Strict).once()?;
+        work(kind, Call::Check).once()?;
         println!("claim {} {}", kind.name, kind.calls);
     }
     Ok(())

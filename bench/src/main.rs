@@ -3,7 +3,9 @@ mod check;
 mod claims;
 mod gate;
 mod ids;
+mod limit;
 mod pairs;
+mod peer;
 mod plot;
 mod price;
 mod random;
@@ -14,109 +16,89 @@ mod shapes;
 mod sites;
 mod streams;
 mod tallies;
+mod times;
+mod uses;
+mod work;
 mod writes;
 
-use readers::{Lent, Reader};
+use readers::{Lent, Reader, ROWS};
 use std::process::ExitCode;
-use std::time::Instant;
+use work::Work;
 
-const USAGE: &str = "usage: driver make FILE LINES SEED | check FILE | pass READER KIND FILE TIMES | shape READER NAME BYTES TIMES \
-                     | stream splitter NAME TIMES | tally table NAME TIMES | site file NAME TIMES | claim CALL NAME TIMES | write writer NAME TIMES | pairs read|compare NAME TIMES | time KIND FILE READER.. | report RESULTS FOLDER";
+const USAGE: &str = "usage: driver make FILE LINES SEED | lines KIND FILE | check FILE | WORK TIMES | time WORK | report RESULTS FOLDER, where WORK is \
+                     pass READER KIND FILE | shape READER NAME BYTES | use rust|loose print|lookup FILE | stream splitter NAME | tally table NAME | site file NAME \
+                     | claim strict|check NAME | write writer NAME | pairs read|compare NAME";
+/// How often a shaped line is read at a time.
+const READINGS: usize = 10;
 
 fn number<T: std::str::FromStr>(text: &str) -> Result<T, String> {
     text.parse().map_err(|_| format!("'{text}' is no number, or too large"))
 }
 
-fn reader(name: &str) -> Result<Reader, String> {
-    match name {
-        "rust" => Ok(Reader::Rust),
-        "loose" => Ok(Reader::Loose),
-        "strict" => Ok(Reader::Strict),
-        _ => Err(format!("'{name}' is no reader")),
-    }
+/// Text that is kept to the program's end.
+fn kept(text: String) -> &'static str {
+    Box::leak(text.into_boxed_str())
 }
 
-fn text_of(file: &str) -> Result<String, String> {
-    std::fs::read_to_string(file).map_err(|e| format!("{file}: {e}"))
+fn text_of(file: &str) -> Result<&'static str, String> {
+    std::fs::read_to_string(file).map(kept).map_err(|e| format!("{file}: {e}"))
 }
 
 fn write(file: &str, text: &str) -> Result<(), String> {
     std::fs::write(file, text).map_err(|e| format!("{file}: {e}"))
 }
 
-/// Reads the lines of a kind `times` times with each reader, in turn, and gives the nanoseconds of each reader's passes.
-fn passes(names: &[&str], kind: &str, file: &str, times: usize) -> Result<Vec<Vec<u128>>, String> {
-    let text = text_of(file)?;
-    let (variant, lines) = gate::of_kind(kind, &text).ok_or(format!("'{kind}' is no kind of lines"))?;
-    let readers = names.iter().map(|name| reader(name)).collect::<Result<Vec<Reader>, String>>()?;
-    let mut lent = Lent::new();
-    let mut spent = vec![Vec::with_capacity(times); readers.len()];
-    for _ in 0..times {
-        for (reader, spent) in readers.iter().zip(&mut spent) {
-            let start = Instant::now();
-            readers::pass(*reader, variant, &lines, &mut lent);
-            spent.push(start.elapsed().as_nanos());
-        }
-    }
-    Ok(spent)
+fn reader(name: &str) -> Result<Reader, String> {
+    Reader::named(name).ok_or(format!("'{name}' is no reader"))
 }
 
-/// Nanoseconds a line, the median of nine passes of each reader. They take turns, so that what slows the machine slows all of them.
-fn time(kind: &str, file: &str, names: &[&str]) -> Result<(), String> {
-    let text = text_of(file)?;
-    let lines = gate::of_kind(kind, &text).map_or(0, |k| k.1.len()).max(1);
-    for (name, mut spent) in names.iter().zip(passes(names, kind, file, 9)?) {
-        spent.sort_unstable();
-        println!("nanos {kind} {name} {:.1}", spent[4] as f64 / lines as f64);
-    }
+fn of_kind(kind: &str, file: &str) -> Result<(u32, Vec<&'static str>), String> {
+    gate::of_kind(kind, text_of(file)?).ok_or(format!("'{kind}' is no kind of lines"))
+}
+
+fn lines(kind: &str, file: &str) -> Result<(), String> {
+    of_kind(kind, file)?.1.iter().for_each(|line| println!("{line}"));
     Ok(())
 }
 
-fn shape(name: &str, shape: &str, bytes: &str, times: &str) -> Result<(), String> {
+fn read(reader: Reader, variant: u32, lines: Vec<&'static str>, mut lent: Lent) -> Work {
+    Work::new(lines.len(), move || {
+        readers::pass(reader, variant, &lines, &mut lent);
+        Ok(())
+    })
+}
+
+fn shape(name: &str, shape: &str, bytes: &str) -> Result<Work, String> {
     let line = shapes::named(shape).ok_or(format!("'{shape}' is no shape"))?.line(number(bytes)?);
-    let line = line.ok_or(format!("{bytes} bytes have no room for '{shape}'"))?;
-    let lines = vec![&line[..]; number(times)?];
-    readers::pass(reader(name)?, 0, &lines, &mut Lent::new());
-    Ok(())
+    let line = kept(line.ok_or(format!("{bytes} bytes have no room for '{shape}'"))?);
+    Ok(read(reader(name)?, 0, vec![line; READINGS], Lent::new()))
 }
 
-fn stream(name: &str, times: &str) -> Result<(), String> {
-    let cut = streams::named(name).ok_or(format!("'{name}' is no stream"))?;
-    let (bytes, mut buffer) = (cut.stream(), vec![0; 8192]);
-    for _ in 0..number::<usize>(times)? {
-        std::hint::black_box(streams::pass(cut, std::hint::black_box(&bytes), &mut buffer)?);
+fn work(args: &[&str]) -> Result<Work, String> {
+    match args {
+        ["pass", name, kind, file] => of_kind(kind, file).and_then(|(variant, lines)| Ok(read(reader(name)?, variant, lines, Lent::of(ROWS)))),
+        ["shape", name, what, bytes] => shape(name, what, bytes),
+        ["use", side, what, file] => uses::work(side, what, text_of(file)?).ok_or(format!("'{side} {what}' is no use of a reading")),
+        ["stream", "splitter", name] => streams::named(name).map(streams::work).ok_or(format!("'{name}' is no stream")),
+        ["tally", "table", name] => tallies::named(name).map(tallies::work).ok_or(format!("'{name}' is no call of a tally")),
+        ["site", "file", name] => sites::named(name).map(sites::work).ok_or(format!("'{name}' is no call of a settings file")),
+        ["claim", call, name] => {
+            let kind = claims::named(name).ok_or(format!("'{name}' is no line of a claim"))?;
+            claims::call(call).map(|call| claims::work(kind, call)).ok_or(format!("'{call}' is no call of a claim"))
+        }
+        ["write", "writer", name] => writes::named(name).map(writes::work).ok_or(format!("'{name}' is no line to be written")),
+        ["pairs", what @ ("read" | "compare"), name] => pairs::named(name).map(|kind| pairs::work(kind, *what == "compare")).ok_or(format!("'{name}' is no kind of pairs")),
+        _ => Err(USAGE.to_string()),
     }
-    Ok(())
 }
 
-fn tally(name: &str, times: &str) -> Result<(), String> {
-    let kind = tallies::named(name).ok_or(format!("'{name}' is no call of a tally"))?;
-    (0..number::<usize>(times)?).try_for_each(|_| tallies::pass(kind))
-}
-
-fn site(name: &str, times: &str) -> Result<(), String> {
-    let kind = sites::named(name).ok_or(format!("'{name}' is no call of a settings file"))?;
-    sites::passes(kind, number(times)?)
-}
-
-fn claim(call: &str, name: &str, times: &str) -> Result<(), String> {
-    let call = claims::call(call).ok_or(format!("'{call}' is no call of a claim"))?;
-    let kind = claims::named(name).ok_or(format!("'{name}' is no line of a claim"))?;
-    claims::passes(kind, call, number(times)?)
-}
-
-fn write_lines(name: &str, times: &str) -> Result<(), String> {
-    let kind = writes::named(name).ok_or(format!("'{name}' is no line to be written"))?;
-    (0..number::<usize>(times)?).try_for_each(|_| writes::pass(kind).map(|_| ()))
-}
-
-fn pair(what: &str, name: &str, times: &str) -> Result<(), String> {
-    let kind = pairs::named(name).ok_or(format!("'{name}' is no kind of pairs"))?;
-    pairs::passes(kind, what == "compare", number(times)?)
+fn again(args: &[&str], times: &str) -> Result<(), String> {
+    let mut work = work(args)?;
+    (0..number::<usize>(times)?).try_for_each(|_| work.once())
 }
 
 fn report(results: &str, folder: &str) -> Result<(), String> {
-    let results = results::Results::of(&text_of(results)?);
+    let results = results::Results::of(text_of(results)?);
     write(&format!("{folder}/BENCH.md"), &report::page(&results)?)?;
     write(&format!("{folder}/bench.svg"), &plot::picture(&results)?)?;
     println!("{}", report::closing(&results)?);
@@ -126,18 +108,12 @@ fn report(results: &str, folder: &str) -> Result<(), String> {
 fn run(args: &[&str]) -> Result<(), String> {
     match args {
         ["make", file, lines, seed] => write(file, &gate::file(number(lines)?, number(seed)?)),
-        ["check", file] => check::check(&text_of(file)?),
-        ["pass", name, kind, file, times] => passes(&[*name], kind, file, number(times)?).map(|_| ()),
-        ["shape", name, what, bytes, times] => shape(name, what, bytes, times),
-        ["stream", "splitter", name, times] => stream(name, times),
-        ["tally", "table", name, times] => tally(name, times),
-        ["site", "file", name, times] => site(name, times),
-        ["claim", call, name, times] => claim(call, name, times),
-        ["write", "writer", name, times] => write_lines(name, times),
-        ["pairs", what @ ("read" | "compare"), name, times] => pair(what, name, times),
-        ["time", kind, file, names @ ..] => time(kind, file, names),
+        ["lines", kind, file] => lines(kind, file),
+        ["check", file] => check::check(text_of(file)?),
+        ["time", measured @ ..] => work(measured)?.nanos().map(|nanos| println!("{nanos:.1}")),
         ["report", results, folder] => report(results, folder),
-        _ => Err(USAGE.to_string()),
+        [measured @ .., times] => again(measured, times),
+        [] => Err(USAGE.to_string()),
     }
 }
 

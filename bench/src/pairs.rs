@@ -1,6 +1,7 @@
 //! What it costs to compare two lines, beside reading both by the loose reader: gate lines, and lines made to be slow to compare.
 use crate::gate;
 use crate::readers::Lent;
+use crate::work::Work;
 use std::hint::black_box;
 
 const HEAD: &str = "<134>1 2023-02-05T10:01:02.003Z gate7 reader 4211 TAP ";
@@ -164,21 +165,23 @@ fn tables() -> Tables {
     (vec![[0; 2]; 2730], vec![[0; 5]; 1638])
 }
 
-/// So many passes of a kind: its pairs compared, or both lines of each read. This is the measured part.
-pub fn passes(kind: &Kind, compares: bool, times: usize) -> Result<(), String> {
+/// A kind's pairs compared, or both lines of each read. This is the measured part.
+pub fn work(kind: &'static Kind, compares: bool) -> Work {
     let (pairs, mut lent, mut tables) = ((kind.lines)(), Lent::new(), [tables(), tables()]);
-    for pair in (0..times * kind.times).flat_map(|_| &pairs) {
-        if compares {
+    Work::new(kind.times * pairs.len(), move || {
+        for pair in (0..kind.times).flat_map(|_| &pairs) {
+            if !compares {
+                pair.iter().for_each(|line| drop(black_box(lent.loose(black_box(line.as_bytes()), 0))));
+                continue;
+            }
             let answer = black_box(compare(black_box(pair), &mut tables));
             black_box((answer.line, answer.pair_line, answer.position, answer.pair_entry));
             if answer.number != 0 || kind.fields.is_some_and(|fields| fields != answer.fields) {
                 return Err(format!("{}: the archive answers {} and {}", kind.name, answer.number, answer.fields));
             }
-        } else {
-            pair.iter().for_each(|line| drop(black_box(lent.loose(black_box(line.as_bytes()), 0))));
         }
-    }
-    Ok(())
+        Ok(())
+    })
 }
 
 /// Makes each kind's comparisons once, and says of how many pairs and bytes they are, as rows of the results.
@@ -187,7 +190,7 @@ pub fn check() -> Result<(), String> {
         return Ok(());
     }
     for kind in &KINDS {
-        passes(kind, true, 1)?;
+        work(kind, true).once()?;
         let pairs = (kind.lines)();
         let bytes: usize = pairs.iter().flatten().map(String::len).sum();
         println!("pairs {} {} {}", kind.name, pairs.len() * kind.times, bytes * kind.times);

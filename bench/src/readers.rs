@@ -1,4 +1,4 @@
-//! The readers that are measured: the Rust, and the archive's loose and strict ones.
+//! The readers that are measured: the Rust, the archive's loose and strict ones, and two walks that only look at each byte.
 use chrono::FixedOffset;
 use std::hint::black_box;
 use syslog_loose::{parse_message_with_year_exact_tz, Message, Variant};
@@ -139,24 +139,67 @@ pub fn interface() -> u32 {
     }
 }
 
-#[derive(Clone, Copy, PartialEq)]
-pub enum Reader {
-    Rust,
-    Loose,
-    Strict,
+/// What a call writes to an output.
+#[repr(C)]
+pub struct Written {
+    pub number: u32,
+    pub len: usize,
 }
 
-/// What a call is lent: the tables, never cleared, and the record's memory.
+/// `Checked`: the Rust, which asks first whether the line is UTF-8. `Cleared`: ours, with tables and record cleared before each line.
+#[derive(Clone, Copy)]
+pub enum Reader {
+    Rust,
+    Checked,
+    Loose,
+    LooseCleared,
+    Strict,
+    StrictCleared,
+    ByByte,
+    BySixteen,
+}
+
+impl Reader {
+    pub fn named(name: &str) -> Option<Reader> {
+        match name {
+            "rust" => Some(Reader::Rust),
+            "rust_checked" => Some(Reader::Checked),
+            "loose" => Some(Reader::Loose),
+            "loose_cleared" => Some(Reader::LooseCleared),
+            "strict" => Some(Reader::Strict),
+            "strict_cleared" => Some(Reader::StrictCleared),
+            "by_byte" => Some(Reader::ByByte),
+            "by_sixteen" => Some(Reader::BySixteen),
+            _ => None,
+        }
+    }
+}
+
+/// The rows of the tables that a host lends for lines of a gate, of elements and of parameters.
+pub const ROWS: (usize, usize) = (4, 16);
+
+/// What a call is lent: the tables and the record's memory.
 pub struct Lent {
-    elements: Vec<[usize; 2]>,
-    params: Vec<[usize; 5]>,
-    record: [u8; 248],
+    pub elements: Vec<[usize; 2]>,
+    pub params: Vec<[usize; 5]>,
+    pub record: [u8; 248],
 }
 
 impl Lent {
     /// Room for any line of 8,192 bytes.
     pub fn new() -> Lent {
-        Lent { elements: vec![[0; 2]; 4096], params: vec![[0; 5]; 4096], record: [0; 248] }
+        Lent::of((4096, 4096))
+    }
+
+    pub fn of((elements, params): (usize, usize)) -> Lent {
+        Lent { elements: vec![[0; 2]; elements], params: vec![[0; 5]; params], record: [0; 248] }
+    }
+
+    fn cleared(&mut self) -> &mut Lent {
+        self.elements.fill([0; 2]);
+        self.params.fill([0; 5]);
+        self.record.fill(0);
+        self
     }
 
     /// Word `i` of the record (docs/INTERFACE.md).
@@ -241,17 +284,35 @@ pub fn rust(line: &str, variant: u32) -> Result<Message<&str>, String> {
     parse_message_with_year_exact_tz(line, |_| YEAR, FixedOffset::east_opt(60 * OFFSET), variant)
 }
 
-/// Reads every line once. This is the measured part: nothing is printed and nothing is cleared.
+/// The cheapest look at each byte by itself, a comparison and a branch: whether the line has a zero. Eight stand in a turn of the loop.
+fn by_byte(line: &[u8]) -> bool {
+    let has_zero = |bytes: &[u8]| bytes.iter().any(|b| *b == 0);
+    let mut eights = line.chunks_exact(8);
+    eights.by_ref().any(has_zero) || has_zero(eights.remainder())
+}
+
+/// The cheapest look at sixteen bytes at once, which the compiler makes of this: whether all are ASCII.
+fn by_sixteen(line: &[u8]) -> u8 {
+    line.iter().fold(0, |all, b| all | b)
+}
+
+/// Each line once. What is answered is used, so that no call is left out.
+fn each<T>(lines: &[&str], mut read: impl FnMut(&str) -> T) {
+    for line in lines {
+        black_box(&read(black_box(line)));
+    }
+}
+
+/// Reads every line once. This is the measured part: nothing is printed, and nothing cleared but where the reader says so.
 pub fn pass(reader: Reader, variant: u32, lines: &[&str], lent: &mut Lent) {
     match reader {
-        Reader::Rust => lines.iter().for_each(|line| {
-            black_box(&rust(black_box(line), variant));
-        }),
-        Reader::Loose => lines.iter().for_each(|line| {
-            black_box(lent.loose(black_box(line.as_bytes()), variant));
-        }),
-        Reader::Strict => lines.iter().for_each(|line| {
-            black_box(lent.strict(black_box(line.as_bytes())));
-        }),
+        Reader::Rust => each(lines, |line| black_box(&rust(line, variant)).is_ok()),
+        Reader::Checked => each(lines, |line| std::str::from_utf8(line.as_bytes()).map(|line| black_box(&rust(line, variant)).is_ok())),
+        Reader::Loose => each(lines, |line| lent.loose(line.as_bytes(), variant)),
+        Reader::LooseCleared => each(lines, |line| lent.cleared().loose(line.as_bytes(), variant)),
+        Reader::Strict => each(lines, |line| lent.strict(line.as_bytes())),
+        Reader::StrictCleared => each(lines, |line| lent.cleared().strict(line.as_bytes())),
+        Reader::ByByte => each(lines, |line| by_byte(line.as_bytes())),
+        Reader::BySixteen => each(lines, |line| by_sixteen(line.as_bytes())),
     }
 }

@@ -1,14 +1,16 @@
 //! BENCH.md, from the results.
-use crate::pairs;
+use crate::limit::limit;
+use crate::peer::{peer, times_ours};
 use crate::price::price;
 use crate::results::Results;
-use crate::shapes::{BROKEN, GROWING, LENGTHS, SLOW};
-use crate::{claims, sites};
+use crate::shapes::{Shape, BROKEN, GROWING, LENGTHS, SLOW, TEXTS};
+use crate::{claims, pairs, sites, tallies, writes};
 use crate::streams::CUTS;
-use crate::{tallies, writes};
+use crate::times::{seen, times};
 use std::fmt::Write;
 
 pub const KINDS: [(&str, &str); 3] = [("all", "all, variant 0"), ("3164", "RFC 3164, variant 1"), ("5424", "RFC 5424, variant 2")];
+pub const USES: [(&str, &str); 2] = [("print", "printing a reading"), ("lookup", "looking up a parameter")];
 
 /// A count with commas.
 pub fn commas(n: f64) -> String {
@@ -39,66 +41,77 @@ fn intro(results: &Results) -> Result<String, String> {
         "# What reading costs\n\n\
          `bench/run` makes {} lines as the readers of a gate send them (seed {}), reads them with syslog_loose (\"the Rust\") and with the archive (\"ours\"), and writes this page (with `--publish` to docs/). \
          Counted are the instructions that the x86-64 program runs, as the difference of two run lengths, so that start-up is not in them. Both are optimised (opt-level 3; for the Rust, with link-time optimisation too in a column of its own), nothing \
-         is printed, and the lent tables are not cleared. Before that every line is read by both and compared. Our loose reader checks that the line is UTF-8; the Rust is given text that is known to be. The Rust allocates its lists; ours fills lent tables \
+         is printed, and the lent tables are not cleared but where it says so. Before that every line is read by both and compared. Our loose reader checks that the line is UTF-8; the Rust is given text that is known to be. The Rust allocates its lists; ours fills lent tables \
          and writes the record's bytes.\n\n\
          Measured on a machine of the kind {}, against {}. The archive is {}.\n\n\
+         Seen: {}.\n\n\
          ![Three of the tables as a plot](bench.svg)\n\n",
         commas(results.number(&["kind", "all"], 0)?),
         about("seed")?,
         about("machine")?,
         about("versions")?,
         about("archive")?,
+        closing(results)?,
     ))
 }
 
 fn lines(results: &Results) -> Result<String, String> {
-    let mut page = String::from("## Instructions a line\n\nA ratio is of ours to the Rust at opt-level 3. The aim is at most 1.0, the goal 0.5.\n\n");
-    add(&mut page, "| lines | count | bytes a line | the Rust | with LTO | ours, loose | ratio | ours, strict | ratio |");
-    add(&mut page, "|---|---|---|---|---|---|---|---|---|");
+    let mut page = String::from("## Instructions a line\n\nA ratio is of ours to the Rust at opt-level 3. The aim is at most 1.0, the goal 0.5. \"Cleared\" is with tables and record cleared before each line.\n\n");
+    add(&mut page, "| lines | count | bytes a line | the Rust | with LTO | ours, loose | ratio | to LTO | cleared | ours, strict | ratio | cleared |");
+    add(&mut page, "|---|---|---|---|---|---|---|---|---|---|---|---|");
     for (kind, name) in KINDS {
-        let count = results.number(&["kind", kind], 0)?;
+        let (count, of) = (results.count(kind)?, |reader| results.a_line(kind, reader));
         let bytes = results.number(&["kind", kind], 1)? / count;
-        let (rust, loose) = (results.a_line(kind, "rust")?, results.a_line(kind, "loose")?);
-        let strict = match results.a_line(kind, "strict") {
-            Ok(strict) => format!("{} | {:.2}", commas(strict), strict / rust),
-            Err(_) => " | ".to_string(),
+        let (rust, lto, loose) = (of("rust")?, of("rust-lto")?, of("loose")?);
+        let strict = match of("strict") {
+            Ok(strict) => format!("{} | {:.2} | {}", commas(strict), strict / rust, commas(of("strict_cleared")?)),
+            Err(_) => " |  | ".to_string(),
         };
-        let lto = commas(results.a_line(kind, "rust-lto")?);
-        add(&mut page, &format!("| {name} | {} | {bytes:.1} | {} | {lto} | {} | {:.2} | {strict} |", commas(count), commas(rust), commas(loose), loose / rust));
+        let counted = [rust, lto, loose].map(commas).join(" | ");
+        let compared = format!("{:.2} | {:.2} | {}", loose / rust, loose / lto, commas(of("loose_cleared")?));
+        add(&mut page, &format!("| {name} | {} | {bytes:.1} | {counted} | {compared} | {strict} |", commas(count)));
     }
     Ok(page + "\n")
 }
 
-/// What a machine measured that runs the program itself: this one, or the one of docs/bench.native.
-fn times(results: &Results) -> Result<String, String> {
-    let mut page = String::from("## Nanoseconds a line\n\n");
-    let Ok(native) = results.words(&["about", "native"]) else {
-        add(&mut page, "None were measured: the programs are for x86-64, and under an emulator time says nothing. `bench/run --publish` on x86-64 measures them and keeps them in docs/bench.native, for pages that are made elsewhere.");
-        return Ok(page + "\n");
-    };
-    let timed = results.words(&["about", "timed"])?;
-    add(&mut page, &format!("Measured on {native} ({timed}): the median of nine passes of each reader, in turn. Other work of the machine shows here, and not in the instructions.\n"));
-    add(&mut page, "| lines | the Rust | ours, loose | ratio | ours, strict |\n|---|---|---|---|---|");
-    for (kind, name) in KINDS {
-        let of = |reader: &str| results.number(&["nanos", kind, reader], 0);
-        let (rust, loose) = (of("rust")?, of("loose")?);
-        let strict = of("strict").map_or(String::new(), |n| format!("{n:.0}"));
-        add(&mut page, &format!("| {name} | {rust:.0} | {loose:.0} | {:.2} | {strict} |", loose / rust));
+fn uses(results: &Results) -> Result<String, String> {
+    let (calls, found) = (results.number(&["use", "lookup"], 0)?, results.number(&["use", "lookup"], 1)?);
+    let mut page = format!(
+        "## Printing and lookup\n\n\
+         Instructions a call, {} of each on readings of the first lines, variant 0. The Rust prints to a String that is used again, ours to an output. Looked up is the parameter `ms` of the element \
+         `stage@32473`, which {:.0} % of them have; the Rust has an iterator for it, which unescapes each value up to the one that is found. Ours asks first, in both, whether record and tables suit the line.\n\n",
+        commas(calls),
+        100.0 * found / calls
+    );
+    add(&mut page, "| what | the Rust | with LTO | ours | ratio |\n|---|---|---|---|---|");
+    for (what, name) in USES {
+        let (rust, lto, ours) = (results.a_line(what, "rust")?, results.a_line(what, "rust-lto")?, results.a_line(what, "loose")?);
+        add(&mut page, &format!("| {name} | {} | {:.2} |", [rust, lto, ours].map(commas).join(" | "), ours / rust));
+    }
+    Ok(page + "\n")
+}
+
+/// A row for each length of each shape.
+fn by_length(results: &Results, shapes: &[Shape], lengths: &[usize]) -> Result<String, String> {
+    let mut page = String::from("| line | bytes | the Rust | and checks UTF-8 | ours, loose | ratio | to the one that checks | ours, strict |\n|---|---|---|---|---|---|---|---|\n");
+    for (shape, bytes) in shapes.iter().flat_map(|shape| lengths.iter().map(move |bytes| (shape, *bytes))) {
+        let of = |reader| results.a_byte(shape.name, bytes, reader);
+        let (rust, checked, loose) = (of("rust")?, of("rust_checked")?, of("loose")?);
+        let strict = of("strict").map_or(String::new(), cost);
+        let costs = [rust, checked, loose].map(cost).join(" | ");
+        add(&mut page, &format!("| {} | {} | {costs} | {:.2} | {:.2} | {strict} |", shape.what, commas(bytes as f64), loose / rust, loose / checked));
     }
     Ok(page + "\n")
 }
 
 fn growing(results: &Results) -> Result<String, String> {
-    let mut page = String::from("## Instructions a byte, by the line's length\n\n| line | bytes | the Rust | ours, loose | ratio | ours, strict |\n|---|---|---|---|---|---|\n");
-    for shape in &GROWING {
-        for bytes in LENGTHS {
-            let of = |reader| results.a_byte(shape.name, bytes, reader);
-            let (rust, loose) = (of("rust")?, of("loose")?);
-            let strict = of("strict").map_or(String::new(), cost);
-            add(&mut page, &format!("| {} | {} | {} | {} | {:.2} | {strict} |", shape.what, commas(bytes as f64), cost(rust), cost(loose), loose / rust));
-        }
-    }
-    Ok(page + "\n")
+    let page = "## Instructions a byte, by the line's length\n\nThe Rust is given text that is known to be UTF-8, and once more the bytes, so that it checks them first as ours does.\n\n";
+    Ok(page.to_string() + &by_length(results, &GROWING, &LENGTHS)?)
+}
+
+fn texts(results: &Results) -> Result<String, String> {
+    let page = "## Text that is not ASCII\n\nLines of RFC 5424 with such a message, in instructions a byte. Runs with the archives of before and after (`--archive`) compare them.\n\n";
+    Ok(page.to_string() + &by_length(results, &TEXTS, &LENGTHS[1..])?)
 }
 
 fn slow(results: &Results) -> Result<String, String> {
@@ -269,13 +282,23 @@ fn folded(line: &str) -> String {
 }
 
 pub fn page(results: &Results) -> Result<String, String> {
-    let page = intro(results)? + &lines(results)? + &times(results)? + &growing(results)? + &slow(results)? + &price(results)? + &broken(results)? + &streams(results)? + &tallies(results)? + &sites(results)? + &claims(results)? + &writes(results)? + &pairs(results)? + &functions(results)?;
+    let mut page = intro(results)?;
+    for part in [lines, uses, times, peer, limit, growing, texts, slow, price, broken, streams, tallies, sites, claims, writes, pairs, functions] {
+        page += &part(results)?;
+    }
     Ok(page.lines().map(|line| folded(line) + "\n").collect())
 }
 
 /// The line that the bench ends with.
 pub fn closing(results: &Results) -> Result<String, String> {
     let (rust, loose) = (results.a_line("all", "rust")?, results.a_line("all", "loose")?);
-    let lines = commas(results.number(&["kind", "all"], 0)?);
-    Ok(format!("{lines} lines: {} instructions a line by the Rust, {} by ours, ratio {:.2}", commas(rust), commas(loose), loose / rust))
+    let lines = commas(results.count("all")?);
+    let mut line = format!("{lines} lines: {} instructions a line by the Rust, {} by ours, ratio {:.2}", commas(rust), commas(loose), loose / rust);
+    if let Some(seen) = seen(results) {
+        line += &format!("; {seen}");
+    }
+    if let Some(times) = times_ours(results) {
+        line += &format!("; go-syslog takes {times:.1} times our strict reader's instructions");
+    }
+    Ok(line)
 }

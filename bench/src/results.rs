@@ -1,13 +1,17 @@
 //! What bench/run measured: rows of words, the last of which is a number.
 //!
 //!     kind KIND LINES BYTES            what the file has
+//!     fills KIND ELEMENTS PARAMS BYTES what its lines have: elements, parameters, bytes of messages
+//!     use WHAT CALLS [FOUND]           how often a reading is printed or looked up in, in a pass, and how often it has what is looked up
+//!     peer READ REFUSED ELEMENTS PARAMS BYTES  how many of the lines of RFC 5424 go-syslog reads and refuses, and what they have
 //!     answer SHAPE BYTES read|whole    whether a shaped line has a reading, or is the message whole
 //!     answer SHAPE BYTES read|refused  the strict reader's answer, of a line of ids
 //!     before SHAPE BYTES read|refused  the same, by the archive of --before
 //!     elements SHAPE BYTES COUNT       how many elements a line of ids has
 //!     reach SHAPE BYTES COUNT RIGHT    how far the strict reader says that a broken line is right, and how far it is
-//!     insns KIND READER COUNT          instructions of a pass over the lines of a kind
-//!     nanos KIND READER COUNT          nanoseconds a line, the median of nine, where the machine runs the program itself
+//!     insns WHAT READER COUNT          instructions of a pass over the lines of a kind, or over the uses of readings
+//!     nanos WHAT READER COUNT          nanoseconds a line, call or frame, the median of nine, where the machine runs the program itself
+//!     emulated WHAT READER COUNT       the same under the emulator
 //!     shape SHAPE BYTES READER COUNT   instructions of one reading
 //!     stream NAME BYTES CALLS FRAMES   what a stream has
 //!     cutting NAME COUNT               instructions of cutting it once, in the functions of the archive
@@ -22,9 +26,10 @@
 //!     pairs NAME PAIRS BYTES           how many pairs of lines are compared in a pass, and how many bytes they have
 //!     compared NAME read|compare COUNT instructions of a pass in the functions of the archive, of reading both lines or of comparing them
 //!     function KIND READER NAME COUNT  instructions of a pass in one function
-//!     about NAME WORDS..               the seed, the machine, the versions; native: the machine of the nanoseconds, timed: of what they are
+//!     about NAME WORDS..               the seed, the machine, the versions; native: the machine of the nanoseconds, timed: of what they are; peer, emulator: its version
 //!
-//! The readers are rust, loose and strict; rust-lto is the Rust with link-time optimisation, strict-before the strict one in the archive of --before.
+//! The readers are rust, loose, strict and those of readers.rs; rust-lto is the Rust with link-time optimisation, strict-before the strict one in the
+//! archive of --before; peer is go-syslog with its collector off, peer_collected with it on.
 
 pub struct Results(Vec<Vec<String>>);
 
@@ -52,9 +57,14 @@ impl Results {
         row.get(i).and_then(|w| w.parse().ok()).ok_or(format!("'{}' has no number", key.join(" ")))
     }
 
-    /// Instructions a line.
-    pub fn a_line(&self, kind: &str, reader: &str) -> Result<f64, String> {
-        Ok(self.number(&["insns", kind, reader], 0)? / self.number(&["kind", kind], 0)?)
+    /// The lines of a kind, or the calls of a use.
+    pub fn count(&self, what: &str) -> Result<f64, String> {
+        self.number(&["kind", what], 0).or(self.number(&["use", what], 0))
+    }
+
+    /// Instructions a line, or a call.
+    pub fn a_line(&self, what: &str, reader: &str) -> Result<f64, String> {
+        Ok(self.number(&["insns", what, reader], 0)? / self.count(what)?)
     }
 
     /// Instructions a byte of a shaped line.

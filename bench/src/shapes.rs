@@ -1,4 +1,4 @@
-//! Lines of a given length: those that grow in one place, those made to be slow, and those whose ids are slow to tell apart.
+//! Lines of a given length: those that grow in one place, those of text that is not ASCII, those made to be slow, and those whose ids are slow to tell apart.
 use crate::ids;
 
 const HEAD: &str = "<134>1 2023-02-05T10:01:02.003Z gate7 reader 4211 TAP ";
@@ -58,6 +58,14 @@ pub const GROWING: [Shape; 3] = [
     shape("old", "RFC 3164, the message grows", (OLD_HEAD, "reader[42]: "), "antenna 12 ms, ", 'x', ""),
 ];
 
+/// Lines of RFC 5424 whose message is not ASCII.
+pub const TEXTS: [Shape; 4] = [
+    shape("text-german", "German words", (HEAD, "- "), "Tür offen, Schüler grüßt, ", 'x', ""),
+    shape("text-umlauts", "`ä` and a space, again and again", (HEAD, "- "), "ä ", 'x', ""),
+    shape("text-cyrillic", "Cyrillic words", (HEAD, "- "), "карта принята, ", 'x', ""),
+    shape("text-wide", "Japanese words with U+3000 between them", (HEAD, "- "), "改札口\u{3000}開く\u{3000}", 'x', ""),
+];
+
 /// Lines made to be slow. The measure is how the cost a byte grows with the length.
 pub const SLOW: [Shape; 15] = [
     shape("open-values", "`[a b=\"` again and again", (HEAD, ""), "[a b=\"", 'x', ""),
@@ -101,7 +109,7 @@ pub const BROKEN: [(Shape, &Shape); 7] = [
 
 pub fn named(name: &str) -> Option<&'static Shape> {
     let broken = BROKEN.iter().map(|(broken, _)| broken);
-    GROWING.iter().chain(&SLOW).chain(&IDS).chain(broken).find(|s| s.name == name)
+    GROWING.iter().chain(&TEXTS).chain(&SLOW).chain(&IDS).chain(broken).find(|s| s.name == name)
 }
 
 impl Shape {

@@ -1,5 +1,6 @@
 //! What a settings file costs: the settings of a gate among so many records, a record that is written, and a line that is read with them.
-use crate::readers::Lent;
+use crate::readers::{Lent, Written};
+use crate::work::Work;
 use std::hint::black_box;
 
 const RECORD: usize = 32;
@@ -49,12 +50,6 @@ struct Settings {
     variant: u32,
     host_start: usize,
     host_len: usize,
-}
-
-#[repr(C)]
-struct Written {
-    number: u32,
-    len: usize,
 }
 
 #[cfg(not(no_settings))]
@@ -114,16 +109,18 @@ fn file(records: usize, at: usize) -> Vec<u8> {
     file
 }
 
-/// So many passes of a kind over one file; fails where a call is refused. This is the measured part.
-pub fn passes(kind: &Kind, times: usize) -> Result<(), String> {
+/// A kind's calls on its file; fails where one is refused. This is the measured part.
+pub fn work(kind: &'static Kind) -> Work {
     let (file, mut lent) = (file(kind.records, kind.at), Lent::new());
-    for _ in 0..times * kind.calls {
-        let number = (kind.call)(black_box(&file), &mut lent);
-        if number != 0 {
-            return Err(format!("{}: the archive answers {number}", kind.name));
+    Work::new(kind.calls, move || {
+        for _ in 0..kind.calls {
+            let number = (kind.call)(black_box(&file), &mut lent);
+            if number != 0 {
+                return Err(format!("{}: the archive answers {number}", kind.name));
+            }
         }
-    }
-    Ok(())
+        Ok(())
+    })
 }
 
 /// Makes each kind's calls once, and says how many, as rows of the results.
@@ -132,7 +129,7 @@ pub fn check() -> Result<(), String> {
         return Ok(());
     }
     for kind in &KINDS {
-        passes(kind, 1)?;
+        work(kind).once()?;
         println!("site {} {}", kind.name, kind.calls);
     }
     Ok(())

@@ -1,8 +1,11 @@
 //! What cutting a stream into frames costs: streams of frames of one length, fed so many bytes at a time.
+use crate::work::Work;
 use std::hint::black_box;
 
 /// The most bytes of a stream.
 const BYTES: usize = 1_000_000;
+/// The bytes of a splitter's buffer.
+const BUFFER: usize = 8192;
 
 pub struct Cut {
     pub name: &'static str,
@@ -107,12 +110,20 @@ pub fn pass(cut: &Cut, stream: &[u8], buffer: &mut [u8]) -> Result<(usize, usize
     if started.number == 0 { Ok((calls, frames)) } else { Err(format!("no start of a stream: {}", started.number)) }
 }
 
+pub fn work(cut: &'static Cut) -> Work {
+    let (stream, mut buffer) = (cut.stream(), vec![0; BUFFER]);
+    Work::new(cut.frames(), move || {
+        black_box(pass(cut, black_box(&stream), &mut buffer)?);
+        Ok(())
+    })
+}
+
 /// Cuts each stream once, and says what it has, as rows of the results.
 pub fn check() -> Result<(), String> {
     if cfg!(no_streams) {
         return Ok(());
     }
-    let mut buffer = vec![0; 8192];
+    let mut buffer = vec![0; BUFFER];
     for cut in &CUTS {
         let stream = cut.stream();
         let (calls, frames) = pass(cut, &stream, &mut buffer)?;

@@ -1,4 +1,5 @@
 //! What a tally costs: an addition, and each of its reads, in calls of one kind.
+use crate::work::Work;
 use std::hint::black_box;
 
 /// Calls of a pass.
@@ -104,7 +105,7 @@ fn column(rows: &[Row], column: u32) -> u32 {
 }
 
 /// Calls a kind so often, on a tally that is empty but for one full cell, and fails where an answer is another. This is the measured part.
-pub fn pass(kind: &Kind) -> Result<(), String> {
+fn pass(kind: &Kind) -> Result<(), String> {
     let mut rows = [[0; 9]; 25];
     rows[23][7] = MOST;
     for i in 0..CALLS as u32 {
@@ -116,6 +117,10 @@ pub fn pass(kind: &Kind) -> Result<(), String> {
         }
     }
     Ok(())
+}
+
+pub fn work(kind: &'static Kind) -> Work {
+    Work::new(CALLS, move || pass(kind))
 }
 
 /// Makes each kind's calls once, and says how many, as rows of the results.

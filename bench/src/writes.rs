@@ -1,5 +1,10 @@
 //! What writing a line costs: lines as a gate has them, long values and long messages, and many elements.
+use crate::readers::Written;
+use crate::work::Work;
 use std::hint::black_box;
+
+/// Room for any line.
+const OUTPUT: usize = 8192;
 
 /// The fields of a line over one text (include/khamdoriem.h).
 #[repr(C)]
@@ -27,12 +32,6 @@ struct Fields {
     message: Part,
     element_count: usize,
     param_count: usize,
-}
-
-#[repr(C)]
-struct Written {
-    number: u32,
-    len: usize,
 }
 
 #[cfg(not(no_writes))]
@@ -154,10 +153,10 @@ impl Line {
 }
 
 /// Writes a kind's line so often, and answers its length; fails where it is refused. This is the measured part.
-pub fn pass(kind: &Kind) -> Result<usize, String> {
-    let (line, mut output, mut len) = ((kind.make)(), vec![0; 8192], 0);
+fn pass(kind: &Kind, line: &Line, output: &mut [u8]) -> Result<usize, String> {
+    let mut len = 0;
     for _ in 0..kind.calls {
-        let written = black_box(&line).write(black_box(&mut output));
+        let written = black_box(line).write(black_box(output));
         if written.number != 0 {
             return Err(format!("{}: writing is refused with {}", kind.name, written.number));
         }
@@ -166,13 +165,18 @@ pub fn pass(kind: &Kind) -> Result<usize, String> {
     Ok(len)
 }
 
+pub fn work(kind: &'static Kind) -> Work {
+    let (line, mut output) = ((kind.make)(), vec![0; OUTPUT]);
+    Work::new(kind.calls, move || pass(kind, &line, &mut output).map(|_| ()))
+}
+
 /// Writes each kind, and says how often and how many bytes, as rows of the results.
 pub fn check() -> Result<(), String> {
     if cfg!(no_writes) {
         return Ok(());
     }
     for kind in &KINDS {
-        println!("write {} {} {}", kind.name, kind.calls, pass(kind)?);
+        println!("write {} {} {}", kind.name, kind.calls, pass(kind, &(kind.make)(), &mut vec![0; OUTPUT])?);
     }
     Ok(())
 }

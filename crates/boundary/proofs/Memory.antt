@@ -19,35 +19,16 @@ use Rattle.record.specs.declared.StrictRecord.{StrictRecord}
 use Rattle.record.specs.declared.StrictReading.{StrictReading}
 use Rattle.record.specs.declared.StrictReading.the-variants as strict
 use Rattle.record.specs.declared.Refusal.{Refusal}
-use Rattle.record.specs.declared.Refusal.the-variants.{LineTooLong, BadSetting, NotUtf8, NoReading, TooManyElements, TooManyParams, Unsuitable, NotFound, OutputShort, CellFull, BadCount, FrameTooLong, BadLength, UnknownVersion, BadField, WrongClaim, Unwritable}
 use Rattle.layout.specs.Layout.{recordSize, strictSize, wordsBytes, mark, placeWords, recordWords, strictWords, recordBytes, strictBytes}
 use Rattle.layout.proofs.Words.{words-append}
 use Rattle.layout.proofs.Back.{laid-held, laid-counts, laid-back}
 use Rattle.loose.specs.Loose.{Reads}
 use Rattle.grammar.specs.Reading.{StrictReads}
 use Rattle.exports.specs.Exports.{leftAnswer, bytesOf, strictBytesOf, withReach, LeavesLoose, LeavesStrict}
+use Rattle.exports.proofs.Refusals.{not-0}
 use Rattle.suited.specs.Served.{Left}
 use Rattle.boundary.specs.Called.{read, whole, Holds, StrictCommon, WholeLine, MemoryHolds}
 use Rattle.boundary.proofs.Fitting.{left-in}
-
-refused : (f : Refusal) → eqb (refusalNumber f) 0 ≡ false
-refused LineTooLong = refl
-refused BadSetting = refl
-refused NotUtf8 = refl
-refused NoReading = refl
-refused TooManyElements = refl
-refused TooManyParams = refl
-refused Unsuitable = refl
-refused NotFound = refl
-refused OutputShort = refl
-refused CellFull = refl
-refused BadCount = refl
-refused FrameTooLong = refl
-refused BadLength = refl
-refused UnknownVersion = refl
-refused BadField = refl
-refused WrongClaim = refl
-refused Unwritable = refl
 
 -- an answer of number 0, and a refusal's
 abbrev done : ℕ → ReadAnswer
@@ -58,11 +39,11 @@ refusing n f = record { number = refusalNumber f; whole = 0; reach = n }
 
 -- a refusal's number is never 0, with too little memory neither
 never : {A : Type 0} (n mark : ℕ) (f : Refusal) (size room : ℕ) → done mark ≡ leftAnswer (refusing n f) size room → A
-never {A} n mark f size room h = go (ltb room size) (rw (refused f) at h)
+never {A} n mark f size room h = go (ltb room size) (rw (not-0 f) at h)
   where
     go : (b : Bool) → done mark ≡ (if b then refusing n f else refusing n f) → A
-    go true h = clash (ap (λ (a : ReadAnswer). eqb (a .number) 0) h ∙ refused f)
-    go false h = clash (ap (λ (a : ReadAnswer). eqb (a .number) 0) h ∙ refused f)
+    go true h = clash (ap (λ (a : ReadAnswer). eqb (a .number) 0) h ∙ not-0 f)
+    go false h = clash (ap (λ (a : ReadAnswer). eqb (a .number) 0) h ∙ not-0 f)
 
 -- and a reading is told apart from a whole line
 apart : {A : Type 0} (m k size room : ℕ) → eqb k k ≡ true → eqb m k ≡ false → done m ≡ leftAnswer (done k) size room → A

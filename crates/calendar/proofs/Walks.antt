@@ -1,37 +1,59 @@
 -- The walks over months and years, and the number of a day.
-use Prim.Native.Nat.{ℕ, suc, _+_, _-_, _*_, _/_, _≤_, _<_}
-use mathlib.Core.Path.{_≡_, sym, ap, _∙_}
+use Prim.Native.Nat.{ℕ, zero, suc, _+_, _-_, _*_, _/_, _≤_, _<_}
+use mathlib.Core.Path.{_≡_, refl, sym, ap, _∙_}
+use mathlib.Core.Bool.{Bool, true, false}
+use mathlib.Core.List.{List, [], _∷_}
 use native.Mathlib.Decide.{decLe}
 use native.Mathlib.Omega.{arith}
 use native.Mathlib.Numerals.{add-one}
+use native.Mathlib.Nat.{add-zero, zero-add}
+use lib.ListN.{length, getD}
 use mir.Syntax.{w32}
 use mir.Val.{Fits}
-use Rattle.calendar.specs.Calendar.{lastYear, monthDays, yearDays, daysBeforeYear, daysOfMonths, dayNumber}
+use Rattle.calendar.specs.Calendar.{lastYear, leap, months, row, monthDays, yearDays, daysBeforeYear, daysOfMonths, dayNumber}
 use Rattle.calendar.specs.Instant.{yearOf, monthOf}
 use Rattle.calendar.proofs.Years.{years}
 use Rattle.calendar.proofs.Days.{months-none, months-more, months-to, months-all, month-found, years-to, year-found}
 
--- the sum of the first `n` months, `k` of them passed
-pub record Summed (y n sum k : ℕ) : Type 0 where
-  pub one-of : k ≤ n
-  pub is : sum ≡ daysOfMonths y k
+-- what stands before each number of a list, and behind the last: the sum of those before it
+unfoldable sums : ℕ → List ℕ → List ℕ
+sums a [] = a ∷ []
+sums a (d ∷ ds) = a ∷ sums (a + d) ds
 
-pub summed-none : (y n : ℕ) → Summed y n 0 0
-summed-none y n = record { one-of = omega arith; is = sym (months-none y) }
+sums-at : (y j a k : ℕ) (ds : List ℕ) → ((i : ℕ) → i < length ds → getD ds i 0 ≡ monthDays y (suc (j + i))) → a ≡ daysOfMonths y j → k ≤ length ds
+    → getD (sums a ds) k 0 ≡ daysOfMonths y (j + k)
+unfolding sums
+sums-at y j a zero [] f e h = e ∙ ap (daysOfMonths y) (sym (add-zero j))
+sums-at y j a zero (d ∷ ds) f e h = e ∙ ap (daysOfMonths y) (sym (add-zero j))
+sums-at y j a (suc k) [] f e h = absurd (omega arith)
+sums-at y j a (suc k) (d ∷ ds) f e h =
+    let g : d ≡ monthDays y (suc j) = f 0 (omega arith) ∙ ap (λ (m : ℕ). monthDays y (suc m)) (add-zero j) in
+    let p : a + d ≡ daysOfMonths y (suc j) = rw (e, g) (sym (months-more y j)) in
+    let q : suc j + k ≡ j + suc k = omega arith in
+    sums-at y (suc j) (a + d) k ds (λ i l. let r : j + suc i ≡ suc j + i = omega arith in f (suc i) (omega arith) ∙ ap (λ (m : ℕ). monthDays y (suc m)) r) p (omega arith)
+    ∙ ap (daysOfMonths y) q
 
-module _ (y n sum k : ℕ) (s : Summed y n sum k) where
-  module _ (d : ℕ) (h : k < n) (e : d ≡ monthDays y (k + 1)) where
-    added : sum + d ≡ daysOfMonths y (k + 1)
-    added = rw (s .is, e, add-one k) (sym (months-more y k))
+days : (y i : ℕ) (l : Bool) → leap y ≡ l → getD (getD months (row l) []) i 0 ≡ monthDays y (suc (0 + i))
+unfolding monthDays
+days y i l e =
+    let p : suc (0 + i) - 1 ≡ i = omega arith in
+    rw (e, p)
 
-    pub summed-fits : n ≤ 12 → Fits w32 (sum + d)
-    summed-fits l = record { fits = omega (arith, added, months-to y (k + 1) (omega arith)) }
+abbrev befores : List (List ℕ)
+befores =
+    (0 ∷ 31 ∷ 59 ∷ 90 ∷ 120 ∷ 151 ∷ 181 ∷ 212 ∷ 243 ∷ 273 ∷ 304 ∷ 334 ∷ 365 ∷ [])
+    ∷ (0 ∷ 31 ∷ 60 ∷ 91 ∷ 121 ∷ 152 ∷ 182 ∷ 213 ∷ 244 ∷ 274 ∷ 305 ∷ 335 ∷ 366 ∷ [])
+    ∷ []
 
-    pub summed-more : Summed y n (sum + d) (k + 1)
-    summed-more = record { one-of = omega arith; is = added }
+table : (y n : ℕ) (l : Bool) → leap y ≡ l → n ≤ 12
+    → getD (getD befores (row l) []) n 0 ≡ daysOfMonths y n
+unfolding sums
+table y n true e h = sums-at y 0 0 n (getD months 1 []) (λ i l. days y i true e) (sym (months-none y)) h ∙ ap (daysOfMonths y) (zero-add n)
+table y n false e h = sums-at y 0 0 n (getD months 0 []) (λ i l. days y i false e) (sym (months-none y)) h ∙ ap (daysOfMonths y) (zero-add n)
 
-  pub summed-all : n ≤ k → sum ≡ daysOfMonths y n
-  summed-all h = let e : k ≡ n = omega (arith, s .one-of) in s .is ∙ ap (daysOfMonths y) e
+pub months-at : (y n l : ℕ) → l ≡ row (leap y) → n ≤ 12
+    → getD (getD befores l []) n 0 ≡ daysOfMonths y n
+months-at y n l e h = rw e (table y n (leap y) refl h)
 
 -- the month of day `n` of the year, `k` months and all but `left` days passed
 pub record MonthAt (y n k left : ℕ) : Type 0 where
@@ -86,8 +108,6 @@ module _ (y m d a b : ℕ) (p : a ≡ daysBeforeYear y) (q : b ≡ daysOfMonths 
 
     pub day-fits : d ≤ 31 → Fits w32 (a + b + (d - 1))
     day-fits h = record { fits = omega (arith, years-to y (omega arith), months-to y (m - 1) (omega arith)) }
-
-pub ruleset summed-laws = (summed-none, summed-fits, summed-more, summed-all)
 
 pub ruleset month-laws = (month-start, month-next, month-end)
 

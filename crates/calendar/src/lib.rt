@@ -13,6 +13,12 @@ const MONTHS: [[u32; 12]; 2] = [
     [31, 29, 31, 30, 31, 30, 31, 31, 30, 31, 30, 31],
 ];
 
+// The days of the first months, of 0 to 12 of them.
+const BEFORE: [[u32; 13]; 2] = [
+    [0, 31, 59, 90, 120, 151, 181, 212, 243, 273, 304, 334, 365],
+    [0, 31, 60, 91, 121, 152, 182, 213, 244, 274, 305, 335, 366],
+];
+
 // The last year; the first is 0.
 pub const LAST_YEAR: u32 = 9999;
 
@@ -126,13 +132,9 @@ fn days_of_months(y: u32, n: u32) -> u32
     requires { ⌜ n ≤ 12 ⌝ }
     ensures { λ r. ⌜ r ≡ daysOfMonths y n ⌝ }
 {
-    let mut sum = 0;
-    let mut k = 0;
-    while k < n {
-        k += 1;
-        sum += month_days(y, k);
-    }
-    sum
+    let l = leap_row(y);
+    let k = n as usize;
+    BEFORE[l][k]
 }
 
 // Days since 0000-01-01.

@@ -64,7 +64,7 @@ pub fn loose(
 {
     let blank = record::blank();
     let mut params = [blank; 256];
-    let a = exports::khamdoriem_read_loose(
+    let a = loose_call::khamdoriem_read_loose(
         line,
         variant,
         year,
@@ -86,7 +86,7 @@ pub fn strict(
 ) -> ReadAnswer {
     let blank = record::blank();
     let mut params = [blank; 256];
-    let a = exports::khamdoriem_read_strict(line, elements, &mut params, memory);
+    let a = strict_call::khamdoriem_read_strict(line, elements, &mut params, memory);
     copy_rows(&params, rows);
     a
 }
@@ -113,7 +113,7 @@ pub fn print(
     let blank = record::blank();
     let mut params = [blank; 256];
     copy_entries(rows, &mut params);
-    exports::khamdoriem_print(line, memory, elements, &params, out)
+    text_calls::khamdoriem_print(line, memory, elements, &params, out)
 }
 
 // Lookup over the rows.
@@ -130,5 +130,5 @@ pub fn lookup(
     let blank = record::blank();
     let mut params = [blank; 256];
     copy_entries(rows, &mut params);
-    exports::khamdoriem_lookup(line, memory, elements, &params, id, name, kind, out)
+    text_calls::khamdoriem_lookup(line, memory, elements, &params, id, name, kind, out)
 }

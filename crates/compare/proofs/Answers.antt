@@ -60,7 +60,7 @@ pub ruleset judged-laws = (both-are, refused-is)
 pub line-settled : (j : Judged) (x : Reading) → j ≡ Settled x → (r : Record) → r ≡ emptyRecord → record { read = r; end = 0; ids = 0; params = 0 } ≡ lineOf j
 line-settled j x q r e = rw (q, e) refl
 
-pub line-fitting : (j : Judged) (rules : Rules) (r : Record) (end at n m : ℕ) → j ≡ Fitting rules r end at n m → record { read = r; end = end; ids = n; params = m } ≡ lineOf j
+pub line-fitting : (j : Judged) (rules : Rules) (r : Record) (end at n m : ℕ) → j ≡ Fitting rules end r at n m → record { read = r; end = end; ids = n; params = m } ≡ lineOf j
 line-fitting j rules r end at n m q = rw q refl
 
 pub ruleset line-laws = (line-settled, line-fitting)

@@ -193,9 +193,9 @@ module _ (line : List ℕ) (variant year : ℕ) (o : ℤ) (f : SFits w32 o) (e�
 
   pub judged-known : (j : Judged) → Judges line variant year (toZ w32 (ofZ w32 o)) (length e₀) (length p₀) j → isRead (readingOf j) ≡ true → (e₁ p₁ : List (List ℕ)) → FilledIn line j e₀ p₀ e₁ p₁ → Known j e₁ p₁
   judged-known (Settled x) c q e₁ p₁ g = absurd (settled-not x (here (Settled x) c .is .keeps) q)
-  judged-known (Fitting rules r end at n m) c q e₁ p₁ g =
-      let reads = reads-filled (served line variant year o f e₀ p₀ (Fitting rules r end at n m) c) e₁ p₁ g in
-      let fits = here (Fitting rules r end at n m) c .is in
+  judged-known (Fitting rules end r at n m) c q e₁ p₁ g =
+      let reads = reads-filled (served line variant year o f e₀ p₀ (Fitting rules end r at n m) c) e₁ p₁ g in
+      let fits = here (Fitting rules end r at n m) c .is in
       record {
         reads = reads;
         readable = line-readable rules r end at n m fits e₁ p₁ reads;

@@ -14,4 +14,4 @@ isRead (Refused f) = false
 
 abbrev pub lineOf : Judged → Line
 lineOf (Settled x) = record { read = emptyRecord; end = 0; ids = 0; params = 0 }
-lineOf (Fitting rules r end at n m) = record { read = r; end = end; ids = n; params = m }
+lineOf (Fitting rules end r at n m) = record { read = r; end = end; ids = n; params = m }

@@ -82,8 +82,8 @@ fn line_of(judged: Judged) -> Line
         },
         Judged::Fitting {
             rules: _,
-            read,
             end,
+            read,
             at: _,
             elements,
             params,

@@ -17,9 +17,14 @@ use Rattle.record.specs.Answers.{answerOf, strictAnswerOf, readAnswerOf, strict
 use Rattle.record.specs.declared.Answer.{Answer}
 use Rattle.record.specs.declared.StrictAnswer.{StrictAnswer}
 use Rattle.record.specs.declared.ReadAnswer.{ReadAnswer}
+use Rattle.record.specs.Refusals.{refusalNumber}
+use Rattle.record.specs.declared.Record.{Record}
+use Rattle.record.specs.declared.Refusal.{Refusal}
 use Rattle.record.specs.declared.Reading.{Reading}
 use Rattle.record.specs.declared.Reading.the-variants.{Read, Whole, Refused}
+use Rattle.record.specs.declared.StrictRecord.{StrictRecord}
 use Rattle.record.specs.declared.StrictReading.{StrictReading}
+use Rattle.record.specs.declared.StrictReading.the-variants as strict
 use Rattle.layout.specs.Layout.{recordSize, strictSize, recordBytes, strictBytes}
 use Rattle.grammar.specs.Reading.{StrictReads}
 use Rattle.grammar.specs.Reading.StrictReads.{too-long, underivable, elements-over, params-over, accepted}
@@ -30,40 +35,44 @@ use Rattle.viable.specs.Viable.{Reports}
 use Rattle.exports.specs.Exports.{shortAnswer, Leaves, bytesOf, strictBytesOf, withReach, LeavesLoose, LeavesStrict}
 use Rattle.exports.specs.Steps.{LeftBy, Left, StrictTold, StrictShort, StrictLeft}
 use Rattle.exports.specs.Steps.StrictTold.{broke, other}
+use Rattle.exports.proofs.Refusals.{not-0}
 
 -- ---- the record of an answer
 
-module _ {A : Type 0} (told : A → ReadAnswer) (bytes : A → List ℕ) (r : A) (old : List ℕ) (a : ReadAnswer) (e : a ≡ told r) where
-  pub left-refused : (a .number ≡ 0 → ⊥) → LeftBy told bytes r old a old
-  left-refused z = record { told-is = e; record-is = rw (ne-eqb (a .number) 0 z) }
+-- of a strict reading
+module _ (line : List ℕ) where
+  module _ (f : Refusal) (k : ℕ) (h : k ≡ refusalNumber f) where
+    pub told-broke : k ≡ 4 → (n : ℕ) → Reports line n → StrictTold line (strict.Refused f) (record { number = k; whole = 0; reach = n })
+    told-broke q n report = broke n report (rw h)
 
-  left-done : a .number ≡ 0 → (new : List ℕ) → new ≡ filled (bytes r) old → LeftBy told bytes r old a new
-  left-done z new q = record { told-is = e; record-is = rw z q }
+    pub told-other : (k ≡ 4 → ⊥) → StrictTold line (strict.Refused f) (record { number = k; whole = 0; reach = 0 })
+    told-other z = other (rw h at z) (rw h)
 
-pub left-read : (r : Reading) (old : List ℕ) (a : ReadAnswer) → a ≡ readAnswerOf r → a .number ≡ 0 → (x : Answer) → x ≡ answerOf r
-    → (new : List ℕ) → new ≡ filled (recordBytes (x .reading) (x .elements) (x .params)) old → Left r old a new
-left-read r old a e z x ex new q = left-done readAnswerOf bytesOf r old a e z new (rw ex at q)
+  -- a number that is told is not 0
+  told-not-0 : (f : Refusal) (a : ReadAnswer) → StrictTold line (strict.Refused f) a → eqb (a .number) 0 ≡ false
+  told-not-0 f a (broke n report e) = ap (λ (x : ReadAnswer). eqb (x .number) 0) e ∙ not-0 f
+  told-not-0 f a (other z e) = ap (λ (x : ReadAnswer). eqb (x .number) 0) e ∙ not-0 f
 
--- of a strict reading, whose number is told as it is
-module _ (line : List ℕ) (r : StrictReading) where
-  pub told-broke : (a : ReadAnswer) → a ≡ strictReadAnswerOf r → a .number ≡ 4 → (n : ℕ) → Reports line n → StrictTold line r (record { number = 4; whole = 0; reach = n })
-  told-broke a e q n h = broke n h (rw (← q, e))
+  told-done : (x : StrictRecord) (e p : ℕ) → StrictTold line (strict.Read x e p) (record { number = 0; whole = 0; reach = 0 })
+  told-done x e p = other (λ q. clash (ap (λ n. eqb n 4) (sym q))) refl
 
-  pub told-other : (a : ReadAnswer) → a ≡ strictReadAnswerOf r → (a .number ≡ 4 → ⊥) → StrictTold line r a
-  told-other a e z = other (rw e at z) e
+  module _ (r : StrictReading) (x : StrictRecord) (e p : ℕ) (q : r ≡ strict.Read x e p) where
+    pub strict-read : (old new : List ℕ) → new ≡ filled (strictBytes x e p) old → StrictLeft line r old (record { number = 0; whole = 0; reach = 0 }) new
+    strict-read old new h = record { tells = rw q (told-done x e p); record-is = rw q h }
 
-  pub strict-refused : (old : List ℕ) (a : ReadAnswer) → StrictTold line r a → (a .number ≡ 0 → ⊥) → StrictLeft line r old a old
-  strict-refused old a h z = record { tells = h; record-is = rw (ne-eqb (a .number) 0 z) }
+    pub short-read : StrictShort line r (record { number = 8; whole = 0; reach = 0 })
+    short-read = record { told = record { number = 0; whole = 0; reach = 0 }; tells = rw q (told-done x e p); answer-is = refl }
 
-  pub strict-read : (old : List ℕ) (a : ReadAnswer) → StrictTold line r a → a .number ≡ 0 → (x : StrictAnswer) → x ≡ strictAnswerOf r
-      → (new : List ℕ) → new ≡ filled (strictBytes (x .reading) (x .elements) (x .params)) old → StrictLeft line r old a new
-  strict-read old a h z x ex new q = record { tells = h; record-is = rw z (rw ex at q) }
+  module _ (r : StrictReading) (f : Refusal) (q : r ≡ strict.Refused f) (a : ReadAnswer) (h : StrictTold line (strict.Refused f) a) where
+    pub strict-refused : (old : List ℕ) → StrictLeft line r old a old
+    strict-refused old = record { tells = rw q h; record-is = rw (told-not-0 f a h) }
+
+    pub short-told : StrictShort line r a
+    short-told = record { told = a; tells = rw q h; answer-is = rw (told-not-0 f a h) }
 
 pub ruleset told-laws = (told-broke, told-other)
 
-pub ruleset strict-laws = (strict-refused, strict-read)
-
-pub ruleset left-laws = (left-refused, left-read)
+pub ruleset strict-laws = (strict-read, strict-refused, short-read, short-told)
 
 -- ---- a call
 

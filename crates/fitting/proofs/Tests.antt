@@ -1,23 +1,20 @@
 -- What each test of refusal 17 says at its returns.
 use Prim.Native.Nat.{ℕ, _+_, _≤_, _<_}
-use mathlib.Core.Path.{_≡_, refl, sym, ap, _∙_}
+use mathlib.Core.Path.{_≡_, refl, sym, _∙_}
 use mathlib.Core.Bool.{Bool, true, false, not, _&&_, _||_, and-true}
 use mathlib.Core.List.{List}
-use native.Mathlib.Omega.{arith}
 use lib.Dec.{leb, eqb}
-use lib.ListN.{length, getD, drop}
+use lib.ListN.{length, getD}
 use borrow.Author.Tests.{not-true, not-false, eq-eqb, ne-eqb}
 use mir.Syntax.{w32, w64}
 use mir.Val.{SFits, toZ, ofZ}
 use mir.ValLaws.{toZ-ofZ}
 use Rattle.base.specs.Choose.{within, isAt}
-use Rattle.base.specs.Runs.{run, eight}
+use Rattle.base.specs.Runs.{run}
 use Rattle.base.specs.Texts.{textAt}
-use Rattle.base.proofs.Tests.{both, told}
 use Rattle.base.proofs.Ranges.{inside, below, above}
 use Rattle.base.proofs.Runs.{Runs, runs-start, runs-out, runs-yes, runs-no}
 use Rattle.utf8.specs.Lead.{isUtf8}
-use Rattle.utf8.proofs.Walk.{Walked, ascii-eight}
 use Rattle.record.specs.Params.{rowOf}
 use Rattle.record.specs.declared.Param.{Param}
 use Rattle.record.specs.declared.Stamp.the-variants.{Unstamped, Stamped}
@@ -28,7 +25,7 @@ use Rattle.writes.specs.declared.Part.{Part}
 use Rattle.writes.specs.declared.Handed.{Handed}
 use Rattle.writes.specs.Fits.{digitsFit, classFits, textFits, messageFits}
 use Rattle.writes.specs.Writes.{partIn, stampIn, recordIn}
-use Rattle.fitting.specs.Heads.{byteOf, ascii, manyAscii, numbersFit, namesFit, headFits, rowFits}
+use Rattle.fitting.specs.Heads.{byteOf, numbersFit, namesFit, headFits, rowFits}
 
 -- ---- a run of a class
 
@@ -44,28 +41,6 @@ module _ (name : Bool) (s : List ℕ) (n i : ℕ) (w : Runs (byteOf name) s n i)
   class-off q = runs-no (byteOf name) s n i w h (sym (byte-is name (getD s i 0)) ∙ q)
 
 pub ruleset run-laws = (runs-start, runs-out, class-on, class-off)
-
--- ---- UTF-8, the ASCII in front by 32
-
-pub many-is : (s : List ℕ) (i : ℕ) (a b c d : Bool) → a ≡ eight ascii s i → b ≡ eight ascii s (i + 8) → c ≡ eight ascii s (i + 16) → d ≡ eight ascii s (i + 24) → (a && b && c && d) ≡ manyAscii s i
-many-is s i a b c d e f g h = rw (e, f, g, h)
-
-module _ (s : List ℕ) (i : ℕ) (w : Walked s 0 0x80 0xBF i) where
-  pub ascii-many : i + 32 ≤ length s → (b : Bool) → b ≡ manyAscii s i → not b ≡ false → Walked s 0 0x80 0xBF (i + 32)
-  ascii-many l b e q =
-      let t = both (eight ascii s i && eight ascii s (i + 8) && eight ascii s (i + 16)) (eight ascii s (i + 24)) (told b (manyAscii s i) e q) in
-      let u = both (eight ascii s i && eight ascii s (i + 8)) (eight ascii s (i + 16)) (t .0) in
-      let v = both (eight ascii s i) (eight ascii s (i + 8)) (u .0) in
-      let k = ascii-eight s i w (omega arith) (eight ascii s i) refl (ap not (v .0)) in
-      let m = ascii-eight s (i + 8) k (omega arith) (eight ascii s (i + 8)) refl (ap not (v .1)) in
-      let x : i + 8 + 8 ≡ i + 16 = omega arith in
-      let n = ascii-eight s (i + 16) (rw x at m) (omega arith) (eight ascii s (i + 16)) refl (ap not (u .1)) in
-      let y : i + 16 + 8 ≡ i + 24 = omega arith in
-      let z : i + 24 + 8 ≡ i + 32 = omega arith in
-      rw z at (ascii-eight s (i + 24) (rw y at n) (omega arith) (eight ascii s (i + 24)) refl (ap not (t .1)))
-
-pub utf8-front : (s : List ℕ) (n : ℕ) → isUtf8 s ≡ isUtf8 (drop n s) → (t : List ℕ) → t ≡ drop n s → (r : Bool) → r ≡ isUtf8 t → r ≡ isUtf8 s
-utf8-front s n e t et r er = er ∙ ap isUtf8 et ∙ sym e
 
 -- ---- 1 to `most` bytes of a class
 

@@ -1,11 +1,10 @@
 -- For private contracts alone: the tests of refusal 17 on what is handed in.
-use Prim.Native.Nat.{ℕ, _+_}
+use Prim.Native.Nat.{ℕ}
 use mathlib.Core.Bool.{Bool, true, false, _&&_}
 use mathlib.Core.List.{List}
-use lib.Dec.{leb, ltb}
+use lib.Dec.{leb}
 use lib.ListN.{getD}
 use Rattle.base.specs.Choose.{within}
-use Rattle.base.specs.Runs.{eight}
 use Rattle.base.specs.Texts.{textAt}
 use Rattle.grammar.specs.Abnf.{printUsAscii, sdNameByte}
 use Rattle.writes.specs.declared.Handed.{Handed}
@@ -16,13 +15,6 @@ use Rattle.writes.specs.Writes.{partIn, stampIn}
 abbrev pub byteOf : Bool → ℕ → Bool
 byteOf true = sdNameByte
 byteOf false = printUsAscii
-
-abbrev pub ascii : ℕ → Bool
-ascii b = ltb b 128
-
--- the 32 bytes of `s` from place `i` on
-abbrev pub manyAscii : List ℕ → ℕ → Bool
-manyAscii s i = eight ascii s i && eight ascii s (i + 8) && eight ascii s (i + 16) && eight ascii s (i + 24)
 
 abbrev pub numbersFit : Handed → Bool
 numbersFit h = leb (h .priority) 191 && within 1 999 (h .version) && digitsFit (stampIn h)

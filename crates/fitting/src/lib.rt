@@ -8,17 +8,16 @@ ghost use mathlib.Core.Path.{_≡_};
 ghost use mathlib.Core.Bool.{true, false, not, _&&_};
 ghost use Prim.Native.Nat.{_+_, _≤_};
 ghost use lib.Dec.{eqb};
-ghost use lib.ListN.{length, drop};
+ghost use lib.ListN.{length};
 ghost use Rattle.base.specs.Choose.{isAt};
-ghost use Rattle.base.specs.Runs.{run, eight};
+ghost use Rattle.base.specs.Runs.{run};
 ghost use Rattle.base.specs.Texts.{textAt};
-ghost use Rattle.utf8.specs.Lead.{isUtf8};
 ghost use Rattle.record.specs.Params.{rowOf};
 ghost use Rattle.suits.specs.Suits.{recordSuits};
 ghost use Rattle.grammar.specs.Parse.{isMessage};
 ghost use Rattle.writes.specs.Fits.{digitsFit, classFits, textFits, messageFits};
 ghost use Rattle.writes.specs.Writes.{partIn, stampIn, recordIn};
-ghost use Rattle.fitting.specs.Heads.{byteOf, ascii, manyAscii, numbersFit, namesFit, headFits, rowFits};
+ghost use Rattle.fitting.specs.Heads.{byteOf, numbersFit, namesFit, headFits, rowFits};
 
 // A text of the lent text.
 pub fn text_at(text: &[u8], start: usize, len: usize) -> &[u8]
@@ -82,52 +81,6 @@ fn part_fits(text: &[u8], p: Part, most: usize) -> bool
     text_fits(text_at(text, p.start, p.len), most)
 }
 
-// Whether the eight bytes from `i` on are ASCII. All are asked, so that the compiler makes one test of them.
-fn eight_ascii(s: &[u8], i: usize) -> bool
-    requires { ⌜ i + 8 ≤ length (now s) ⌝ }
-    ensures { λ r. ⌜ r ≡ eight ascii (now (s .entry)) i ⌝ }
-{
-    (s[i] < 0x80)
-        & (s[i + 1] < 0x80)
-        & (s[i + 2] < 0x80)
-        & (s[i + 3] < 0x80)
-        & (s[i + 4] < 0x80)
-        & (s[i + 5] < 0x80)
-        & (s[i + 6] < 0x80)
-        & (s[i + 7] < 0x80)
-}
-
-fn many_ascii(s: &[u8], i: usize) -> bool
-    requires { ⌜ i + 32 ≤ length (now s) ⌝ }
-    ensures { λ r. ⌜ r ≡ manyAscii (now (s .entry)) i ⌝ }
-{
-    eight_ascii(s, i) & eight_ascii(s, i + 8) & eight_ascii(s, i + 16) & eight_ascii(s, i + 24)
-}
-
-// How many bytes in front are ASCII, by 32.
-fn ascii_front(s: &[u8]) -> usize
-    ensures { λ n. ⌜ n ≤ length (now (s .entry)) ⌝ }
-    ensures { λ n. ⌜ isUtf8 (now (s .entry)) ≡ isUtf8 (drop n (now (s .entry))) ⌝ }
-{
-    let n = s.len();
-    let mut i = 0;
-    while 32 <= n - i {
-        if !many_ascii(s, i) {
-            return i;
-        }
-        i += 32;
-    }
-    i
-}
-
-// Whether it is UTF-8. A long text is ASCII at its front, mostly.
-fn is_utf8(s: &[u8]) -> bool
-    ensures { λ r. ⌜ r ≡ isUtf8 (now (s .entry)) ⌝ }
-{
-    let n = ascii_front(s);
-    utf8::is_utf8(base::past(s, n))
-}
-
 // Whether it is a message of any bytes, or a byte order mark and then UTF-8.
 fn is_message(m: &[u8]) -> bool
     ensures { λ r. ⌜ r ≡ isMessage (now (m .entry)) ⌝ }
@@ -141,7 +94,7 @@ fn is_message(m: &[u8]) -> bool
     if !base::is_at(m, 2, 0xBF) {
         return true;
     }
-    is_utf8(base::past(m, 3))
+    utf8::is_utf8(base::past(m, 3))
 }
 
 fn message_fits(text: &[u8], p: Part) -> bool
@@ -222,5 +175,5 @@ pub fn param_fits(text: &[u8], p: Param) -> bool
     if !class_fits(text_at(text, p.name_start, p.name_len), 32, true) {
         return false;
     }
-    is_utf8(text_at(text, p.value_start, p.value_len))
+    utf8::is_utf8(text_at(text, p.value_start, p.value_len))
 }

@@ -90,7 +90,7 @@ module _ (line : List ℕ) (variant year : ℕ) (o : ℤ) (f : SFits w32 o) (h :
         pub judged-params : y < m → Judges line variant year o x y (Settled (Refused TooManyParams))
         judged-params l = refused TooManyParams (rw (drafts .is, ← drafts .elements-are, le-ltb x n k, ← drafts .params-are, lt-ltb y m l))
 
-        pub judged-fits : m ≤ y → Judges line variant year o x y (Fitting rules r (ends .end) at n m)
+        pub judged-fits : m ≤ y → Judges line variant year o x y (Fitting rules (ends .end) r at n m)
         judged-fits l = record { is = record { passes = h; inside = text-inside; drafts = drafts; elements-fit = k; params-fit = l } }
 
 pub ruleset judge-text-laws = (text-inside, text-starts, judged-none, judged-elements, judged-params, judged-fits)

@@ -39,7 +39,7 @@ module _ (j : Judged) where
     pub reading-settled : x ≡ readingOf j
     reading-settled = rw z
 
-  module _ (rules : Rules) (r : Record) (end at n m : ℕ) (z : j ≡ Fitting rules r end at n m) where
+  module _ (rules : Rules) (r : Record) (end at n m : ℕ) (z : j ≡ Fitting rules end r at n m) where
     pub fitting-read : true ≡ isFitting j
     fitting-read = rw z
 
@@ -62,7 +62,7 @@ module _ (line : List ℕ) (variant year : ℕ) (o : ℤ) (f : SFits w32 o) (e p
   settles : (x : Reading) → j ≡ Settled x → Settles line variant year o e p x
   settles x z = rw z at (here .is)
 
-  module _ (rules : Rules) (r : Record) (end at n m : ℕ) (z : j ≡ Fitting rules r end at n m) where
+  module _ (rules : Rules) (r : Record) (end at n m : ℕ) (z : j ≡ Fitting rules end r at n m) where
     fits : Fits line variant year o e p rules r end at n m
     fits = rw z at (here .is)
 
@@ -75,7 +75,7 @@ module _ (line : List ℕ) (variant year : ℕ) (o : ℤ) (f : SFits w32 o) (e p
 pub answer-is : (line : List ℕ) (variant year : ℕ) (o : ℤ) → SFits w32 o → (e p : ℕ) (j : Judged) → Judges line variant year (toZ w32 (ofZ w32 o)) e p j
     → (x : Reading) → x ≡ readingOf j → x ≡ answered line variant year o e p
 answer-is line variant year o f e p (Settled a) c x h = h ∙ settles line variant year o f e p (Settled a) c a refl .answer
-answer-is line variant year o f e p (Fitting rules r end at n m) c x h = h ∙ answer-read line variant year o f e p (Fitting rules r end at n m) c rules r end at n m refl
+answer-is line variant year o f e p (Fitting rules end r at n m) c x h = h ∙ answer-read line variant year o f e p (Fitting rules end r at n m) c rules r end at n m refl
 
 -- and of the tables
 module _ (line : List ℕ) (variant year : ℕ) (o : ℤ) (f : SFits w32 o) (e₀ p₀ : List (List ℕ)) (j : Judged)
@@ -85,7 +85,7 @@ module _ (line : List ℕ) (variant year : ℕ) (o : ℤ) (f : SFits w32 o) (e�
       let s = settles line variant year o f (length e₀) (length p₀) j c x z in
       record { answer = s .answer; elements = s .keeps _ e₀; params = s .keeps _ p₀ }
 
-  module _ (rules : Rules) (r : Record) (end at n m : ℕ) (z : j ≡ Fitting rules r end at n m) where
+  module _ (rules : Rules) (r : Record) (end at n m : ℕ) (z : j ≡ Fitting rules end r at n m) where
     fitting : Fits line variant year o (length e₀) (length p₀) rules r end at n m
     fitting = fits line variant year o f (length e₀) (length p₀) j c rules r end at n m z
 
@@ -121,12 +121,12 @@ module _ (line : List ℕ) (variant year : ℕ) (o : ℤ) (f : SFits w32 o) (e�
   pub served : (j : Judged) → Judges line variant year (toZ w32 (ofZ w32 o)) (length e₀) (length p₀) j → Served line variant year o e₀ p₀ (isFitting j) (rulesOf j) (dataOf j) (readingOf j)
   served (Settled x) c =
       record { as-they-are = λ t. reads-settled line variant year o f e₀ p₀ (Settled x) c x refl; inside = λ t. clash (sym t); room = λ t. clash (sym t); filled-in = λ t. clash (sym t) }
-  served (Fitting rules r end at n m) c =
+  served (Fitting rules end r at n m) c =
       record {
         as-they-are = λ t. clash t;
-        inside = λ t. part-ends line variant year o f e₀ p₀ (Fitting rules r end at n m) c rules r end at n m refl;
-        room = λ t. tables-room line variant year o f e₀ p₀ (Fitting rules r end at n m) c rules r end at n m refl;
-        filled-in = λ t. reads-fitting line variant year o f e₀ p₀ (Fitting rules r end at n m) c rules r end at n m refl;
+        inside = λ t. part-ends line variant year o f e₀ p₀ (Fitting rules end r at n m) c rules r end at n m refl;
+        room = λ t. tables-room line variant year o f e₀ p₀ (Fitting rules end r at n m) c rules r end at n m refl;
+        filled-in = λ t. reads-fitting line variant year o f e₀ p₀ (Fitting rules end r at n m) c rules r end at n m refl;
       }
 
 -- what filling leaves

@@ -48,27 +48,27 @@ pub record Settles (line : List ℕ) (variant year : ℕ) (offset : ℤ) (e p : 
 
 abbrev pub judgesOf : List ℕ → ℕ → ℕ → ℤ → ℕ → ℕ → Judged → Type 0
 judgesOf line variant year offset e p (Settled x) = Settles line variant year offset e p x
-judgesOf line variant year offset e p (Fitting rules r end at n m) = Fits line variant year offset e p rules r end at n m
+judgesOf line variant year offset e p (Fitting rules end r at n m) = Fits line variant year offset e p rules r end at n m
 
 pub record Judges (line : List ℕ) (variant year : ℕ) (offset : ℤ) (e p : ℕ) (j : Judged) : Type 0 where
   pub is : judgesOf line variant year offset e p j
 
 abbrev pub isFitting : Judged → Bool
 isFitting (Settled x) = false
-isFitting (Fitting rules r end at n m) = true
+isFitting (Fitting rules end r at n m) = true
 
 -- what the rows are stored by
 abbrev pub rulesOf : Judged → Rules
 rulesOf (Settled x) = Rfc3164Rules
-rulesOf (Fitting rules r end at n m) = rules
+rulesOf (Fitting rules end r at n m) = rules
 
 abbrev pub dataOf : Judged → Data
 dataOf (Settled x) = record { end = 0; at = 0; ids = 0; params = 0 }
-dataOf (Fitting rules r end at n m) = record { end = end; at = at; ids = n; params = m }
+dataOf (Fitting rules end r at n m) = record { end = end; at = at; ids = n; params = m }
 
 abbrev pub readingOf : Judged → Reading
 readingOf (Settled x) = x
-readingOf (Fitting rules r end at n m) = Read r n m
+readingOf (Fitting rules end r at n m) = Read r n m
 
 -- where the line is read, tables with room for its rows
 pub record Fillable (line : List ℕ) (j : Judged) (e₀ p₀ : List (List ℕ)) : Type 0 where

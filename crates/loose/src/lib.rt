@@ -13,13 +13,14 @@ ghost use Rattle.draft.specs.Drafts.{draftOf};
 ghost use Rattle.loose.specs.Loose.{byVariant, settingsOk, answered, Reads};
 ghost use Rattle.loose.specs.Judging.{Passes, Judges, isFitting, dataOf, rulesOf, readingOf, Fillable, FilledIn};
 
-// What is known of a line before a table is touched: its answer, where no table is asked for, or a reading. `end` is where the trimmed line ends.
+// What is known of a line before a table is touched: its answer, where no table is asked for, or a reading. `end` is where the trimmed line ends. It
+// stands before the record, so that the records of both lie at one place and are copied whole.
 pub enum Judged {
     Settled(Reading),
     Fitting {
         rules: Rules,
-        read: Record,
         end: usize,
+        read: Record,
         at: usize,
         elements: usize,
         params: usize,
@@ -75,8 +76,8 @@ fn judge_text(line: &[u8], variant: u32, year: u32, offset: i32, e: usize, p: us
     }
     Judged::Fitting {
         rules,
-        read,
         end,
+        read,
         at,
         elements,
         params,
@@ -107,8 +108,8 @@ fn is_fitting(judged: Judged) -> bool
         Judged::Settled(_) => false,
         Judged::Fitting {
             rules: _,
-            read: _,
             end: _,
+            read: _,
             at: _,
             elements: _,
             params: _,
@@ -136,8 +137,8 @@ fn data_of(judged: Judged) -> Data
         },
         Judged::Fitting {
             rules: _,
-            read: _,
             end,
+            read: _,
             at,
             elements: n,
             params,
@@ -157,8 +158,8 @@ fn rules_of(judged: Judged) -> Rules
         Judged::Settled(_) => Rules::Rfc3164Rules,
         Judged::Fitting {
             rules,
-            read: _,
             end: _,
+            read: _,
             at: _,
             elements: _,
             params: _,
@@ -173,8 +174,8 @@ pub fn reading_of(judged: Judged) -> Reading
         Judged::Settled(reading) => reading,
         Judged::Fitting {
             rules: _,
-            read,
             end: _,
+            read,
             at: _,
             elements,
             params,

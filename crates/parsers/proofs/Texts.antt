@@ -1,18 +1,18 @@
 -- The fields at the front of a part, by the tests that decide them, and that they lie in it.
 use Prim.Native.Nat.{ℕ, suc, _+_, _-_, _≤_, _<_}
-use mathlib.Core.Path.{_≡_, ap, _∙_}
+use mathlib.Core.Path.{_≡_, refl, ap, _∙_}
 use mathlib.Core.List.{List, [], _∷_}
 use mathlib.Core.Bool.{Bool, true, false, _&&_, not}
 use native.Mathlib.Omega.{arith}
 use lib.Dec.{eqb}
 use lib.ListN.{length, getD, drop}
 use borrow.Author.Tests.{ne-eqb, eqb-false}
-use Rattle.base.specs.Choose.{isAt}
+use Rattle.base.specs.Choose.{isAt, within}
 use Rattle.base.proofs.Parts.{step, ended}
 use Rattle.white.specs.White.{whiteLen}
 use Rattle.white.specs.Trim.{fieldLen}
 use Rattle.base.proofs.Tests.{by-if}
-use Rattle.white.proofs.Walks.{field-le}
+use Rattle.white.proofs.Walks.{field-le, plain-front}
 use Rattle.parsers.specs.Parsers.{alone, orAbsent, plainAt, hostAt, tagLen, tagAt}
 use Rattle.parsers.specs.declared.Text.{Text}
 use Rattle.parsers.specs.declared.Text.the-variants.{Fails, Absent, Given}
@@ -76,6 +76,18 @@ module _ (s : List ℕ) (i : ℕ) (t : TagAt s i) where
   unfolding tagLen
   tag-end h = let n : tagLen (drop i s) ≡ 0 = rw (ended s i h) in omega (arith, t .whole)
 
+  module _ (h : i < length s) where
+    pub tag-colon : getD s i 0 ≡ 58 → i ≡ tagLen s
+    unfolding tagLen
+    tag-colon d = let n : tagLen (drop i s) ≡ 0 = rw (step s i h, d, plain-front 58 (drop (i + 1) s) refl) in omega (arith, t .whole)
+
+    -- a byte of ASCII above the space
+    pub tag-plain : (getD s i 0 ≡ 58 → ⊥) → within 33 127 (getD s i 0) ≡ true → TagAt s (i + 1)
+    unfolding tagLen
+    tag-plain d p =
+        let n : tagLen (drop i s) ≡ suc (tagLen (drop (i + 1) s)) = rw (step s i h, plain-front (getD s i 0) (drop (i + 1) s) p, ne-eqb (getD s i 0) 58 d) in
+        record { within-s = omega arith; whole = omega (arith, t .whole) }
+
   module _ (h : i < length s) (p : List ℕ) (ep : p ≡ drop i s) (w : ℕ) (e : w ≡ whiteLen p) where
     here : w ≡ whiteLen (getD s i 0 ∷ drop (i + 1) s)
     here = e ∙ ap whiteLen (ep ∙ step s i h)
@@ -83,10 +95,6 @@ module _ (s : List ℕ) (i : ℕ) (t : TagAt s i) where
     pub tag-white : (w ≡ 0 → ⊥) → i ≡ tagLen s
     unfolding tagLen
     tag-white z = let n : tagLen (drop i s) ≡ 0 = rw (step s i h, ← here, ne-eqb w 0 z) in omega (arith, t .whole)
-
-    pub tag-colon : w ≡ 0 → getD s i 0 ≡ 58 → i ≡ tagLen s
-    unfolding tagLen
-    tag-colon z d = let n : tagLen (drop i s) ≡ 0 = rw (step s i h, ← here, z, d) in omega (arith, t .whole)
 
     pub tag-next : w ≡ 0 → (getD s i 0 ≡ 58 → ⊥) → TagAt s (i + 1)
     unfolding tagLen
@@ -103,7 +111,7 @@ module _ (s : List ℕ) (n : ℕ) (e : n ≡ tagLen s) where
   unfolding tagAt
   tag-is z r er = er ∙ rw (← e, ne-eqb n 0 z)
 
-pub ruleset walk-laws = (tag-start, tag-next, tag-white, tag-colon, tag-end)
+pub ruleset walk-laws = (tag-start, tag-plain, tag-next, tag-white, tag-colon, tag-end)
 
 pub ruleset tag-laws = (tag-none, tag-is)
 

@@ -84,20 +84,25 @@ pub fn host_at(s: &[u8]) -> Text
     or_absent(s, n)
 }
 
-// How many bytes of `s` come before its first white character or `:`.
+// How many bytes of `s` come before its first white character or `:`. ASCII above the space is not asked for white.
 pub fn tag_len(s: &[u8]) -> usize
     ensures { λ r. ⌜ r ≡ tagLen (now (s .entry)) ⌝ }
 {
     let mut i = 0;
     while i < s.len() {
-        let w = white::white_len(base::past(s, i));
-        if w != 0 {
+        let b = s[i];
+        if b == b':' {
             return i;
         }
-        if s[i] == b':' {
-            return i;
+        if (33 <= b) & (b <= 127) {
+            i += 1;
+        } else {
+            let w = white::white_len(base::past(s, i));
+            if w != 0 {
+                return i;
+            }
+            i += 1;
         }
-        i += 1;
     }
     i
 }

@@ -84,62 +84,41 @@ fn name(s: &[u8]) -> Size
     }
 }
 
-// Where a value stops: at a bare '"' or ']', or at the end.
+// Where a value stops: at a bare '"' or ']', or at the end. A backslash is passed with what it takes.
 fn stop(s: &[u8]) -> usize
     ensures { λ r. ⌜ r ≡ parse.stop false (now (s .entry)) ⌝ }
 {
+    let n = s.len();
     let mut i = 0;
-    let mut paired = false;
-    while i < s.len() {
+    while i < n {
         let b = s[i];
-        if !paired & ((b == b'"') | (b == b']')) {
+        if (b == b'"') | (b == b']') {
             return i;
         }
-        paired = !paired & (b == b'\\');
-        i += 1;
+        if b == b'\\' {
+            if n - i < 2 {
+                return n;
+            }
+            i += 2;
+        } else {
+            i += 1;
+        }
     }
     i
 }
 
-// A value and its closing quote, in one walk that asks for the escapes and for UTF-8. ASCII, which all escapes are, is answered first.
+// A value and its closing quote.
 fn value(s: &[u8]) -> Size
     ensures { λ r. ⌜ r ≡ sizeOf (parse.value (now (s .entry))) ⌝ }
 {
-    let mut paired = false;
-    let mut more: usize = 0;
-    let mut low: u8 = 0x80;
-    let mut high: u8 = 0xBF;
-    let mut i = 0;
-    while i < s.len() {
-        let b = s[i];
-        i += 1;
-        if (more == 0) & (b < 0x80) {
-            if !paired & (b == b'"') {
-                return Size::Bytes(i);
-            }
-            if !paired & (b == b']') {
-                return Size::Missing;
-            }
-            paired = !paired & (b == b'\\');
-        } else if more == 0 {
-            let l = utf8::lead_of(b);
-            if l.len == 0 {
-                return Size::Missing;
-            }
-            more = l.len - 1;
-            low = l.low;
-            high = l.high;
-            paired = false;
-        } else {
-            if (b < low) | (high < b) {
-                return Size::Missing;
-            }
-            more -= 1;
-            low = 0x80;
-            high = 0xBF;
-        }
+    let n = stop(s);
+    if !base::is_at(s, n, b'"') {
+        return Size::Missing;
     }
-    Size::Missing
+    if !utf8::is_utf8(&s[0..n]) {
+        return Size::Missing;
+    }
+    Size::Bytes(n + 1)
 }
 
 // A value and both its quotes.

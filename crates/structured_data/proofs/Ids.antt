@@ -7,11 +7,12 @@ use native.Mathlib.Omega.{arith}
 use lib.Dec.{eqb}
 use lib.ListN.{length, getD, take, drop}
 use borrow.Author.Tests.{not-true, not-false, ne-eqb}
-use Rattle.base.specs.Choose.{if_then_else_}
+use Rattle.base.specs.Choose.{if_then_else_, within}
 use Rattle.base.proofs.Tests.{by-test}
 use Rattle.base.proofs.Parts.{step, ended}
 use Rattle.white.specs.White.{whiteLen}
 use Rattle.white.proofs.Whites.{here}
+use Rattle.white.proofs.Walks.{plain-front}
 use Rattle.structured_data.specs.Param.{isNamed}
 use Rattle.structured_data.specs.Element.{idLen}
 
@@ -52,6 +53,13 @@ module _ (s : List ℕ) (i : ℕ) (inv : idLen s ≡ i + idLen (drop i s)) where
         let z : idLen (drop i s) ≡ 0 = ap idLen (step s i h) ∙ id-stops _ _ (sym e ∙ not-true t q) in
         omega arith
 
+    -- a byte of ASCII above the space
+    pub id-plain : not t ≡ false → within 33 127 (getD s i 0) ≡ true → idLen s ≡ i + 1 + idLen (drop (i + 1) s)
+    id-plain q p =
+        let z : idLen (drop i s) ≡ suc (idLen (drop (i + 1) s)) =
+        ap idLen (step s i h) ∙ id-more _ _ (sym e ∙ not-false t q) (plain-front (getD s i 0) (drop (i + 1) s) p) in
+        omega arith
+
     module _ (w : ℕ) (ew : w ≡ whiteLen (take (length s - i) (drop i s))) where
       white-is : whiteLen (getD s i 0 ∷ drop (i + 1) s) ≡ w
       white-is = ap whiteLen (sym (step s i h)) ∙ sym (here s i w ew)
@@ -66,7 +74,7 @@ module _ (s : List ℕ) (i : ℕ) (inv : idLen s ≡ i + idLen (drop i s)) where
           let z : idLen (drop i s) ≡ suc (idLen (drop (i + 1) s)) = ap idLen (step s i h) ∙ id-more _ _ (sym e ∙ not-false t q) (white-is ∙ p) in
           omega arith
 
-pub ruleset id-laws = (id-out, id-off, id-at-white, id-on)
+pub ruleset id-laws = (id-out, id-off, id-plain, id-at-white, id-on)
 
 -- no byte of an id is `]` or `=`
 pub id-named : (s : List ℕ) (k : ℕ) → k < idLen s → isNamed (getD s k 0) ≡ true

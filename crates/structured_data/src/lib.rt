@@ -90,19 +90,25 @@ fn name_run(s: &[u8]) -> usize
     i
 }
 
-// How many bytes of a value come before the quote that ends it.
+// How many bytes of a value come before the quote that ends it: a backslash is passed with what it takes.
 fn quoted_len(s: &[u8]) -> usize
     ensures { λ r. ⌜ r ≡ quotedLen false (now (s .entry)) ⌝ }
 {
+    let n = s.len();
     let mut i = 0;
-    let mut taken = false;
-    while i < s.len() {
+    while i < n {
         let b = s[i];
-        if !taken & (b == b'"') {
+        if b == b'"' {
             return i;
         }
-        taken = !taken & (b == b'\\');
-        i += 1;
+        if b == b'\\' {
+            if n - i < 2 {
+                return n;
+            }
+            i += 2;
+        } else {
+            i += 1;
+        }
     }
     i
 }
@@ -145,20 +151,25 @@ pub fn param_at(s: &[u8]) -> Param
     }
 }
 
-// How many bytes of `s` come before its first white character, `]` or `=`.
+// How many bytes of `s` come before its first white character, `]` or `=`. ASCII above the space is not asked for white.
 fn id_len(s: &[u8]) -> usize
     ensures { λ r. ⌜ r ≡ idLen (now (s .entry)) ⌝ }
 {
     let mut i = 0;
     while i < s.len() {
-        if !is_named(s[i]) {
+        let b = s[i];
+        if !is_named(b) {
             return i;
         }
-        let w = white::white_len(&s[i..]);
-        if w != 0 {
-            return i;
+        if (33 <= b) & (b <= 127) {
+            i += 1;
+        } else {
+            let w = white::white_len(&s[i..]);
+            if w != 0 {
+                return i;
+            }
+            i += 1;
         }
-        i += 1;
     }
     i
 }

@@ -1,10 +1,10 @@
 -- Date, letter and clock of form (c) are 19 bytes, and what stands after them is the fraction that the timestamp has.
-use Prim.Native.Nat.{ℕ, _+_, _-_}
+use Prim.Native.Nat.{ℕ, _+_, _-_, _≤_, _<_}
 use mathlib.Core.Path.{_≡_, refl, sym}
 use mathlib.Core.List.{List}
 use mathlib.Core.Bool.{_||_}
 use native.Mathlib.Omega.{arith}
-use lib.ListN.{drop}
+use lib.ListN.{length, drop}
 use Rattle.base.specs.Choose.{isAt}
 use Rattle.base.proofs.Tests.{by-if}
 use Rattle.digits.specs.Digits.{fixedAt}
@@ -27,6 +27,7 @@ use Rattle.timestamp.specs.declared.Stamping.{Stamping}
 use Rattle.timestamp.specs.declared.Stamping.the-variants.{NoStamp, IsStamp}
 use Rattle.timestamp.proofs.Onward.{on-num, on-pos, on-clock, on-date, on-zone}
 use Rattle.timestamp.proofs.Triples.{times, dates, triple-by}
+use Rattle.timestamp.proofs.Within.{time-within}
 
 -- ---- how far each step goes
 
@@ -66,6 +67,19 @@ time-to : (s : List ℕ) (at : ℕ) → ClockTo (at + 8) (timeFrom s at)
 time-to s at =
     triple-by times s at (ClockTo (at + 8)) tt λ x a b y c d z e e1 e2 e3 e4 e5.
     omega (arith, fixed-next 2 s at x a e1, byte-next s a b 58 e2, fixed-next 2 s b y c e3, byte-next s c d 58 e4, fixed-next 2 s d z e e5)
+
+-- ---- nothing shorter is a timestamp
+
+pub full-short : (s : List ℕ) (at : ℕ) → at ≤ length s → length s - at < 19 → NoStamp ≡ fullFrom s at
+unfolding fullFrom
+full-short s at h l =
+    on-date (λ r. NoStamp ≡ r) (dateFrom s at) _ _ refl λ year month day a e1.
+    on-pos (λ r. NoStamp ≡ r) (eitherFrom s a 84 116) _ _ refl λ b e2.
+    on-clock (λ r. NoStamp ≡ r) (timeFrom s b) _ _ refl λ hour minute second c e3.
+    let i : a ≡ at + 10 = rw e1 at (date-to s at) in
+    let j : c ≡ b + 8 = rw e3 at (time-to s b) in
+    let k : c ≤ length s = time-within s b (timeFrom s b) hour minute second c e3 refl in
+    absurd (omega (arith, either-next s a b 84 116 e2))
 
 -- ---- the fraction at `at` of `s` is the timestamp's
 

@@ -321,10 +321,14 @@ pub fn end_from(s: &[u8], t: DateTime, at: usize) -> Stamping
     stamp_if(t, nanos, digits::after_point(a - at), offset, b)
 }
 
+// Date, letter and clock are 19 bytes; asked for at once, they need no test each.
 pub fn full_from(s: &[u8], at: usize) -> Stamping
     requires { ⌜ at ≤ length (now s) ⌝ }
     ensures { λ r. ⌜ r ≡ fullFrom (now (s .entry)) at ⌝ }
 {
+    if s.len() - at < 19 {
+        return Stamping::NoStamp;
+    }
     let Date::IsDate {
         year,
         month,

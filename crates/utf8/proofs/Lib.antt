@@ -4,6 +4,7 @@ pub mod Walk
 pub mod Asked
 pub mod Chars
 pub mod Texts
+pub mod Passing
 pub mod Cuts
 pub mod ByCharacters
 pub mod Examples

@@ -52,12 +52,16 @@ module _ (s : List ℕ) (i : ℕ) (inv : fieldLen s ≡ i + fieldLen (drop i s))
     field-stop z = omega (arith, field-stops (drop i s) (λ q. z (here s i w e ∙ q)))
 
 -- ASCII above the space is not white
+pub plain-front : (b : ℕ) (s : List ℕ) → within 33 127 b ≡ true → whiteLen (b ∷ s) ≡ 0
+plain-front b s p =
+    let o = orders 33 127 b p in
+    let n : isWhite b ≡ false = sym (white-ascii b (omega arith)) ∙ rw (outside 9 13 b (omega arith), ne-eqb b 32 (omega arith)) in
+    ascii-front b s (omega arith) ∙ rw n
+
 plain-next : (s : List ℕ) (i j : ℕ) → j ≡ i + 1 → i < length s → within 33 127 (getD s i 0) ≡ true → fieldLen (drop i s) ≡ suc (fieldLen (drop j s))
 plain-next s i j e h p =
     let b = getD s i 0 in
-    let o = orders 33 127 b p in
-    let n : isWhite b ≡ false = sym (white-ascii b (omega arith)) ∙ rw (outside 9 13 b (omega arith), ne-eqb b 32 (omega arith)) in
-    ap fieldLen (step s i h) ∙ rw (e, field-more b (drop (i + 1) s) (ascii-front b (drop (i + 1) s) (omega arith) ∙ rw n))
+    ap fieldLen (step s i h) ∙ rw (e, field-more b (drop (i + 1) s) (plain-front b (drop (i + 1) s) p))
 
 -- how far a field was walked
 pub record Walked (s : List ℕ) (i : ℕ) : Type 0 where

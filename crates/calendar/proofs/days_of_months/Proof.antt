@@ -1,46 +1,35 @@
+use native.Mathlib.Omega.{arith}
 use borrow.Author.Needs.{needs}
-use Rattle.calendar.proofs.Walks.{Summed, summed-laws}
-use Prim.Native.Nat.{_-_}
+use Rattle.calendar.proofs.Dates.{row-index}
+use Rattle.calendar.proofs.Walks.{months-at}
 use Rattle.calendar.proofs.days_of_months.Statement.{statement}
 use Rattle.calendar.proofs.days_of_months.Tie as tie
 
-abbrev Inv-loop : tie.InvT-loop
-Inv-loop y n sum₀ k₀ sum k = Summed y n sum k
+leap-row-requires : tie.Need-leap-row-requires
+leap-row-requires c κs = search needs
 
-abbrev μ-loop : tie.MeasureT-loop
-μ-loop y n sum₀ k₀ sum k = n - k
+mul-result : tie.Need-mul-result
+mul-result c = omega (arith, row-index (c .before .args .y) _ (c .leap-row .ensures))
 
-loop-holds : tie.Need-loop-holds Inv-loop μ-loop
-loop-holds c = search (summed-laws, needs)
+mul-result-2 : tie.Need-mul-result-2
+mul-result-2 c = search needs
 
-add-k : tie.Need-add-k Inv-loop μ-loop
-add-k c = search (summed-laws, needs)
+index-1-result : tie.Need-index-1-result
+index-1-result c = search row-index
 
-month-days-requires : tie.Need-month-days-requires Inv-loop μ-loop
-month-days-requires c κs = search (summed-laws, needs)
+index-2-result : tie.Need-index-2-result
+index-2-result c = search needs
 
-add-sum : tie.Need-add-sum Inv-loop μ-loop
-add-sum c = search (summed-laws, needs)
-
-loop-less : tie.Need-loop-less Inv-loop μ-loop
-loop-less c = search (summed-laws, needs)
-
-loop-again : tie.Need-loop-again Inv-loop μ-loop
-loop-again c = search (summed-laws, needs)
-
-returns : tie.Need-returns Inv-loop μ-loop
-returns c = search (summed-laws, needs)
+returns : tie.Need-returns
+returns c = search (months-at, needs)
 
 pub days-of-months-spec : {M : Type 1} → statement M
 days-of-months-spec =
     tie.close
     (tie.spec
-    Inv-loop
-    μ-loop
-    loop-holds
-    add-k
-    month-days-requires
-    add-sum
-    loop-less
-    loop-again
+    leap-row-requires
+    mul-result
+    mul-result-2
+    index-1-result
+    index-2-result
     returns)

@@ -8,8 +8,9 @@ use Rattle.record.proofs.blank.Reads as Br
 use Rattle.record.proofs.blank.Symbol as Bs
 use Rattle.record.proofs.blank.Met as Bm
 use Rattle.exports.proofs.Contracts as X
-use Rattle.exports.proofs.khamdoriem_lookup.Symbol as Xs
-use Rattle.exports.proofs.khamdoriem_lookup.Met as Xm
+use Rattle.text_calls.proofs.Contracts as Y
+use Rattle.text_calls.proofs.khamdoriem_lookup.Symbol as Xs
+use Rattle.text_calls.proofs.khamdoriem_lookup.Met as Xm
 use Rattle.case_calls.proofs.Contracts as C
 use Rattle.case_calls.proofs.lookup.Key
 use Rattle.case_calls.proofs.lookup.Statement as stated
@@ -46,7 +47,7 @@ module _ (w : World) where
       packs-view E.param 256 14 15 7 same gone tt refl refl ▹
       lends bytes 8 16 6 8 same gone refl tt refl refl ▹
       packs bytes 16 17 8 same gone (fld 8 1 (owed bytes 6 8 (lease (κs .1 .1 .1 .1 .1 .1 .0) (qs .1 .1 .1 .1 .1 .1 .0))) refl) refl refl ▹ at (lent-at κs qs (lost X.output-answer) (leased bytes 8)) ▸
-      calls 7 (X.lookup .ps) (X.lookup .r) (Asked X.lookup) (Learnt X.lookup) Xs.name (cites X.lookup w code.env Xs.name Xs.routine code.calls-exports·khamdoriem-lookup (Xm.met (w .𝓤) (w .H) (w .𝓜) (w .𝓖) (w .𝓡))) (0 ∷ 1 ∷ 2 ∷ 7 ∷ 4 ∷ 5 ∷ 8 ∷ []) (by-shr bytes 0 tt 1 0 lend refl (by-shr bytes 1 tt 2 1 lend refl (by-shr pair 2 tt 3 2 lend refl (by-view (R· E.param) 3 tt 15 view-lend refl (by-shr bytes 4 tt 5 4 lend refl (by-shr bytes 5 tt 6 5 lend refl (by-num w32 7 (sc i32) refl (by-mut bytes 6 tt 17 lent refl none)))))))) 0 gone (tt, (tt, (tt, (tt, (tt, (tt, (tt, tt))))))) refl ▹ at (lent-at κs qs (here X.output-answer) (spent bytes)) ▸
+      calls 7 (Y.lookup .ps) (Y.lookup .r) (Asked Y.lookup) (Learnt Y.lookup) Xs.name (cites Y.lookup w code.env Xs.name Xs.routine code.calls-text-calls·khamdoriem-lookup (Xm.met (w .𝓤) (w .H) (w .𝓜) (w .𝓖) (w .𝓡))) (0 ∷ 1 ∷ 2 ∷ 7 ∷ 4 ∷ 5 ∷ 8 ∷ []) (by-shr bytes 0 tt 1 0 lend refl (by-shr bytes 1 tt 2 1 lend refl (by-shr pair 2 tt 3 2 lend refl (by-view (R· E.param) 3 tt 15 view-lend refl (by-shr bytes 4 tt 5 4 lend refl (by-shr bytes 5 tt 6 5 lend refl (by-num w32 7 (sc i32) refl (by-mut bytes 6 tt 17 lent refl none)))))))) 0 gone (tt, (tt, (tt, (tt, (tt, (tt, (tt, tt))))))) refl ▹ at (lent-at κs qs (here X.output-answer) (spent bytes)) ▸
       finish 8 refl ▸ back bytes 17 8 6 8 (lease (κs .1 .1 .1 .1 .1 .1 .0) (qs .1 .1 .1 .1 .1 .1 .0)) same same refl refl ▸ lose 8 refl ▸ room 15 (unviewed (R· E.param) 7) ▸ finish 7 refl ▸ unviews E.param 256 10 7 same refl ▸ lose 7 refl ▸ at (head-at κs qs (here X.output-answer)) ▸
       room 10 (array E.param 256 refl) ▸ room 7 (over i32) ▸ returns tt
 

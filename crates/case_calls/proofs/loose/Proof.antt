@@ -8,8 +8,9 @@ use Rattle.record.proofs.blank.Reads as Br
 use Rattle.record.proofs.blank.Symbol as Bs
 use Rattle.record.proofs.blank.Met as Bm
 use Rattle.exports.proofs.Contracts as X
-use Rattle.exports.proofs.khamdoriem_read_loose.Symbol as Xs
-use Rattle.exports.proofs.khamdoriem_read_loose.Met as Xm
+use Rattle.loose_call.proofs.Contracts as Y
+use Rattle.loose_call.proofs.khamdoriem_read_loose.Symbol as Xs
+use Rattle.loose_call.proofs.khamdoriem_read_loose.Met as Xm
 use Rattle.case_calls.proofs.Lengths.{first-count, whole-count}
 use Rattle.case_calls.proofs.Contracts as C
 use Rattle.case_calls.proofs.loose.Key
@@ -45,7 +46,7 @@ module _ (w : World) where
       packs-first E.param 256 14 15 5 same gone (num 6 (sc i64) refl) refl refl ▹
       lends bytes 7 16 2 6 same gone refl tt refl refl ▹
       packs bytes 16 17 6 same gone (fld 7 1 (owed bytes 2 6 (lease (κs .1 .1 .0) (qs .1 .1 .0))) refl) refl refl ▹ at (lent-at κs qs (lost X.read-answer) (leased pair 4) (leased (R· E.param) 5) (leased bytes 6)) ▸
-      calls 4 (X.read-loose .ps) (X.read-loose .r) (Asked X.read-loose) (Learnt X.read-loose) Xs.name (cites X.read-loose w code.env Xs.name Xs.routine code.calls-exports·khamdoriem-read-loose (Xm.met (w .𝓤) (w .H) (w .𝓜) (w .𝓖) (w .𝓡))) (0 ∷ 4 ∷ 5 ∷ 6 ∷ []) (by-shr bytes 0 tt 1 0 lend refl (by-num w32 2 (sc i32) refl (by-num w32 3 (sc i32) refl (by-snum w32 4 (sc i32) refl (by-mut pair 1 tt 13 lent refl (by-mut (R· E.param) 2 tt 15 lent refl (by-mut bytes 3 tt 17 lent refl none))))))) 11 gone (tt, (tt, (tt, (tt, tt)))) refl ▹ at (lent-at κs qs (here X.read-answer) (spent pair) (spent (R· E.param)) (spent bytes)) ▸
+      calls 4 (Y.read-loose .ps) (Y.read-loose .r) (Asked Y.read-loose) (Learnt Y.read-loose) Xs.name (cites Y.read-loose w code.env Xs.name Xs.routine code.calls-loose-call·khamdoriem-read-loose (Xm.met (w .𝓤) (w .H) (w .𝓜) (w .𝓖) (w .𝓡))) (0 ∷ 4 ∷ 5 ∷ 6 ∷ []) (by-shr bytes 0 tt 1 0 lend refl (by-num w32 2 (sc i32) refl (by-num w32 3 (sc i32) refl (by-snum w32 4 (sc i32) refl (by-mut pair 1 tt 13 lent refl (by-mut (R· E.param) 2 tt 15 lent refl (by-mut bytes 3 tt 17 lent refl none))))))) 11 gone (tt, (tt, (tt, (tt, tt)))) refl ▹ at (lent-at κs qs (here X.read-answer) (spent pair) (spent (R· E.param)) (spent bytes)) ▸
       finish 6 refl ▸ back bytes 17 7 2 6 (lease (κs .1 .1 .0) (qs .1 .1 .0)) same same refl refl ▸ lose 6 refl ▸ finish 5 refl ▸ returned-first E.param 256 15 10 5 same same refl ▸ lose 5 refl ▸ finish 4 refl ▸ back pair 13 5 1 4 (lease (κs .1 .0) (qs .1 .0)) same same refl refl ▸ lose 4 refl ▸ at (head-at κs qs (here X.read-answer)) ▸ begin 4 _ ▸ begin 5 _ ▸
       views E.param 256 10 19 4 same gone refl (lit< tt, lit< tt) ▹
       packs-view E.param 256 19 20 4 same gone tt refl refl ▹

@@ -8,8 +8,9 @@ use Rattle.record.proofs.blank.Reads as Br
 use Rattle.record.proofs.blank.Symbol as Bs
 use Rattle.record.proofs.blank.Met as Bm
 use Rattle.exports.proofs.Contracts as X
-use Rattle.exports.proofs.khamdoriem_print.Symbol as Xs
-use Rattle.exports.proofs.khamdoriem_print.Met as Xm
+use Rattle.text_calls.proofs.Contracts as Y
+use Rattle.text_calls.proofs.khamdoriem_print.Symbol as Xs
+use Rattle.text_calls.proofs.khamdoriem_print.Met as Xm
 use Rattle.case_calls.proofs.Contracts as C
 use Rattle.case_calls.proofs.print.Key
 use Rattle.case_calls.proofs.print.Statement as stated
@@ -46,7 +47,7 @@ module _ (w : World) where
       packs-view E.param 256 11 12 5 same gone tt refl refl ▹
       lends bytes 5 13 4 6 same gone refl tt refl refl ▹
       packs bytes 13 14 6 same gone (fld 5 1 (owed bytes 4 6 (lease (κs .1 .1 .1 .1 .0) (qs .1 .1 .1 .1 .0))) refl) refl refl ▹ at (lent-at κs qs (lost X.output-answer) (leased bytes 6)) ▸
-      calls 5 (X.print .ps) (X.print .r) (Asked X.print) (Learnt X.print) Xs.name (cites X.print w code.env Xs.name Xs.routine code.calls-exports·khamdoriem-print (Xm.met (w .𝓤) (w .H) (w .𝓜) (w .𝓖) (w .𝓡))) (0 ∷ 1 ∷ 2 ∷ 5 ∷ 6 ∷ []) (by-shr bytes 0 tt 1 0 lend refl (by-shr bytes 1 tt 2 1 lend refl (by-shr pair 2 tt 3 2 lend refl (by-view (R· E.param) 3 tt 12 view-lend refl (by-mut bytes 4 tt 14 lent refl none))))) 0 gone (tt, (tt, (tt, (tt, (tt, tt))))) refl ▹ at (lent-at κs qs (here X.output-answer) (spent bytes)) ▸
+      calls 5 (Y.print .ps) (Y.print .r) (Asked Y.print) (Learnt Y.print) Xs.name (cites Y.print w code.env Xs.name Xs.routine code.calls-text-calls·khamdoriem-print (Xm.met (w .𝓤) (w .H) (w .𝓜) (w .𝓖) (w .𝓡))) (0 ∷ 1 ∷ 2 ∷ 5 ∷ 6 ∷ []) (by-shr bytes 0 tt 1 0 lend refl (by-shr bytes 1 tt 2 1 lend refl (by-shr pair 2 tt 3 2 lend refl (by-view (R· E.param) 3 tt 12 view-lend refl (by-mut bytes 4 tt 14 lent refl none))))) 0 gone (tt, (tt, (tt, (tt, (tt, tt))))) refl ▹ at (lent-at κs qs (here X.output-answer) (spent bytes)) ▸
       finish 6 refl ▸ back bytes 14 5 4 6 (lease (κs .1 .1 .1 .1 .0) (qs .1 .1 .1 .1 .0)) same same refl refl ▸ lose 6 refl ▸ room 12 (unviewed (R· E.param) 5) ▸ finish 5 refl ▸ unviews E.param 256 7 5 same refl ▸ lose 5 refl ▸ at (head-at κs qs (here X.output-answer)) ▸
       room 7 (array E.param 256 refl) ▸ returns tt
 

@@ -8,8 +8,9 @@ use Rattle.record.proofs.blank.Reads as Br
 use Rattle.record.proofs.blank.Symbol as Bs
 use Rattle.record.proofs.blank.Met as Bm
 use Rattle.exports.proofs.Contracts as X
-use Rattle.exports.proofs.khamdoriem_read_strict.Symbol as Xs
-use Rattle.exports.proofs.khamdoriem_read_strict.Met as Xm
+use Rattle.strict_call.proofs.Contracts as Y
+use Rattle.strict_call.proofs.khamdoriem_read_strict.Symbol as Xs
+use Rattle.strict_call.proofs.khamdoriem_read_strict.Met as Xm
 use Rattle.case_calls.proofs.Contracts as C
 use Rattle.case_calls.proofs.strict.Key
 use Rattle.case_calls.proofs.strict.Statement as stated
@@ -44,7 +45,7 @@ module _ (w : World) where
       packs-all E.param 256 10 11 5 same gone tt refl refl ▹
       lends bytes 3 12 2 6 same gone refl tt refl refl ▹
       packs bytes 12 13 6 same gone (fld 3 1 (owed bytes 2 6 (lease (κs .1 .1 .0) (qs .1 .1 .0))) refl) refl refl ▹ at (lent-at κs qs (lost X.read-answer) (leased pair 4) (leased (R· E.param) 5) (leased bytes 6)) ▸
-      calls 4 (X.read-strict .ps) (X.read-strict .r) (Asked X.read-strict) (Learnt X.read-strict) Xs.name (cites X.read-strict w code.env Xs.name Xs.routine code.calls-exports·khamdoriem-read-strict (Xm.met (w .𝓤) (w .H) (w .𝓜) (w .𝓖) (w .𝓡))) (0 ∷ 4 ∷ 5 ∷ 6 ∷ []) (by-shr bytes 0 tt 1 0 lend refl (by-mut pair 1 tt 9 lent refl (by-mut (R· E.param) 2 tt 11 lent refl (by-mut bytes 3 tt 13 lent refl none)))) 7 gone (tt, (tt, (tt, (tt, tt)))) refl ▹ at (lent-at κs qs (here X.read-answer) (spent pair) (spent (R· E.param)) (spent bytes)) ▸
+      calls 4 (Y.read-strict .ps) (Y.read-strict .r) (Asked Y.read-strict) (Learnt Y.read-strict) Xs.name (cites Y.read-strict w code.env Xs.name Xs.routine code.calls-strict-call·khamdoriem-read-strict (Xm.met (w .𝓤) (w .H) (w .𝓜) (w .𝓖) (w .𝓡))) (0 ∷ 4 ∷ 5 ∷ 6 ∷ []) (by-shr bytes 0 tt 1 0 lend refl (by-mut pair 1 tt 9 lent refl (by-mut (R· E.param) 2 tt 11 lent refl (by-mut bytes 3 tt 13 lent refl none)))) 7 gone (tt, (tt, (tt, (tt, tt)))) refl ▹ at (lent-at κs qs (here X.read-answer) (spent pair) (spent (R· E.param)) (spent bytes)) ▸
       finish 6 refl ▸ back bytes 13 3 2 6 (lease (κs .1 .1 .0) (qs .1 .1 .0)) same same refl refl ▸ lose 6 refl ▸ finish 5 refl ▸ returned E.param 256 11 6 5 same same refl ▸ lose 5 refl ▸ finish 4 refl ▸ back pair 9 2 1 4 (lease (κs .1 .0) (qs .1 .0)) same same refl refl ▸ lose 4 refl ▸ at (head-at κs qs (here X.read-answer)) ▸ begin 4 _ ▸ begin 5 _ ▸
       views E.param 256 6 15 4 same gone refl (lit< tt, lit< tt) ▹
       packs-view E.param 256 15 16 4 same gone tt refl refl ▹

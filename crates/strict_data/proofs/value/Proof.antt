@@ -1,88 +1,51 @@
--- `elements::value` meets its contract. The invariant: the value stops and is UTF-8 as the rest is, in the state of the walk. Assumes nothing.
 use borrow.Author.Needs.{needs}
-use Prim.Native.Nat.{_-_}
-use lib.ListN.{length}
-use Rattle.strict_data.proofs.Values.{ValueWalk, value-laws}
+use Rattle.strict_data.proofs.Values.{value-closed, value-laws}
 use Rattle.strict_data.proofs.value.Statement.{statement}
 use Rattle.strict_data.proofs.value.Tie as tie
 
-abbrev Inv-loop : tie.InvT-loop
-Inv-loop s paired₀ more₀ low₀ high₀ i₀ paired more low high i = ValueWalk s paired more low high i
+stop-requires : tie.Need-stop-requires
+stop-requires c κs = search (value-laws, needs)
 
-abbrev μ-loop : tie.MeasureT-loop
-μ-loop s paired₀ more₀ low₀ high₀ i₀ paired more low high i = length s - i
+is-at-requires : tie.Need-is-at-requires
+is-at-requires c κs = search (value-laws, needs)
 
-loop-holds : tie.Need-loop-holds Inv-loop μ-loop
-loop-holds c = search (value-laws, needs)
-
-shared-slice-read-b : tie.Need-shared-slice-read-b Inv-loop μ-loop
-shared-slice-read-b c = search (value-laws, needs)
-
-add-i : tie.Need-add-i Inv-loop μ-loop
-add-i c = search (value-laws, needs)
-
-returns : tie.Need-returns Inv-loop μ-loop
+returns : tie.Need-returns
 returns c = search (value-laws, needs)
 
-returns-2 : tie.Need-returns-2 Inv-loop μ-loop
+sub-is-utf8 : tie.Need-sub-is-utf8
+sub-is-utf8 c = search (value-laws, needs)
+
+part-is-utf8-start : tie.Need-part-is-utf8-start
+part-is-utf8-start c = search (value-laws, needs)
+
+part-is-utf8-end : tie.Need-part-is-utf8-end
+part-is-utf8-end c = search (value-laws, needs)
+
+is-utf8-requires : tie.Need-is-utf8-requires
+is-utf8-requires c κs = search (value-laws, needs)
+
+returns-2 : tie.Need-returns-2
 returns-2 c = search (value-laws, needs)
 
-loop-less : tie.Need-loop-less Inv-loop μ-loop
-loop-less c = search (value-laws, needs)
+add-t6 : tie.Need-add-t6
+add-t6 c = search (value-laws, needs)
 
-loop-again : tie.Need-loop-again Inv-loop μ-loop
-loop-again c = search (value-laws, needs)
-
-lead-of-requires : tie.Need-lead-of-requires Inv-loop μ-loop
-lead-of-requires c κs = search (value-laws, needs)
-
-returns-3 : tie.Need-returns-3 Inv-loop μ-loop
-returns-3 c = search (value-laws, needs)
-
-sub-more : tie.Need-sub-more Inv-loop μ-loop
-sub-more c = search (value-laws, needs)
-
-loop-less-2 : tie.Need-loop-less-2 Inv-loop μ-loop
-loop-less-2 c = search (value-laws, needs)
-
-loop-again-2 : tie.Need-loop-again-2 Inv-loop μ-loop
-loop-again-2 c = search (value-laws, needs)
-
-returns-4 : tie.Need-returns-4 Inv-loop μ-loop
-returns-4 c = search (value-laws, needs)
-
-sub-more-2 : tie.Need-sub-more-2 Inv-loop μ-loop
-sub-more-2 c = search (value-laws, needs)
-
-loop-less-3 : tie.Need-loop-less-3 Inv-loop μ-loop
-loop-less-3 c = search (value-laws, needs)
-
-loop-again-3 : tie.Need-loop-again-3 Inv-loop μ-loop
-loop-again-3 c = search (value-laws, needs)
-
-returns-5 : tie.Need-returns-5 Inv-loop μ-loop
-returns-5 c = search (value-laws, needs)
+returns-3 : tie.Need-returns-3
+returns-3 c =
+    value-closed (c .before .before .before .before .before .before .before .args .s .now) (c .before .before .before .before .before .stop .result) (c .before .before .before .before .before .stop .ensures) (c .before .before .before .before .is-at .result) (c .before .before .before .before .is-at .ensures) (search needs)
+    (c .before .is-utf8 .result) (c .before .is-utf8 .ensures) (search needs)
 
 pub value-spec : {M : Type 1} → statement M
 value-spec =
     tie.close
     (tie.spec
-    Inv-loop
-    μ-loop
-    loop-holds
-    shared-slice-read-b
-    add-i
+    stop-requires
+    is-at-requires
     returns
+    sub-is-utf8
+    part-is-utf8-start
+    part-is-utf8-end
+    is-utf8-requires
     returns-2
-    loop-less
-    loop-again
-    lead-of-requires
-    returns-3
-    sub-more
-    loop-less-2
-    loop-again-2
-    returns-4
-    sub-more-2
-    loop-less-3
-    loop-again-3
-    returns-5)
+    add-t6
+    returns-3)

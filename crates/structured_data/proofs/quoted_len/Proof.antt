@@ -1,18 +1,15 @@
 use borrow.Author.Needs.{needs}
-use Prim.Native.Nat.{_+_, _-_, _≤_}
-use mathlib.Core.Path.{_≡_}
-use mathlib.Core.Bool.{false}
-use lib.ListN.{length, drop}
-use Rattle.structured_data.specs.Param.{quotedLen}
-use Rattle.structured_data.proofs.Values.{quoted-laws}
+use Prim.Native.Nat.{_-_}
+use lib.ListN.{length}
+use Rattle.structured_data.proofs.Values.{Quoted, quoted-laws}
 use Rattle.structured_data.proofs.quoted_len.Statement.{statement}
 use Rattle.structured_data.proofs.quoted_len.Tie as tie
 
 abbrev Inv-loop : tie.InvT-loop
-Inv-loop s i₀ taken₀ i taken = (i ≤ length s) × (quotedLen false s ≡ i + quotedLen taken (drop i s))
+Inv-loop s n i₀ i = Quoted s i
 
 abbrev μ-loop : tie.MeasureT-loop
-μ-loop s i₀ taken₀ i taken = length s - i
+μ-loop s n i₀ i = length s - i
 
 loop-holds : tie.Need-loop-holds Inv-loop μ-loop
 loop-holds c = search (quoted-laws, needs)
@@ -23,6 +20,12 @@ shared-slice-read-b c = search (quoted-laws, needs)
 returns : tie.Need-returns Inv-loop μ-loop
 returns c = search (quoted-laws, needs)
 
+sub-if3 : tie.Need-sub-if3 Inv-loop μ-loop
+sub-if3 c = search (quoted-laws, needs)
+
+returns-2 : tie.Need-returns-2 Inv-loop μ-loop
+returns-2 c = search (quoted-laws, needs)
+
 add-i : tie.Need-add-i Inv-loop μ-loop
 add-i c = search (quoted-laws, needs)
 
@@ -32,8 +35,17 @@ loop-less c = search (quoted-laws, needs)
 loop-again : tie.Need-loop-again Inv-loop μ-loop
 loop-again c = search (quoted-laws, needs)
 
-returns-2 : tie.Need-returns-2 Inv-loop μ-loop
-returns-2 c = search (quoted-laws, needs)
+add-i-2 : tie.Need-add-i-2 Inv-loop μ-loop
+add-i-2 c = search (quoted-laws, needs)
+
+loop-less-2 : tie.Need-loop-less-2 Inv-loop μ-loop
+loop-less-2 c = search (quoted-laws, needs)
+
+loop-again-2 : tie.Need-loop-again-2 Inv-loop μ-loop
+loop-again-2 c = search (quoted-laws, needs)
+
+returns-3 : tie.Need-returns-3 Inv-loop μ-loop
+returns-3 c = search (quoted-laws, needs)
 
 pub quoted-len-spec : {M : Type 1} → statement M
 quoted-len-spec =
@@ -44,7 +56,12 @@ quoted-len-spec =
     loop-holds
     shared-slice-read-b
     returns
+    sub-if3
+    returns-2
     add-i
     loop-less
     loop-again
-    returns-2)
+    add-i-2
+    loop-less-2
+    loop-again-2
+    returns-3)
