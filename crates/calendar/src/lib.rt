@@ -23,7 +23,7 @@ pub const LAST_YEAR: u32 = 9999;
 pub const OFFSET_LIMIT: u64 = 1439;
 
 // A local date and clock.
-#[derive(Drop)]
+#[derive(Clone, Copy)]
 pub struct DateTime {
     pub year: u32,
     pub month: u32,
@@ -34,7 +34,7 @@ pub struct DateTime {
 }
 
 // What an instant shows; outside: its local year is none of 0 to 9999.
-#[derive(Drop)]
+#[derive(Clone, Copy)]
 pub enum Shown {
     Outside,
     At(DateTime),

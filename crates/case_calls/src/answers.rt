@@ -6,7 +6,7 @@ use crate::{lookup, loose, print, strict};
 use record::ReadAnswer;
 
 // Variant, year and offset.
-#[derive(Drop)]
+#[derive(Clone, Copy)]
 pub struct Settings {
     pub variant: u32,
     pub year: u32,

@@ -4,7 +4,7 @@ ghost use Rattle.std.specs.Prelude.{◌≤◌, length};
 use crate::text::{bytes, number};
 use case_calls::answers::{Settings, looking, printing, reading, up_to};
 
-#[derive(Drop)]
+#[derive(Clone, Copy)]
 pub struct Set {
     pub settings: Settings,
     pub next: usize,
@@ -121,7 +121,7 @@ pub fn printing_case(text: &[u8], line: &mut [u8], out: &mut [u8], wanted: &mut 
     l.ok & room.ok & is_output(text, room.next, a, out, wanted)
 }
 
-#[derive(Drop)]
+#[derive(Clone, Copy)]
 struct Given {
     answer: record::OutputAnswer,
     ok: bool,

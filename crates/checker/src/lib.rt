@@ -18,7 +18,7 @@ use record::{Param, Place, Record, Refusal, StrictRecord};
 
 // How far the check is: the parameter that is next, the element that is open, where it goes on in the line, and whether all holds so far. Where it does not, no
 // parameter is next.
-#[derive(Drop)]
+#[derive(Clone, Copy)]
 struct Walk {
     next: usize,
     element: usize,

@@ -6,14 +6,14 @@ ghost use Rattle.claims.specs.Holds.{byte_next};
 use record::Refusal;
 
 // What the check of a claim answers: that it is the line's reading, or why it is refused.
-#[derive(Drop)]
+#[derive(Clone, Copy)]
 pub enum Checked {
     Yes,
     Refused(Refusal),
 }
 
 // Where in the line a check goes on; off: something was not as claimed.
-#[derive(Drop)]
+#[derive(Clone, Copy)]
 pub enum Next {
     Off,
     At(usize),

@@ -12,7 +12,7 @@ use loose::Judged;
 use record::{Param, Reading, Refusal};
 
 // What a comparison answers: which line is refused, 1 or 2, and why; or what differs.
-#[derive(Drop)]
+#[derive(Clone, Copy)]
 pub enum Compared {
     Refused(u32, Refusal),
     Done(Differences),
@@ -133,7 +133,7 @@ pub fn compare(
 
 // As a C caller gets it: the number of a refusal (0: none) and the line that is refused, 1 or 2; or what differs.
 #[repr(C)]
-#[derive(Drop)]
+#[derive(Clone, Copy)]
 pub struct CompareAnswer {
     pub number: u32,
     pub line: u32,

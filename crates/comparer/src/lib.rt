@@ -15,7 +15,7 @@ use record::{Param, Refusal};
 use settings::{Settings, SettingsRead};
 
 // Where the program stands: with the frames of its input; whether the first line of a pair is there, and the second; and how many bytes of its buffer each is.
-#[derive(Drop)]
+#[derive(Clone, Copy)]
 pub struct Turn {
     pub state: State,
     pub held: bool,

@@ -15,7 +15,7 @@ use record::{Level, Place, Protocol, Record, Stamp, Timestamp};
 
 // Which of the ten fields differ: bit k of `fields` is the k-th. Where the elements do, the first position that differs and, where both lines have one id there,
 // the line (1 or 2; else 0) and the entry of its parameter table whose pair does not occur as often in the other.
-#[derive(Drop)]
+#[derive(Clone, Copy)]
 pub struct Differences {
     pub fields: u32,
     pub position: usize,
@@ -288,7 +288,7 @@ fn common_ids(
 }
 
 // Whether the elements differ; if so, where, and the pair as `Differences` has it.
-#[derive(Drop)]
+#[derive(Clone, Copy)]
 struct Part {
     differs: bool,
     position: usize,
@@ -339,7 +339,7 @@ fn part_of(k: usize, longer: usize, odd: Odd, m: usize, n: usize) -> Part
 }
 
 // A line that is read: its record, where the trimmed line ends, and the counts.
-#[derive(Drop)]
+#[derive(Clone, Copy)]
 pub struct Line {
     pub read: Record,
     pub end: usize,

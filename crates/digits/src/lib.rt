@@ -4,7 +4,7 @@ ghost use Rattle.base.specs.Choose.{if◌then◌else◌};
 ghost use Rattle.digits.specs.Digits.{is_digit, number_at, fixed_at, fraction_at};
 
 // A number, and how many digits were read for it.
-#[derive(Drop)]
+#[derive(Clone, Copy)]
 pub enum Number {
     Nothing,
     Value { value: u32, len: usize },

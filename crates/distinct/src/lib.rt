@@ -92,7 +92,7 @@ fn is_same(own: &[u8], other: &[u8], side: usize, depths: &[u8], kids: &[u16], s
 }
 
 // What an id finds at an element: its own text, or the slot where its walk goes on.
-#[derive(Drop)]
+#[derive(Clone, Copy)]
 struct Turn {
     same: bool,
     slot: usize,
@@ -122,7 +122,7 @@ fn meet<'a>(
 }
 
 // Where an element goes: nowhere, since its id occurred before, or into a free slot.
-#[derive(Drop)]
+#[derive(Clone, Copy)]
 enum Seat {
     Taken,
     Free(usize),

@@ -3,7 +3,7 @@ use record::Record;
 use structured_data::Rules;
 
 // The rules that the structured data is read by, the record, where the structured data stands, and the counts of elements and parameters.
-#[derive(Drop)]
+#[derive(Clone, Copy)]
 pub enum Draft {
     NoDraft,
     IsDraft {

@@ -13,14 +13,14 @@ use record::Refusal;
 use stream::Event;
 
 // What the program was asked for: whether a line ends at CR LF, and whether frames are counted.
-#[derive(Drop)]
+#[derive(Clone, Copy)]
 pub struct Options {
     pub crlf: bool,
     pub counted: bool,
 }
 
 // What is to be done with what the splitter told, or at the end of the input.
-#[derive(Drop)]
+#[derive(Clone, Copy)]
 pub enum Task {
     // nothing
     More,
@@ -37,7 +37,7 @@ pub enum Task {
 }
 
 // What a turn answers: where the stream stands, how many bytes were taken, and what is to be done.
-#[derive(Drop)]
+#[derive(Clone, Copy)]
 struct Outcome {
     stream: stream::State,
     taken: usize,
@@ -47,7 +47,7 @@ struct Outcome {
 // Where a program stands: what is to be done; where the stream stands; which bytes of the chunk are still to be taken; how many turns are left, 0 where all is
 // done; whether nothing has failed; and what was asked for. A proved loop has to end, and nothing says that the input does: the turns count down from a number
 // that no run uses up.
-#[derive(Drop)]
+#[derive(Clone, Copy)]
 pub struct State {
     pub task: Task,
     pub stream: stream::State,

@@ -62,7 +62,7 @@ fn put_bare(out: &mut [u8], at: usize, id: &[u8]) -> usize
 }
 
 // How far elements are gathered: the next one, and the end of their text.
-#[derive(Drop)]
+#[derive(Clone, Copy)]
 struct Block {
     next: usize,
     end: usize,
@@ -111,7 +111,7 @@ fn bare_differ(line: &[u8], end: usize) -> bool
 }
 
 // The element behind a block, and whether the block's ids differ from each other and from all behind them.
-#[derive(Drop)]
+#[derive(Clone, Copy)]
 struct Met {
     next: usize,
     differ: bool,

@@ -90,7 +90,7 @@ fn note(s: &[u8], p: Param, text: &mut [u8], ends: &mut [u16], k: usize, at: usi
 }
 
 // What is found at a position: a parameter, where its text ends in the notes, and the position after it.
-#[derive(Drop)]
+#[derive(Clone, Copy)]
 struct Step {
     found: bool,
     at: usize,
@@ -140,7 +140,7 @@ fn note_one(
 }
 
 // How many texts are noted, and where the last one ends.
-#[derive(Drop)]
+#[derive(Clone, Copy)]
 pub struct Cursor {
     pub count: usize,
     pub at: usize,

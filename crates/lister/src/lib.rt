@@ -9,7 +9,7 @@ use program::Takes;
 use record::StrictReading;
 
 // What is told of a line that has no reading: how far it is right, and that in words too.
-#[derive(Drop)]
+#[derive(Clone, Copy)]
 pub struct Telling {
     pub place: bool,
     pub point: bool,

@@ -52,7 +52,7 @@ fn matches(line: &[u8], name: &[u8], same: bool, p: Param) -> bool
 
 // How far the search is: the next entry, whether element `last` has the id, and the place of the value, which is absent as long as no parameter matches. Where
 // one does, no entry is next.
-#[derive(Drop)]
+#[derive(Clone, Copy)]
 struct Search {
     next: usize,
     last: usize,
@@ -135,7 +135,7 @@ fn find(
 // ---- unescaping
 
 // What a byte of a value adds: nothing, one byte, or a backslash and a byte.
-#[derive(Drop)]
+#[derive(Clone, Copy)]
 enum Added {
     Nothing,
     One(u8),

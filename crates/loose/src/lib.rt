@@ -11,7 +11,7 @@ use structured_data::Rules;
 
 // What is known of a line before a table is touched: its answer, where no table is asked for, or a reading. `end` is where the trimmed line ends. It
 // stands before the record, so that the records of both lie at one place and are copied whole.
-#[derive(Drop)]
+#[derive(Clone, Copy)]
 pub enum Judged {
     Settled(Reading),
     Fitting {
@@ -115,7 +115,7 @@ fn is_fitting(judged: Judged) -> bool
 }
 
 // What the rows of a line that is read are stored by, but for the rules: where the trimmed line ends, where the structured data stands, and the counts.
-#[derive(Drop)]
+#[derive(Clone, Copy)]
 struct Data {
     end: usize,
     at: usize,

@@ -31,7 +31,7 @@ fn short(r: Reading) -> ReadAnswer
 }
 
 // What the record's memory is to hold: nothing, or a record and both counts.
-#[derive(Drop)]
+#[derive(Clone, Copy)]
 enum Held {
     Nothing,
     IsRecord(Record, usize, usize),

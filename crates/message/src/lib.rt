@@ -24,7 +24,7 @@ use output::{put, put_text};
 use record::{Param, Protocol, Record, Refusal, Written};
 
 // What is left of an output's length, or that a text does not fit.
-#[derive(Drop)]
+#[derive(Clone, Copy)]
 pub enum Room {
     Short,
     Left(usize),

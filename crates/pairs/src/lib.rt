@@ -43,7 +43,7 @@ fn bit_of(x: u8, b: usize) -> usize
 
 // What a text finds at another: whether it is the same, and the slot where a walk goes on. `far` is a place at which it differs from the last text that it was held
 // against; it is held against the next from there on.
-#[derive(Drop)]
+#[derive(Clone, Copy)]
 struct Turn {
     same: bool,
     slot: usize,
@@ -132,7 +132,7 @@ fn meet<'a>(
 }
 
 // Where a text goes: to one before it that is the same, or into a free slot, with `far` of its last turn.
-#[derive(Drop)]
+#[derive(Clone, Copy)]
 enum Seat {
     Taken(usize),
     Free(usize, usize),
@@ -231,7 +231,7 @@ fn count(classes: &[u16], from: usize, to: usize, counts: &mut [u16])
 
 // A text that does not occur as often among the first as among the others: its number, which is that of all texts where there is none, and the element in its first
 // two bytes.
-#[derive(Drop)]
+#[derive(Clone, Copy)]
 pub struct Odd {
     pub entry: usize,
     pub element: usize,

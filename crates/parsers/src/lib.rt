@@ -9,7 +9,7 @@ use digits::Number;
 use record::Place;
 
 // A text at the front of a part: its length, and how many bytes are passed.
-#[derive(Drop)]
+#[derive(Clone, Copy)]
 pub enum Text {
     Fails,
     Absent(usize),
@@ -17,21 +17,21 @@ pub enum Text {
 }
 
 // A field of the line, and the position after it.
-#[derive(Drop)]
+#[derive(Clone, Copy)]
 pub enum Field {
     NoField,
     IsField(Place, usize),
 }
 
 // A number, and the position after it.
-#[derive(Drop)]
+#[derive(Clone, Copy)]
 pub enum Num {
     NoNum,
     IsNum(u32, usize),
 }
 
 // A position.
-#[derive(Drop)]
+#[derive(Clone, Copy)]
 pub enum Pos {
     NoPos,
     IsPos(usize),

@@ -6,7 +6,7 @@ ghost use Rattle.std.specs.Prelude.{◌≤◌, length};
 use digits::Number;
 
 // Which part of a line a beginning ends in.
-#[derive(Drop)]
+#[derive(Clone, Copy)]
 enum Part {
     Open,
     Priority,
@@ -28,7 +28,7 @@ enum Part {
 }
 
 // A part, where it starts, and how many header fields are behind it.
-#[derive(Drop)]
+#[derive(Clone, Copy)]
 struct Place {
     part: Part,
     start: usize,

@@ -6,7 +6,7 @@ use digits::Number;
 use record::Level;
 
 // The facility and the severity, and where reading goes on: at 0 where there is no priority.
-#[derive(Drop)]
+#[derive(Clone, Copy)]
 pub struct Pri {
     pub next: usize,
     pub facility: Level,

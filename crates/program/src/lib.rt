@@ -6,7 +6,7 @@ ghost use Rattle.program.specs.Arguments.{word_of, with_word, with_option, wishi
 use libc::{STDERR_FILENO, STDOUT_FILENO};
 
 // What an argument is.
-#[derive(Drop)]
+#[derive(Clone, Copy)]
 pub enum Word {
     Launched,
     Help,
@@ -19,7 +19,7 @@ pub enum Word {
 }
 
 // What is to be done: the program's work, or in its place what one argument asks for. `Unknown` has the argument's number.
-#[derive(Drop)]
+#[derive(Clone, Copy)]
 pub enum Wish {
     Run,
     Help,
@@ -29,7 +29,7 @@ pub enum Wish {
 
 // What the arguments ask for together: whether a launcher waits for the status, whether lines end at CR LF, whether frames are counted, and whether it is told
 // how far a line that has no reading is right, and pointed there.
-#[derive(Drop)]
+#[derive(Clone, Copy)]
 pub struct Asked {
     pub wish: Wish,
     pub launched: bool,
@@ -40,7 +40,7 @@ pub struct Asked {
 }
 
 // Which options a program takes: `--crlf` and `--counted`, and `--where` and `--point`.
-#[derive(Drop)]
+#[derive(Clone, Copy)]
 pub struct Takes {
     pub forms: bool,
     pub places: bool,

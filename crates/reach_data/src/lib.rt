@@ -183,7 +183,7 @@ fn note(starts: &mut [u16], lens: &mut [u8], k: usize, start: usize, len: usize)
 
 // A walk over the elements notes a row for each id: all of them, and where the elements end or break, whatever their ids are; or there are more than the tables
 // have rows for.
-#[derive(Drop)]
+#[derive(Clone, Copy)]
 enum Walk {
     Full,
     Rowed(usize, Went),
@@ -356,7 +356,7 @@ fn judge<'a>(
 }
 
 // What tables tell of the elements, if they have rows enough.
-#[derive(Drop)]
+#[derive(Clone, Copy)]
 enum Tried {
     Short,
     Told(Went),

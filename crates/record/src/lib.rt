@@ -10,7 +10,7 @@ ghost use Rattle.record.specs.Answers.{answer_of, strict_answer_of, read_answer_
 pub const LINE_LIMIT: usize = 8192;
 
 // A text of the line. An absent one has start and length 0; an empty one is present.
-#[derive(Drop)]
+#[derive(Clone, Copy)]
 pub struct Place {
     pub present: bool,
     pub start: usize,
@@ -18,20 +18,20 @@ pub struct Place {
 }
 
 // Where a message lies. A line always has one but for the strict reader, whose record says whether.
-#[derive(Drop)]
+#[derive(Clone, Copy)]
 pub struct Span {
     pub start: usize,
     pub len: usize,
 }
 
-#[derive(Drop)]
+#[derive(Clone, Copy)]
 pub enum Protocol {
     Rfc3164,
     Rfc5424(u32),
 }
 
 // A facility or a severity.
-#[derive(Drop)]
+#[derive(Clone, Copy)]
 pub enum Level {
     Unset,
     Set(u8),
@@ -39,7 +39,7 @@ pub enum Level {
 
 // An instant, in seconds since 1970-01-01T00:00:00Z and nanoseconds; how many digits its fraction had, 0 to 9; and the offset in minutes at which it is
 // shown.
-#[derive(Drop)]
+#[derive(Clone, Copy)]
 pub struct Timestamp {
     pub seconds: i64,
     pub nanos: u32,
@@ -47,13 +47,13 @@ pub struct Timestamp {
     pub offset: i32,
 }
 
-#[derive(Drop)]
+#[derive(Clone, Copy)]
 pub enum Stamp {
     Unstamped,
     Stamped(Timestamp),
 }
 
-#[derive(Drop)]
+#[derive(Clone, Copy)]
 pub struct Record {
     pub protocol: Protocol,
     pub facility: Level,
@@ -67,7 +67,7 @@ pub struct Record {
 }
 
 // What the strict reader adds: the place of the timestamp's text, and whether there is a message.
-#[derive(Drop)]
+#[derive(Clone, Copy)]
 pub struct StrictRecord {
     pub common: Record,
     pub timestamp_text: Place,
@@ -76,7 +76,7 @@ pub struct StrictRecord {
 
 // An entry of the parameter table: its element's number, and where its name and its value lie.
 #[repr(C)]
-#[derive(Drop)]
+#[derive(Clone, Copy)]
 pub struct Param {
     pub element: usize,
     pub name_start: usize,
@@ -86,7 +86,7 @@ pub struct Param {
 }
 
 // Why a call is refused, in the order in which it is checked (RULES Numbers).
-#[derive(Drop)]
+#[derive(Clone, Copy)]
 pub enum Refusal {
     LineTooLong,
     BadSetting,
@@ -108,7 +108,7 @@ pub enum Refusal {
 }
 
 // What the loose reader answers: the record and both counts; the whole line as the message, where the rules give no reading; or why not.
-#[derive(Drop)]
+#[derive(Clone, Copy)]
 pub enum Reading {
     Read(Record, usize, usize),
     Whole(Record),
@@ -116,21 +116,21 @@ pub enum Reading {
 }
 
 // What the strict reader answers.
-#[derive(Drop)]
+#[derive(Clone, Copy)]
 pub enum StrictReading {
     Read(StrictRecord, usize, usize),
     Refused(Refusal),
 }
 
 // What printing and lookup answer: the length of what stands in the output, or why not.
-#[derive(Drop)]
+#[derive(Clone, Copy)]
 pub enum Written {
     Done(usize),
     Refused(Refusal),
 }
 
 // The same answers as a number (0: done) and values.
-#[derive(Drop)]
+#[derive(Clone, Copy)]
 pub struct Answer {
     pub number: u32,
     pub whole: bool,
@@ -139,7 +139,7 @@ pub struct Answer {
     pub params: usize,
 }
 
-#[derive(Drop)]
+#[derive(Clone, Copy)]
 pub struct StrictAnswer {
     pub number: u32,
     pub reading: StrictRecord,
@@ -149,7 +149,7 @@ pub struct StrictAnswer {
 
 // As a C caller gets it.
 #[repr(C)]
-#[derive(Drop)]
+#[derive(Clone, Copy)]
 pub struct OutputAnswer {
     pub number: u32,
     pub len: usize,
@@ -158,7 +158,7 @@ pub struct OutputAnswer {
 // What a reader answers a C caller, beside the record: `whole` is 1 where the whole line is the message, else 0. `reach` is 0 here: what is reported with
 // refusal 4 is put in at the C boundary.
 #[repr(C)]
-#[derive(Drop)]
+#[derive(Clone, Copy)]
 pub struct ReadAnswer {
     pub number: u32,
     pub whole: u32,

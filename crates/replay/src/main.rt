@@ -6,7 +6,7 @@ use libc::STDIN_FILENO;
 use program::Takes;
 
 // How many cases of each service there were, and how many differed.
-#[derive(Drop)]
+#[derive(Clone, Copy)]
 struct Tally {
     read: u64,
     printed: u64,
@@ -76,7 +76,7 @@ fn replay_case(t: Tally, text: &[u8], at: u64) -> Tally {
 }
 
 // Where the list is: what was compared, the number of the last case, and how much of the buffer waits for its line to end.
-#[derive(Drop)]
+#[derive(Clone, Copy)]
 struct State {
     tally: Tally,
     cases: u64,
@@ -136,7 +136,7 @@ fn keep(buffer: &mut [u8], from: usize, to: usize) -> usize
 }
 
 // One read. `more` is false where the input has ended, or a line is longer than the buffer.
-#[derive(Drop)]
+#[derive(Clone, Copy)]
 struct Turn {
     state: State,
     more: bool,

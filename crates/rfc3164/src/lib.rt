@@ -15,14 +15,14 @@ use structured_data::{Counts, Rules};
 use timestamp::Stamping;
 
 // A field that is `app[pid]`, by the lengths of both, or whole.
-#[derive(Drop)]
+#[derive(Clone, Copy)]
 pub enum Split {
     Whole,
     Parts(usize, usize),
 }
 
 // What host and tag give.
-#[derive(Drop)]
+#[derive(Clone, Copy)]
 pub struct Names {
     pub host: Place,
     pub app: Place,
@@ -30,14 +30,14 @@ pub struct Names {
 }
 
 // What host and tag give, and the position after them.
-#[derive(Drop)]
+#[derive(Clone, Copy)]
 struct Header {
     names: Names,
     next: usize,
 }
 
 // The counts of elements and parameters, and the position of the message after them.
-#[derive(Drop)]
+#[derive(Clone, Copy)]
 struct Rest {
     elements: usize,
     params: usize,

@@ -11,14 +11,14 @@ use structured_data::{Counts, Rules};
 use timestamp::Stamping;
 
 // The version, the timestamp, and the position after them.
-#[derive(Drop)]
+#[derive(Clone, Copy)]
 pub enum Start {
     NoStart,
     IsStart(u32, Stamp, usize),
 }
 
 // Host, app, process id and message id, and the position after them.
-#[derive(Drop)]
+#[derive(Clone, Copy)]
 pub enum Four {
     NoFour,
     IsFour(Place, Place, Place, Place, usize),

@@ -15,7 +15,7 @@ ghost use Rattle.settings.specs.Steps.{signed, PairAt, Seeks, FieldsAt, sound, T
 use record::{OutputAnswer, Refusal, Span, Written};
 
 // The settings of a gate. The host is a place in the file, of length 0 where there is none.
-#[derive(Drop)]
+#[derive(Clone, Copy)]
 pub struct Settings {
     pub version: u32,
     pub gate: u32,
@@ -26,7 +26,7 @@ pub struct Settings {
 }
 
 // What a reader answers.
-#[derive(Drop)]
+#[derive(Clone, Copy)]
 pub enum SettingsRead {
     Read(Settings),
     Refused(Refusal),
@@ -34,7 +34,7 @@ pub enum SettingsRead {
 
 // The same as a C caller gets it: a number (0: read) and the settings, zeros where it is refused.
 #[repr(C)]
-#[derive(Drop)]
+#[derive(Clone, Copy)]
 pub struct SettingsAnswer {
     pub number: u32,
     pub version: u32,
@@ -47,7 +47,7 @@ pub struct SettingsAnswer {
 }
 
 // The number of the last record of a gate.
-#[derive(Drop)]
+#[derive(Clone, Copy)]
 enum Found {
     Nowhere,
     At(usize),

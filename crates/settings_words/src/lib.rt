@@ -13,7 +13,7 @@ use record::Written;
 use settings::SettingsAnswer;
 
 // A word of `./settings-write`.
-#[derive(Drop)]
+#[derive(Clone, Copy)]
 pub enum Field {
     Version,
     Gate,
@@ -24,7 +24,7 @@ pub enum Field {
 }
 
 // The words before the host, as numbers.
-#[derive(Drop)]
+#[derive(Clone, Copy)]
 pub struct Words {
     pub version: u32,
     pub gate: u32,

@@ -11,7 +11,7 @@ use record::{Param, Place, Reading, Record, Refusal, Span};
 use settings::{Settings, SettingsRead};
 
 // Which of the two slices holds the host, and its place there.
-#[derive(Drop)]
+#[derive(Clone, Copy)]
 pub enum Holder {
     Nowhere,
     InLine(Span),
@@ -19,7 +19,7 @@ pub enum Holder {
 }
 
 // What the reading answers: the record, both counts and the host, or why not.
-#[derive(Drop)]
+#[derive(Clone, Copy)]
 pub enum SiteReading {
     Read(Record, usize, usize, Holder),
     Refused(Refusal),
@@ -27,7 +27,7 @@ pub enum SiteReading {
 
 // The same as a C caller gets it, beside the record: `holder` is 0 for no host, 1 for the line's, 2 for the settings'.
 #[repr(C)]
-#[derive(Drop)]
+#[derive(Clone, Copy)]
 pub struct SiteAnswer {
     pub number: u32,
     pub holder: u32,

@@ -10,7 +10,7 @@ ghost use Rattle.stream.specs.Numbers.{numbers_of, state_of, start_answer_of, fe
 use record::Refusal;
 
 // Where a stream stands. Every value is a state.
-#[derive(Drop)]
+#[derive(Clone, Copy)]
 pub enum State {
     // before a counted frame's content: what the digits so far write
     Count(u32),
@@ -23,14 +23,14 @@ pub enum State {
 }
 
 // The state at the start of a stream, or why there is none.
-#[derive(Drop)]
+#[derive(Clone, Copy)]
 pub enum Started {
     Ready(State),
     Refused(Refusal),
 }
 
 // What a call tells: nothing; a frame, which lies at the buffer's front, and its length; or a refusal.
-#[derive(Drop)]
+#[derive(Clone, Copy)]
 pub enum Event {
     More,
     Frame(usize),
@@ -38,7 +38,7 @@ pub enum Event {
 }
 
 // What a call answers: the state, how many bytes it took, and what it tells.
-#[derive(Drop)]
+#[derive(Clone, Copy)]
 pub struct Fed {
     pub state: State,
     pub taken: usize,
@@ -47,7 +47,7 @@ pub struct Fed {
 
 // A state in numbers, as a C caller keeps it: the stage, 1 to 4, and the numbers of `State`.
 #[repr(C)]
-#[derive(Drop)]
+#[derive(Clone, Copy)]
 pub struct StreamState {
     pub stage: u32,
     pub left: u32,
@@ -56,7 +56,7 @@ pub struct StreamState {
 
 // The answers as a C caller gets them: a number (0: done) and values.
 #[repr(C)]
-#[derive(Drop)]
+#[derive(Clone, Copy)]
 pub struct StartAnswer {
     pub number: u32,
     pub state: StreamState,
@@ -64,7 +64,7 @@ pub struct StartAnswer {
 
 // `frame` is 1 where a frame is complete, else 0.
 #[repr(C)]
-#[derive(Drop)]
+#[derive(Clone, Copy)]
 pub struct FeedAnswer {
     pub number: u32,
     pub frame: u32,
@@ -74,7 +74,7 @@ pub struct FeedAnswer {
 }
 
 #[repr(C)]
-#[derive(Drop)]
+#[derive(Clone, Copy)]
 pub struct FinishAnswer {
     pub number: u32,
     pub unfinished: u32,
@@ -250,7 +250,7 @@ fn from_content(left: u32, n: u32, bytes: &[u8], buffer: &mut [u8]) -> Fed
 }
 
 // A count, and how many bytes of it were at the front.
-#[derive(Drop)]
+#[derive(Clone, Copy)]
 struct Digits {
     value: u32,
     taken: usize,

@@ -11,14 +11,14 @@ use strict_data::{Counts, Tail};
 use strict_header::{HeaderAt, Heading};
 
 // What a line holds before its rows are stored: the record, where the structured data stands and how many bytes it takes, and both counts.
-#[derive(Drop)]
+#[derive(Clone, Copy)]
 enum Scan {
     NoScan,
     IsScan(StrictRecord, usize, usize, usize, usize),
 }
 
 // A line that is refused, or a scan that the tables have room for.
-#[derive(Drop)]
+#[derive(Clone, Copy)]
 enum Judged {
     Refuse(Refusal),
     Fitting(StrictRecord, usize, usize, usize, usize),
@@ -124,7 +124,7 @@ fn is_fitting(judged: Judged) -> bool
 }
 
 // Where the structured data of a line that is read stands, and how many bytes it takes.
-#[derive(Drop)]
+#[derive(Clone, Copy)]
 struct Data {
     from: usize,
     len: usize,

@@ -17,7 +17,7 @@ ghost use Rattle.strict_data.specs.Filling.{elements_at, Fillable};
 use record::Param;
 
 // The structured data at the front of a part: how many bytes, elements and parameters.
-#[derive(Drop)]
+#[derive(Clone, Copy)]
 pub enum Counts {
     NoData,
     IsData {
@@ -28,7 +28,7 @@ pub enum Counts {
 }
 
 // What stands after the structured data: nothing, or a space and a message of so many bytes.
-#[derive(Drop)]
+#[derive(Clone, Copy)]
 pub enum Tail {
     NoTail,
     NoMessage,
@@ -36,21 +36,21 @@ pub enum Tail {
 }
 
 // A piece of the structured data at the front of a part: how many bytes it takes.
-#[derive(Drop)]
+#[derive(Clone, Copy)]
 enum Size {
     Missing,
     Bytes(usize),
 }
 
 // An element, or what is after its id: how many bytes and parameters.
-#[derive(Drop)]
+#[derive(Clone, Copy)]
 enum Block {
     NoBlock,
     IsBlock { len: usize, params: usize },
 }
 
 // An element: how many bytes and parameters, and how many bytes its id has.
-#[derive(Drop)]
+#[derive(Clone, Copy)]
 enum Item {
     NoItem,
     IsItem {
@@ -474,7 +474,7 @@ pub fn read_tail(s: &[u8]) -> Tail
 }
 
 // What stands at a place of the structured data, by the byte there: an id after '[', a parameter after a space, or neither; and the place after it.
-#[derive(Drop)]
+#[derive(Clone, Copy)]
 struct Entry {
     opens: bool,
     holds: bool,
@@ -625,7 +625,7 @@ fn next(line: &[u8], at: usize) -> Entry
 }
 
 // A step of the second pass: the entry of a parameter, if it holds one, how many elements are open now, and the place after it.
-#[derive(Drop)]
+#[derive(Clone, Copy)]
 struct Step {
     row: Param,
     holds: bool,

@@ -18,7 +18,7 @@ use digits::Number;
 use record::{Place, Stamp, Timestamp};
 
 // What a header holds, and where the structured data starts.
-#[derive(Drop)]
+#[derive(Clone, Copy)]
 pub struct HeaderAt {
     pub prival: u32,
     pub version: u32,
@@ -31,56 +31,56 @@ pub struct HeaderAt {
     pub next: usize,
 }
 
-#[derive(Drop)]
+#[derive(Clone, Copy)]
 pub enum Heading {
     NoHeader,
     IsHeader(HeaderAt),
 }
 
 // What the readers of the pieces find: numbers, an offset in minutes, a timestamp or places, and last how many bytes were taken.
-#[derive(Drop)]
+#[derive(Clone, Copy)]
 enum PairAt {
     NoPair,
     IsPair(u32, u32, usize),
 }
 
-#[derive(Drop)]
+#[derive(Clone, Copy)]
 enum TripleAt {
     NoTriple,
     IsTriple(u32, u32, u32, usize),
 }
 
-#[derive(Drop)]
+#[derive(Clone, Copy)]
 enum OffsetAt {
     NoOffset,
     IsOffset(i32, usize),
 }
 
-#[derive(Drop)]
+#[derive(Clone, Copy)]
 enum EndingAt {
     NoEnding,
     IsEnding(u32, u32, i32, usize),
 }
 
-#[derive(Drop)]
+#[derive(Clone, Copy)]
 enum StampAt {
     NoStamp,
     IsStamp(Stamp, usize),
 }
 
-#[derive(Drop)]
+#[derive(Clone, Copy)]
 enum FieldAt {
     NoField,
     IsField(Place, usize),
 }
 
-#[derive(Drop)]
+#[derive(Clone, Copy)]
 enum IdsAt {
     NoIds,
     AreIds(Place, Place, usize),
 }
 
-#[derive(Drop)]
+#[derive(Clone, Copy)]
 enum NamesAt {
     NoNames,
     AreNames(Place, Place, Place, Place, usize),

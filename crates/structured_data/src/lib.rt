@@ -14,14 +14,14 @@ ghost use Rattle.structured_data.specs.Steps.{is_plain, value_end, entry_of, Sto
 use parsers::Pos;
 
 // Which lines the rules are of: they differ in a hyphen, and in what follows an element that fails or has no parameters.
-#[derive(Drop)]
+#[derive(Clone, Copy)]
 pub enum Rules {
     Rfc3164Rules,
     Rfc5424Rules,
 }
 
 // A parameter at the front of a part: the length of its name, the start and the length of its value, and the length of all.
-#[derive(Drop)]
+#[derive(Clone, Copy)]
 pub enum Param {
     NoParam,
     IsParam {
@@ -33,28 +33,28 @@ pub enum Param {
 }
 
 // The parameters of an element: their count, and the position after them.
-#[derive(Drop)]
+#[derive(Clone, Copy)]
 struct Walk {
     count: usize,
     next: usize,
 }
 
 // A parameter's entry, and the position after it: where it would have started, if there is none.
-#[derive(Drop)]
+#[derive(Clone, Copy)]
 struct Entry {
     row: record::Param,
     next: usize,
 }
 
 // The front of an element: the length of its id, 0 where no element starts; and where its parameters start.
-#[derive(Drop)]
+#[derive(Clone, Copy)]
 struct Open {
     id: usize,
     start: usize,
 }
 
 // What a step over the list adds to the counts, and where it goes on: where it was, if the list ends. A walk that passes a `]` before `dead` fails.
-#[derive(Drop)]
+#[derive(Clone, Copy)]
 struct Turn {
     elements: usize,
     params: usize,
@@ -63,7 +63,7 @@ struct Turn {
 }
 
 // The counts of elements and parameters, and the position after them.
-#[derive(Drop)]
+#[derive(Clone, Copy)]
 pub enum Counts {
     NoData,
     IsData {

@@ -139,7 +139,7 @@ fn head_suits(
 
 // How far the check of the parameters is: the next entry, the least number that its element may have, and whether all suits so far. Where it does not,
 // no entry is next.
-#[derive(Drop)]
+#[derive(Clone, Copy)]
 struct Check {
     next: usize,
     low: usize,

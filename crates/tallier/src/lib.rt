@@ -14,7 +14,7 @@ use record::{Refusal, StrictReading};
 use tally::Added;
 
 // What becomes of a frame: it is added, or passed over since it is not read, or its record is refused by the tally.
-#[derive(Drop)]
+#[derive(Clone, Copy)]
 pub enum Tallied {
     Added,
     Passed,

@@ -6,21 +6,21 @@ ghost use Rattle.tally.specs.Numbers.{place_in, added_number, cell_answer_of, su
 use record::{Level, Refusal};
 
 // What an addition answers.
-#[derive(Drop)]
+#[derive(Clone, Copy)]
 pub enum Added {
     Done,
     Refused(Refusal),
 }
 
 // What the read of a cell answers.
-#[derive(Drop)]
+#[derive(Clone, Copy)]
 pub enum CellRead {
     Count(u32),
     Refused(Refusal),
 }
 
 // What the read of a row sum or of a column sum answers.
-#[derive(Drop)]
+#[derive(Clone, Copy)]
 pub enum SumRead {
     Sum(u64),
     Refused(Refusal),
@@ -28,14 +28,14 @@ pub enum SumRead {
 
 // The answers as a C caller gets them: a number (0: done) and the value, which is 0 where the call is refused.
 #[repr(C)]
-#[derive(Drop)]
+#[derive(Clone, Copy)]
 pub struct CellAnswer {
     pub number: u32,
     pub count: u32,
 }
 
 #[repr(C)]
-#[derive(Drop)]
+#[derive(Clone, Copy)]
 pub struct SumAnswer {
     pub number: u32,
     pub sum: u64,

@@ -12,7 +12,7 @@ use parsers::{Num, Pos};
 use record::{Stamp, Timestamp};
 
 // Hour, minute and second, and the position after them.
-#[derive(Drop)]
+#[derive(Clone, Copy)]
 pub enum Clock {
     NoClock,
     IsClock {
@@ -24,7 +24,7 @@ pub enum Clock {
 }
 
 // Year, month and day, and the position after them.
-#[derive(Drop)]
+#[derive(Clone, Copy)]
 pub enum Date {
     NoDate,
     IsDate {
@@ -36,21 +36,21 @@ pub enum Date {
 }
 
 // Month and day, and the position after them and the blanks that follow.
-#[derive(Drop)]
+#[derive(Clone, Copy)]
 pub enum Day {
     NoDay,
     IsDay { month: u32, day: u32, next: usize },
 }
 
 // Minutes east of UTC, and the position after them.
-#[derive(Drop)]
+#[derive(Clone, Copy)]
 pub enum Zone {
     NoZone,
     IsZone(i32, usize),
 }
 
 // A timestamp, and the position after it.
-#[derive(Drop)]
+#[derive(Clone, Copy)]
 pub enum Stamping {
     NoStamp,
     IsStamp(Stamp, usize),

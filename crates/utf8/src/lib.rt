@@ -5,7 +5,7 @@ ghost use Rattle.utf8.specs.Lead.{lead_of, char_len, is_utf8};
 ghost use Rattle.utf8.specs.Onward.{Onward};
 
 // What a lead byte asks for: the length of its character in bytes (0: it begins none), and the range of the byte after it.
-#[derive(Drop)]
+#[derive(Clone, Copy)]
 pub struct Lead {
     pub len: usize,
     pub low: u8,

@@ -6,7 +6,7 @@ ghost use Rattle.white.specs.Before.{white_before};
 ghost use Rattle.white.specs.Trim.{field_len, white_run, text_end, trimmed};
 
 // A part of a text, from `start` up to `end`.
-#[derive(Drop)]
+#[derive(Clone, Copy)]
 pub struct Ends {
     pub start: usize,
     pub end: usize,

@@ -15,7 +15,7 @@ use output::{put, put_text};
 use record::Param;
 
 // How far a walk over the elements and their parameters is: the element that is open, the next parameter, the bytes so far, and whether all of it fits.
-#[derive(Drop)]
+#[derive(Clone, Copy)]
 pub struct Walk {
     pub element: usize,
     pub next: usize,

@@ -2,7 +2,7 @@
 
 // A text that may be absent: `len` bytes of the lent text from `start`; absent where `present` is 0.
 #[repr(C)]
-#[derive(Drop)]
+#[derive(Clone, Copy)]
 pub struct Part {
     pub present: usize,
     pub start: usize,
@@ -12,7 +12,7 @@ pub struct Part {
 // The fields but for the entries of the tables, of which the first `element_count` and the first `param_count` count. Where `stamped` is 0 there is no
 // timestamp.
 #[repr(C)]
-#[derive(Drop)]
+#[derive(Clone, Copy)]
 pub struct Handed {
     pub priority: u32,
     pub version: u32,
