@@ -9,8 +9,7 @@ ghost use Rattle.comparer.specs.Turns.{is_line, line_len, with_first, with_secon
 use compare::Compared;
 use differ::Differences;
 use frames::{Options, State, Task};
-use libc::STDIN_FILENO;
-use program::Takes;
+use program::{Process, Status, Takes};
 use record::{Param, Refusal};
 use settings::{Settings, SettingsRead};
 
@@ -84,13 +83,19 @@ fn with_second(first: usize, s: State, room: usize) -> Turn
 }
 
 // Says why the input has ended too early, if it has.
-fn tell(s: State) {
+fn tell(process: &Process, s: State) {
     let task = s.task;
-    frames::report(b"compare", task);
+    frames::report(process, b"compare", task);
 }
 
 // One turn, in the buffer of the line that is sought.
-fn advance(line1: &mut [u8], line2: &mut [u8], chunk: &mut [u8], t: Turn) -> Turn
+fn advance(
+    process: &mut Process,
+    line1: &mut [u8],
+    line2: &mut [u8],
+    chunk: &mut [u8],
+    t: Turn,
+) -> Turn
     requires within { Within (length line1.old) (length line2.old) (length chunk.old) t }
     requires left_nonzero { 0 < t.state.left }
     ensures within_2 { Within (length line1.old) (length line2.old) (length chunk.old) result }
@@ -100,12 +105,12 @@ fn advance(line1: &mut [u8], line2: &mut [u8], chunk: &mut [u8], t: Turn) -> Tur
     let room1 = line1.len();
     let room2 = line2.len();
     if t.held {
-        let u = frames::advance(line2, chunk, s);
-        tell(u);
+        let u = frames::advance(process, line2, chunk, s);
+        tell(process, u);
         return with_second(t.first, u, room2);
     }
-    let u = frames::advance(line1, chunk, s);
-    tell(u);
+    let u = frames::advance(process, line1, chunk, s);
+    tell(process, u);
     with_first(u, room1)
 }
 
@@ -343,31 +348,40 @@ fn is_second(c: Compared) -> bool {
 }
 
 // Writes the line of a pair, which may name the parameter `p` of the first line or `q` of the second. Answers whether it could be written.
-fn write_line(c: Compared, line1: &[u8], p: Param, line2: &[u8], q: Param) -> bool
+fn write_line(
+    process: &Process,
+    c: Compared,
+    line1: &[u8],
+    p: Param,
+    line2: &[u8],
+    q: Param,
+) -> bool
     requires line1_len_bound { length line1.now ≤ 8193 }
     requires line2_len_bound { length line2.now ≤ 8193 }
 {
     if is_second(c) {
         return write_text(
+            process,
             c,
             part(line2, q.name_start, q.name_len),
             part(line2, q.value_start, q.value_len),
         );
     }
     write_text(
+        process,
         c,
         part(line1, p.name_start, p.name_len),
         part(line1, p.value_start, p.value_len),
     )
 }
 
-fn write_text(c: Compared, name: &[u8], value: &[u8]) -> bool
+fn write_text(process: &Process, c: Compared, name: &[u8], value: &[u8]) -> bool
     requires name_len_bound { length name.now ≤ 8193 }
     requires value_len_bound { length value.now ≤ 8193 }
 {
     let mut text = [0u8; 16523];
     let n = put_line(&mut text, c, name, value);
-    frames::write(b"compare", &text[1..n])
+    frames::write(process, b"compare", &text[1..n])
 }
 
 fn in_table(entry: usize) -> usize
@@ -391,6 +405,7 @@ fn entry_of(c: Compared) -> usize
 
 // Compares a pair of lines and writes the answer, with parameter tables of its own. Answers whether it could be written.
 fn compare_pair(
+    process: &Process,
     line1: &[u8],
     line2: &[u8],
     variant: u32,
@@ -419,7 +434,7 @@ fn compare_pair(
     let i = entry_of(c);
     let p = entries::fetch(&params1, i);
     let q = entries::fetch(&params2, i);
-    write_line(c, line1, p, line2, q)
+    write_line(process, c, line1, p, line2, q)
 }
 
 // Behind a pair the first line of the next one is sought. Where its answer could not be written, all is done.
@@ -459,11 +474,12 @@ fn goes_on(t: Turn) -> bool
 }
 
 // Says that a line has no second, where nothing has failed before. Answers whether nothing has failed.
-fn ended(t: Turn) -> bool {
+fn ended(process: &Process, t: Turn) -> bool {
     let s = t.state;
     let held = t.held;
     if s.ok & held {
         program::complain(
+            process,
             b"compare",
             b"standard input ends behind the first line of a pair",
         );
@@ -474,6 +490,7 @@ fn ended(t: Turn) -> bool {
 
 // Compares the lines at the fronts of both buffers.
 fn compare_fronts(
+    process: &Process,
     line1: &[u8],
     n: usize,
     line2: &[u8],
@@ -488,6 +505,7 @@ fn compare_fronts(
     requires m_bound { m ≤ 8193 }
 {
     compare_pair(
+        process,
         &line1[0..n],
         &line2[0..m],
         settings.variant,
@@ -500,6 +518,7 @@ fn compare_fronts(
 
 // A turn, and the answer where it has made a pair whole.
 fn step(
+    process: &mut Process,
     line1: &mut [u8],
     line2: &mut [u8],
     chunk: &mut [u8],
@@ -515,11 +534,11 @@ fn step(
     ensures within_2 { Within (length line1.old) (length line2.old) (length chunk.old) result }
     ensures left_lt_left { result.state.left < t.state.left }
 {
-    let u = advance(line1, line2, chunk, t);
+    let u = advance(process, line1, line2, chunk, t);
     if u.ready {
         let n = u.first;
         let m = u.second;
-        let ok = compare_fronts(line1, n, line2, m, settings, elements1, elements2);
+        let ok = compare_fronts(process, line1, n, line2, m, settings, elements1, elements2);
         return answered(u, ok);
     }
     u
@@ -527,6 +546,7 @@ fn step(
 
 // Compares all pairs of the input. Answers whether nothing failed.
 fn run(
+    process: &mut Process,
     line1: &mut [u8],
     line2: &mut [u8],
     chunk: &mut [u8],
@@ -539,9 +559,11 @@ fn run(
 {
     let mut t = begin();
     while goes_on(t) {
-        t = step(line1, line2, chunk, elements1, elements2, settings, t);
+        t = step(
+            process, line1, line2, chunk, elements1, elements2, settings, t,
+        );
     }
-    ended(t)
+    ended(process, t)
 }
 
 fn wide(b: u8) -> u32
@@ -556,10 +578,11 @@ fn gate_of(record: &[u8; 32]) -> u32 {
 }
 
 // Says why there are no settings: under 32 bytes came, or reading failed, or the record is refused.
-fn report(n: usize, refusal: Refusal) {
+fn report(process: &mut Process, n: usize, refusal: Refusal) {
     if n == settings::RECORD_SIZE {
         let number = record::refusal_number(refusal);
         frames::complain(
+            process,
             b"compare",
             b": the settings record in front is refused with ",
             number,
@@ -567,8 +590,9 @@ fn report(n: usize, refusal: Refusal) {
         );
         return;
     }
-    if program::is_at_end(b"compare") {
+    if program::is_at_end(process, b"compare") {
         program::complain(
+            process,
             b"compare",
             b"standard input has under 32 bytes: a settings record stands in front",
         );
@@ -576,30 +600,34 @@ fn report(n: usize, refusal: Refusal) {
 }
 
 // The settings record in front of standard input, and how the lines behind it are read.
-fn settings_in_front() -> SettingsRead {
+fn settings_in_front(process: &mut Process) -> SettingsRead {
     let mut record = [0u8; 32];
-    let n = io::read_full(STDIN_FILENO, &mut record);
+    let n = program::read_full(process, &mut record);
     let gate = gate_of(&record);
     let read = settings::read(&record[0..n], gate);
     let SettingsRead::Refused(refusal) = read else {
         return read;
     };
-    report(n, refusal);
+    report(process, n, refusal);
     read
 }
 
 // What `./compare` does in memory that it is lent: line buffers that hold a byte more than a line may have, and element tables long enough for every line.
 pub fn compare_input(
+    process: &mut Process,
     line1: &mut [u8; 8193],
     line2: &mut [u8; 8193],
     chunk: &mut [u8],
     elements1: &mut [[usize; 2]],
     elements2: &mut [[usize; 2]],
-) {
-    let a = program::arguments(Takes {
-        forms: false,
-        places: false,
-    });
+) -> Status {
+    let a = program::arguments(
+        process,
+        Takes {
+            forms: false,
+            places: false,
+        },
+    );
     let help =
         *b"\nReads the settings record of a gate, 32 bytes as './settings-write' writes them, and\n\
         behind it lines, and compares the first with the second, the third with the fourth\n\
@@ -617,13 +645,13 @@ pub fn compare_input(
         Exit status: 0 all is compared; 1 there is no such record in front, the last line has\n\
         no second, or reading or writing failed, and standard error says which; 2 an argument\n\
         is not known.\n";
-    if !program::starts(a, b"compare", b"usage: ./compare < FILE\n", &help) {
-        return;
+    let usage = *b"usage: ./compare < FILE\n";
+    if let Some(status) = program::starts(process, a, b"compare", &usage, &help) {
+        return status;
     }
-    let SettingsRead::Read(s) = settings_in_front() else {
-        program::end(a, b"compare", false);
-        return;
+    let SettingsRead::Read(s) = settings_in_front(process) else {
+        return program::end(process, b"compare", false);
     };
-    let ok = run(line1, line2, chunk, elements1, elements2, s);
-    program::end(a, b"compare", ok);
+    let ok = run(process, line1, line2, chunk, elements1, elements2, s);
+    program::end(process, b"compare", ok)
 }

@@ -7,8 +7,7 @@ ghost use Rattle.frames.specs.Words.{count_text};
 ghost use Rattle.frames.specs.Tasks.{kept_len, refused_task, last_task, last_line, last_count, start_state, turn_of, Turns, to_read, is_read, goes_on};
 ghost use Rattle.frames.specs.States.{start_of, with_task, stopped_of, done_of, Goes, Refills, Advances, Keeps};
 
-use libc::{STDERR_FILENO, STDIN_FILENO, STDOUT_FILENO};
-use program::Asked;
+use program::{Asked, Process, Status};
 use record::Refusal;
 use stream::Event;
 
@@ -310,7 +309,7 @@ fn take(line: &mut [u8], chunk: &[u8], s: State) -> State
 }
 
 // Another chunk, or the end. Where reading fails what has come of a frame is none.
-fn refill(room: usize, chunk: &mut [u8], s: State) -> State
+fn refill(process: &mut Process, room: usize, chunk: &mut [u8], s: State) -> State
     requires { s.got ≤ length chunk.old }
     ensures refills { Refills s (length chunk.old) room result }
     ensures task_bound { to_read result.task ≤ room }
@@ -318,27 +317,26 @@ fn refill(room: usize, chunk: &mut [u8], s: State) -> State
     ensures left_le_left { result.left ≤ s.left }
 {
     let stream = s.stream;
-    let got = libc::read(STDIN_FILENO, chunk);
-    if 0 < got {
-        return State {
-            task: Task::More,
-            stream,
-            next: 0,
-            got: io::count(got, chunk),
-            left: s.left,
-            ok: s.ok,
-            crlf: s.crlf,
-            counted: s.counted,
-        };
-    }
-    if got < 0 {
+    let Some(got) = program::read(process, chunk) else {
         return done(s, Task::Failed);
+    };
+    if got == 0 {
+        return done(stopped(s, Task::More, s.ok), last_task(stream, room));
     }
-    done(stopped(s, Task::More, s.ok), last_task(stream, room))
+    State {
+        task: Task::More,
+        stream,
+        next: 0,
+        got,
+        left: s.left,
+        ok: s.ok,
+        crlf: s.crlf,
+        counted: s.counted,
+    }
 }
 
 // One turn: to the end of a frame or of the chunk, or on to another chunk.
-pub fn advance(line: &mut [u8], chunk: &mut [u8], s: State) -> State
+pub fn advance(process: &mut Process, line: &mut [u8], chunk: &mut [u8], s: State) -> State
     requires got_in_bounds { s.got ≤ length chunk.old }
     requires left_nonzero { 0 < s.left }
     ensures advances { Advances s chunk.old line.old result line.new }
@@ -362,32 +360,30 @@ pub fn advance(line: &mut [u8], chunk: &mut [u8], s: State) -> State
     if next < got {
         return take(line, chunk, t);
     }
-    refill(line.len(), chunk, t)
+    refill(process, line.len(), chunk, t)
 }
 
 // ---- what is said
 
 // A line on standard error with a number in it.
-pub fn complain(name: &[u8], before: &[u8], n: u32, after: &[u8]) {
-    io::write_all(STDERR_FILENO, name);
-    io::write_all(STDERR_FILENO, before);
-    io::print_decimal(STDERR_FILENO, n as u64);
-    io::write_all(STDERR_FILENO, after);
+pub fn complain(process: &Process, name: &[u8], before: &[u8], n: u32, after: &[u8]) {
+    program::tell(process, name);
+    program::tell(process, before);
+    program::tell_decimal(process, n as u64);
+    program::tell(process, after);
 }
 
 // Why the input has ended too early. What ended the program at a refusal is its own to say.
-pub fn report(name: &[u8], task: Task) {
+pub fn report(process: &Process, name: &[u8], task: Task) {
     match task {
         Task::Cut(n) => complain(
+            process,
             name,
             b": standard input ends in a frame, after ",
             n,
             b" bytes of its content\n",
         ),
-        Task::Failed => {
-            io::write_all(STDERR_FILENO, name);
-            os::fail(b": standard input");
-        }
+        Task::Failed => program::tell_unread(process, name),
         _ => {}
     }
 }
@@ -404,32 +400,38 @@ pub fn put_count(out: &mut [u8], at: usize, n: u32, end: u8) -> usize
 }
 
 // Writes to standard output. Where that fails it is said.
-pub fn write(name: &[u8], text: &[u8]) -> bool {
-    let ok = io::write_all(STDOUT_FILENO, text);
-    if !ok {
-        io::write_all(STDERR_FILENO, name);
-        os::fail(b": standard output");
+pub fn write(process: &Process, name: &[u8], text: &[u8]) -> bool {
+    match program::write(process, text) {
+        Ok(()) => true,
+        Err(why) => {
+            program::fail(process, name, b"standard output", why);
+            false
+        }
     }
-    ok
 }
 
-// Does what is asked for in place of a run, if anything is. Answers whether the program is to run.
-pub fn starts(a: Asked, name: &[u8], usage: &[u8], help: &[u8]) -> bool {
-    if !program::starts(a, name, usage, help) {
-        return false;
+// Does what is asked for in place of a run, if anything is. Answers how the program then ends; nothing where it is to run.
+pub fn starts(
+    process: &mut Process,
+    a: Asked,
+    name: &[u8],
+    usage: &[u8],
+    help: &[u8],
+) -> Option<Status> {
+    if let Some(status) = program::starts(process, a, name, usage, help) {
+        return Some(status);
     }
     let crlf = a.crlf;
     let counted = a.counted;
     if crlf & counted {
-        program::misused(
-            a,
+        return Some(program::misused(
+            process,
             name,
             b"--crlf is for lines and does not go with --counted",
             usage,
-        );
-        return false;
+        ));
     }
-    true
+    None
 }
 
 pub fn options_of(a: Asked) -> Options {

@@ -5,7 +5,7 @@ ghost use Rattle.frames.specs.Tasks.{to_read};
 ghost use Rattle.frames.specs.States.{Keeps};
 
 use frames::{Options, State, Task};
-use program::Takes;
+use program::{Process, Status, Takes};
 use record::StrictReading;
 
 // What is told of a line that has no reading: how far it is right, and that in words too.
@@ -16,25 +16,25 @@ pub struct Telling {
 }
 
 // `refuse` and the number.
-fn write_refusal(number: u32) -> bool {
+fn write_refusal(process: &Process, number: u32) -> bool {
     let mut text = *b"refuse .............";
     let n = frames::put_count(&mut text, 7, number, b'\n');
-    frames::write(b"list", &text[0..n])
+    frames::write(process, b"list", &text[0..n])
 }
 
 // `refuse` with 4, and how many bytes of the line are right.
-fn write_place(reach: u32) -> bool {
+fn write_place(process: &Process, reach: u32) -> bool {
     let mut text = *b"refuse 4 .............";
     let n = frames::put_count(&mut text, 9, reach, b'\n');
-    frames::write(b"list", &text[0..n])
+    frames::write(process, b"list", &text[0..n])
 }
 
 // `accept` and the counts.
-fn write_counts(elements: u32, params: u32) -> bool {
+fn write_counts(process: &Process, elements: u32, params: u32) -> bool {
     let mut text = *b"accept .........................";
     let next = frames::put_count(&mut text, 7, elements, b' ');
     let n = frames::put_count(&mut text, next, params, b'\n');
-    frames::write(b"list", &text[0..n])
+    frames::write(process, b"list", &text[0..n])
 }
 
 // A count as it is written. (The tables have 64 and 256 entries, and a line 8,192 bytes: no count reaches the remainder.)
@@ -43,70 +43,82 @@ fn shown(count: usize) -> u32 {
 }
 
 // Says what is to be said of a task, but for the reading. Answers whether it could be written.
-fn said(task: Task) -> bool {
+fn said(process: &Process, task: Task) -> bool {
     match task {
-        Task::Refuse(n) => write_refusal(n),
+        Task::Refuse(n) => write_refusal(process, n),
         Task::End(n) => {
-            let ok = write_refusal(n);
-            frames::complain(b"list", b": nothing is listed behind refuse ", n, b"\n");
+            let ok = write_refusal(process, n);
+            frames::complain(
+                process,
+                b"list",
+                b": nothing is listed behind refuse ",
+                n,
+                b"\n",
+            );
             ok
         }
         _ => {
-            frames::report(b"list", task);
+            frames::report(process, b"list", task);
             true
         }
     }
 }
 
 // One turn, and what is to be said behind it.
-fn advance(line: &mut [u8], chunk: &mut [u8], s: State) -> State
+fn advance(process: &mut Process, line: &mut [u8], chunk: &mut [u8], s: State) -> State
     requires got_in_bounds { s.got ≤ length chunk.old }
     requires left_nonzero { 0 < s.left }
     ensures task_in_bounds { to_read result.task ≤ length line.old }
     ensures got_in_bounds_2 { result.got ≤ length chunk.old }
     ensures left_lt_left { result.left < s.left }
 {
-    let t = frames::advance(line, chunk, s);
+    let t = frames::advance(process, line, chunk, s);
     let task = t.task;
-    frames::kept(t, said(task))
+    frames::kept(t, said(process, task))
 }
 
 // Where a line that has no reading breaks, as it is asked for.
-fn write_break(line: &[u8], telling: Telling) -> bool {
+fn write_break(process: &Process, line: &[u8], telling: Telling) -> bool {
     let n = reach::reach(line);
     if line.len() < n {
         return false;
     }
-    let ok = write_place(shown(n));
+    let ok = write_place(process, shown(n));
     let point = telling.point;
     if ok & point {
-        return pointing::point(&line[0..n], &line[n..]);
+        return pointing::point(process, &line[0..n], &line[n..]);
     }
     ok
 }
 
 // A refusal of the strict reader.
-fn refused(line: &[u8], number: u32, telling: Telling) -> bool {
+fn refused(process: &Process, line: &[u8], number: u32, telling: Telling) -> bool {
     let place = telling.place;
     if (number == 4) & place {
-        return write_break(line, telling);
+        return write_break(process, line, telling);
     }
-    write_refusal(number)
+    write_refusal(process, number)
 }
 
 // What the strict reader answers to a frame is written. Where it cannot be, all is done.
-fn answered(frame: &[u8], s: State, r: StrictReading, telling: Telling) -> State
+fn answered(process: &Process, frame: &[u8], s: State, r: StrictReading, telling: Telling) -> State
     ensures { Keeps s result }
 {
     let ok = match r {
-        StrictReading::Read(_, e, p) => write_counts(shown(e), shown(p)),
-        StrictReading::Refused(refusal) => refused(frame, record::refusal_number(refusal), telling),
+        StrictReading::Read(_, e, p) => write_counts(process, shown(e), shown(p)),
+        StrictReading::Refused(refusal) => refused(
+            process,
+            frame,
+            record::refusal_number(refusal),
+            telling,
+        ),
     };
     frames::kept(s, ok)
 }
 
 // Lists all frames of the input, with the parameter table of the program. Answers whether nothing failed.
 pub fn run(
+    process: &mut Process,
     line: &mut [u8],
     elements: &mut [[usize; 2]],
     chunk: &mut [u8],
@@ -117,22 +129,30 @@ pub fn run(
     let mut params = [blank; 256];
     let mut s = frames::start(options);
     while 0 < s.left {
-        s = advance(line, chunk, s);
+        s = advance(process, line, chunk, s);
         if frames::is_read(s) {
             let used = frames::to_read(s);
             let r = strict::read(&line[0..used], elements, &mut params);
-            s = answered(&line[0..used], s, r, telling);
+            s = answered(process, &line[0..used], s, r, telling);
         }
     }
     s.ok
 }
 
 // What `./list` does in memory that it is lent: what its arguments ask for.
-pub fn list(line: &mut [u8], elements: &mut [[usize; 2]], chunk: &mut [u8]) {
-    let a = program::arguments(Takes {
-        forms: true,
-        places: true,
-    });
+pub fn list(
+    process: &mut Process,
+    line: &mut [u8],
+    elements: &mut [[usize; 2]],
+    chunk: &mut [u8],
+) -> Status {
+    let a = program::arguments(
+        process,
+        Takes {
+            forms: true,
+            places: true,
+        },
+    );
     let usage = *b"usage: ./list [--crlf | --counted] [--where | --point] < FILE\n";
     let help =
         *b"\nWrites a line for each line of standard input, by the strict reader of RFC 5424:\n\
@@ -156,13 +176,20 @@ pub fn list(line: &mut [u8], elements: &mut [[usize; 2]], chunk: &mut [u8]) {
         Exit status: 0 all is listed; 1 reading or writing failed, a count is bad, or the\n\
         stream ends in a frame, and standard error says which; 2 an argument is not known,\n\
         or --crlf and --counted are both given.\n";
-    if !frames::starts(a, b"list", &usage, &help) {
-        return;
+    if let Some(status) = frames::starts(process, a, b"list", &usage, &help) {
+        return status;
     }
     let telling = Telling {
         place: a.place,
         point: a.point,
     };
-    let ok = run(line, elements, chunk, frames::options_of(a), telling);
-    program::end(a, b"list", ok);
+    let ok = run(
+        process,
+        line,
+        elements,
+        chunk,
+        frames::options_of(a),
+        telling,
+    );
+    program::end(process, b"list", ok)
 }

@@ -1,8 +1,12 @@
 // The listing again, run with `--where` on lines that break in each of their parts.
+use program::Process;
+use std::process::ExitCode;
 
-fn main() {
+fn main(rt: HostRuntime) -> ExitCode {
+    let mut process = Process::new(rt);
     let mut line = [0u8; record::LINE_LIMIT];
     let mut elements = [[0usize; 2]; 64];
     let mut chunk = [0u8; 65536];
-    lister::list(&mut line, &mut elements, &mut chunk);
+    let status = lister::list(&mut process, &mut line, &mut elements, &mut chunk);
+    program::exit_code(status)
 }

@@ -4,6 +4,7 @@
 ghost use Rattle.std.specs.Prelude.{◌≤◌, length};
 
 use digits::Number;
+use program::Process;
 
 // Which part of a line a beginning ends in.
 #[derive(Clone, Copy)]
@@ -54,28 +55,28 @@ fn last(s: &[u8], behind: usize) -> u8 {
     0
 }
 
-fn say(words: &[u8]) -> bool {
-    frames::write(b"list", words)
+fn say(process: &Process, words: &[u8]) -> bool {
+    frames::write(process, b"list", words)
 }
 
-fn say_front(text: &[u8], n: usize) -> bool {
+fn say_front(process: &Process, text: &[u8], n: usize) -> bool {
     if n <= text.len() {
-        return say(&text[0..n]);
+        return say(process, &text[0..n]);
     }
     false
 }
 
 // A digit of a range, given by its characters.
-fn say_digit(low: u8, high: u8) -> bool {
+fn say_digit(process: &Process, low: u8, high: u8) -> bool {
     if low == high {
         let mut one = *b"the digit .";
         one[10] = low;
-        return say(&one);
+        return say(process, &one);
     }
     let mut text = *b"a digit . to .";
     text[8] = low;
     text[13] = high;
-    say(&text)
+    say(process, &text)
 }
 
 // ---- which part it is
@@ -173,29 +174,29 @@ fn place_of(begun: &[u8]) -> Place {
 
 // ---- what would have been right there
 
-fn say_priority(t: &[u8]) -> bool {
+fn say_priority(process: &Process, t: &[u8]) -> bool {
     let n = t.len();
     let first = byte(t, 0);
     if n == 0 {
-        return say(b"a digit: the priority is 0 to 191");
+        return say(process, b"a digit: the priority is 0 to 191");
     }
     if (first == b'0') | (n == 3) | ((n == 2) & (first != b'1')) {
-        return say(b"'>': the priority is 0 to 191");
+        return say(process, b"'>': the priority is 0 to 191");
     }
     if (n == 2) & (byte(t, 1) == b'9') {
-        return say(b"the digit 0 or 1, or '>'");
+        return say(process, b"the digit 0 or 1, or '>'");
     }
-    say(b"a digit or '>'")
+    say(process, b"a digit or '>'")
 }
 
-fn say_version(n: usize) -> bool {
+fn say_version(process: &Process, n: usize) -> bool {
     if n == 0 {
-        return say_digit(b'1', b'9');
+        return say_digit(process, b'1', b'9');
     }
     if n < 3 {
-        return say(b"a digit or a space");
+        return say(process, b"a digit or a space");
     }
-    say(b"a space: the version has at most three digits")
+    say(process, b"a space: the version has at most three digits")
 }
 
 fn number_of(number: Number) -> u32 {
@@ -216,61 +217,61 @@ fn has_day(t: &[u8], day: u32) -> bool {
 }
 
 // The second digit of a day.
-fn say_day(t: &[u8]) -> bool {
+fn say_day(process: &Process, t: &[u8]) -> bool {
     let tens = byte(t, 8);
     if tens == b'0' {
-        return say_digit(b'1', b'9');
+        return say_digit(process, b'1', b'9');
     }
     if (tens == b'2') & !has_day(t, 29) {
-        return say_digit(b'0', b'8');
+        return say_digit(process, b'0', b'8');
     }
     if tens < b'3' {
-        return say(b"a digit");
+        return say(process, b"a digit");
     }
     if has_day(t, 31) {
-        return say_digit(b'0', b'1');
+        return say_digit(process, b'0', b'1');
     }
-    say_digit(b'0', b'0')
+    say_digit(process, b'0', b'0')
 }
 
-fn say_date(t: &[u8]) -> bool {
+fn say_date(process: &Process, t: &[u8]) -> bool {
     let n = t.len();
     if n < 4 {
-        return say(b"a digit");
+        return say(process, b"a digit");
     }
     if (n == 4) | (n == 7) {
-        return say(b"'-'");
+        return say(process, b"'-'");
     }
     if n == 5 {
-        return say_digit(b'0', b'1');
+        return say_digit(process, b'0', b'1');
     }
     if (n == 6) & (byte(t, 5) == b'0') {
-        return say_digit(b'1', b'9');
+        return say_digit(process, b'1', b'9');
     }
     if (n == 6) | ((n == 8) & !has_day(t, 30)) {
-        return say_digit(b'0', b'2');
+        return say_digit(process, b'0', b'2');
     }
     if n == 8 {
-        return say_digit(b'0', b'3');
+        return say_digit(process, b'0', b'3');
     }
-    say_day(t)
+    say_day(process, t)
 }
 
 // A byte of `hh:mm` or `hh:mm:ss`, with so many bytes of it in front; `tens` is the first.
-fn say_clock(n: usize, tens: u8) -> bool {
+fn say_clock(process: &Process, n: usize, tens: u8) -> bool {
     if n == 0 {
-        return say_digit(b'0', b'2');
+        return say_digit(process, b'0', b'2');
     }
     if (n == 2) | (n == 5) {
-        return say(b"':'");
+        return say(process, b"':'");
     }
     if (n == 3) | (n == 6) {
-        return say_digit(b'0', b'5');
+        return say_digit(process, b'0', b'5');
     }
     if (n == 1) & (tens == b'2') {
-        return say_digit(b'0', b'3');
+        return say_digit(process, b'0', b'3');
     }
-    say(b"a digit")
+    say(process, b"a digit")
 }
 
 // How many digits a text begins with.
@@ -288,56 +289,59 @@ fn digit_count(s: &[u8]) -> usize
 }
 
 // Behind the seconds: a fraction, and then the zone; `t` has what stands from the point, the `Z` or the sign on.
-fn say_zone(t: &[u8]) -> bool {
+fn say_zone(process: &Process, t: &[u8]) -> bool {
     if t.len() == 0 {
-        return say(b"'.', 'Z', '+' or '-'");
+        return say(process, b"'.', 'Z', '+' or '-'");
     }
     if t[0] != b'.' {
-        return say_zone_end(t);
+        return say_zone_end(process, t);
     }
     let digits = &t[1..];
     let count = digit_count(digits);
     if count < digits.len() {
-        return say_zone_end(&digits[count..]);
+        return say_zone_end(process, &digits[count..]);
     }
     if count == 0 {
-        return say(b"a digit");
+        return say(process, b"a digit");
     }
     if count < 6 {
-        return say(b"a digit, 'Z', '+' or '-'");
+        return say(process, b"a digit, 'Z', '+' or '-'");
     }
-    say(b"'Z', '+' or '-': a fraction has at most six digits")
+    say(
+        process,
+        b"'Z', '+' or '-': a fraction has at most six digits",
+    )
 }
 
-fn say_zone_end(t: &[u8]) -> bool {
+fn say_zone_end(process: &Process, t: &[u8]) -> bool {
     let n = t.len();
     if n == 0 {
-        return say(b"'Z', '+' or '-'");
+        return say(process, b"'Z', '+' or '-'");
     }
     if (t[0] == b'Z') | (5 < n) {
-        return say(b"a space");
+        return say(process, b"a space");
     }
-    say_clock(n - 1, byte(t, 1))
+    say_clock(process, n - 1, byte(t, 1))
 }
 
-fn say_stamp(t: &[u8]) -> bool {
+fn say_stamp(process: &Process, t: &[u8]) -> bool {
     let n = t.len();
     if n == 0 {
-        return say(b"a digit or '-'");
+        return say(process, b"a digit or '-'");
     }
     if byte(t, 0) == b'-' {
-        return say(b"a space");
+        return say(process, b"a space");
     }
     if n < 10 {
-        return say_date(t);
+        return say_date(process, t);
     }
     if n == 10 {
-        return say(b"'T'");
+        return say(process, b"'T'");
     }
     if n < 19 {
-        return say_clock(n - 11, byte(t, 11));
+        return say_clock(process, n - 11, byte(t, 11));
     }
-    say_zone(&t[19..])
+    say_zone(process, &t[19..])
 }
 
 fn most_of(fields: u8) -> usize {
@@ -353,41 +357,47 @@ fn most_of(fields: u8) -> usize {
     32
 }
 
-fn say_field(n: usize, fields: u8) -> bool {
+fn say_field(process: &Process, n: usize, fields: u8) -> bool {
     if n == 0 {
-        return say(b"a visible ASCII character");
+        return say(process, b"a visible ASCII character");
     }
     if n < most_of(fields) {
-        return say(b"a visible ASCII character or a space");
+        return say(process, b"a visible ASCII character or a space");
     }
-    say(b"a space: this field is as long as it can be")
+    say(process, b"a space: this field is as long as it can be")
 }
 
 // In an id. A byte that could stand there, if no id were used, stands there because one is.
-fn say_id(n: usize, b: u8) -> bool {
+fn say_id(process: &Process, n: usize, b: u8) -> bool {
     if b == 0 {
-        return say(b"the rest of an id that is not used yet, then a space or ']'");
+        return say(
+            process,
+            b"the rest of an id that is not used yet, then a space or ']'",
+        );
     }
     if (n == 0) & ((b == b' ') | (b == b']')) {
-        return say(b"a character of an id");
+        return say(process, b"a character of an id");
     }
     if (n < 32) & base::in_range(32, 126, b) & (b != b'=') & (b != b'"') {
-        return say(b"an id that is not used yet");
+        return say(process, b"an id that is not used yet");
     }
     if n < 32 {
-        return say(b"a visible ASCII character but '=' and '\"', or behind the id a space or ']'");
+        return say(
+            process,
+            b"a visible ASCII character but '=' and '\"', or behind the id a space or ']'",
+        );
     }
-    say(b"a space or ']': an id has at most 32 bytes")
+    say(process, b"a space or ']': an id has at most 32 bytes")
 }
 
-fn say_name(n: usize) -> bool {
+fn say_name(process: &Process, n: usize) -> bool {
     if n == 0 {
-        return say(b"a character of a parameter's name");
+        return say(process, b"a character of a parameter's name");
     }
     if n < 32 {
-        return say(b"a character of a parameter's name, or '='");
+        return say(process, b"a character of a parameter's name, or '='");
     }
-    say(b"'=': a name has at most 32 bytes")
+    say(process, b"'=': a name has at most 32 bytes")
 }
 
 // Does a text end in a character of UTF-8 that is not whole?
@@ -399,42 +409,42 @@ fn is_open(s: &[u8]) -> bool {
 }
 
 // In a text that is UTF-8, where a byte of it is wrong.
-fn say_character(begun: &[u8]) -> bool {
+fn say_character(process: &Process, begun: &[u8]) -> bool {
     if is_open(begun) {
-        return say(b"the next byte of a character of UTF-8");
+        return say(process, b"the next byte of a character of UTF-8");
     }
-    say(b"a character of UTF-8")
+    say(process, b"a character of UTF-8")
 }
 
-fn say_value(begun: &[u8], b: u8) -> bool {
+fn say_value(process: &Process, begun: &[u8], b: u8) -> bool {
     if b == b']' {
-        return say(b"a backslash before ']', or '\"' to end the value");
+        return say(process, b"a backslash before ']', or '\"' to end the value");
     }
     if b == 0 {
-        return say(b"the rest of the value, then '\"'");
+        return say(process, b"the rest of the value, then '\"'");
     }
-    say_character(begun)
+    say_character(process, begun)
 }
 
 // What would have been right behind a beginning, of whose last part `t` are the bytes; `b` is what stands there, or 0 where the line ends.
-fn say_words(begun: &[u8], t: &[u8], p: Place, b: u8) -> bool {
+fn say_words(process: &Process, begun: &[u8], t: &[u8], p: Place, b: u8) -> bool {
     let part = p.part;
     match part {
-        Part::Open => say(b"'<'"),
-        Part::Priority => say_priority(t),
-        Part::Version => say_version(t.len()),
-        Part::Stamp => say_stamp(t),
-        Part::Field => say_field(t.len(), p.fields),
-        Part::Data => say(b"'-' or '['"),
-        Part::NoElements => say(b"a space, or the end of the line"),
-        Part::Id => say_id(t.len(), b),
-        Part::Name => say_name(t.len()),
-        Part::Quote => say(b"'\"'"),
-        Part::Value => say_value(begun, b),
-        Part::Escape => say_character(begun),
-        Part::ValueEnd => say(b"a space or ']'"),
-        Part::ElementEnd => say(b"'[', a space, or the end of the line"),
-        Part::Message => say_character(begun),
+        Part::Open => say(process, b"'<'"),
+        Part::Priority => say_priority(process, t),
+        Part::Version => say_version(process, t.len()),
+        Part::Stamp => say_stamp(process, t),
+        Part::Field => say_field(process, t.len(), p.fields),
+        Part::Data => say(process, b"'-' or '['"),
+        Part::NoElements => say(process, b"a space, or the end of the line"),
+        Part::Id => say_id(process, t.len(), b),
+        Part::Name => say_name(process, t.len()),
+        Part::Quote => say(process, b"'\"'"),
+        Part::Value => say_value(process, begun, b),
+        Part::Escape => say_character(process, begun),
+        Part::ValueEnd => say(process, b"a space or ']'"),
+        Part::ElementEnd => say(process, b"'[', a space, or the end of the line"),
+        Part::Message => say_character(process, begun),
     }
 }
 
@@ -492,15 +502,15 @@ fn seen_from(n: usize) -> usize {
 }
 
 // The caret and the words, with so many columns in front.
-fn write_words(begun: &[u8], rest: &[u8], column: usize) -> bool {
+fn write_words(process: &Process, begun: &[u8], rest: &[u8], column: usize) -> bool {
     let blank = [b' '; 96];
-    if !say_front(&blank, column) {
+    if !say_front(process, &blank, column) {
         return false;
     }
     let ok = if rest.len() == 0 {
-        say(b"^ the line ends; wanted: ")
+        say(process, b"^ the line ends; wanted: ")
     } else {
-        say(b"^ wanted: ")
+        say(process, b"^ wanted: ")
     };
     if !ok {
         return false;
@@ -510,15 +520,15 @@ fn write_words(begun: &[u8], rest: &[u8], column: usize) -> bool {
     if begun.len() < start {
         return false;
     }
-    if !say_words(begun, &begun[start..], p, byte(rest, 0)) {
+    if !say_words(process, begun, &begun[start..], p, byte(rest, 0)) {
         return false;
     }
-    say(b"\n")
+    say(process, b"\n")
 }
 
 // Points at the byte behind `begun`, the longest beginning of a line that is right, where `rest` is what the line goes on with: two lines of text. Answers
 // whether they could be written.
-pub fn point(begun: &[u8], rest: &[u8]) -> bool {
+pub fn point(process: &Process, begun: &[u8], rest: &[u8]) -> bool {
     let n = begun.len();
     let from = seen_from(n);
     let mut text = [b' '; 96];
@@ -526,8 +536,8 @@ pub fn point(begun: &[u8], rest: &[u8]) -> bool {
     let column = put_bytes(&mut text, dots, begun, from, n);
     let end = put_bytes(&mut text, column, rest, 0, few(rest.len()));
     let all = put(&mut text, end, b'\n');
-    if !say_front(&text, all) {
+    if !say_front(process, &text, all) {
         return false;
     }
-    write_words(begun, rest, column)
+    write_words(process, begun, rest, column)
 }

@@ -1,9 +1,35 @@
-// What every program shares: what its arguments ask for, and its exit status. A Rattle program has no exit status of its own: it writes one to descriptor 3,
-// where the launcher that gave it one (`--status-on-3`) makes it its own.
-ghost use Rattle.std.specs.Prelude.{◌≡◌};
-ghost use Rattle.program.specs.Arguments.{word_of, with_word, with_option, wishing, running_with};
+// What every program shares: what its arguments ask for, its standard streams, and the status that it ends with.
+#![tactic(auto)]
 
-use libc::{STDERR_FILENO, STDOUT_FILENO};
+mod reason;
+
+ghost use Rattle.std.specs.Prelude.{◌≡◌, ◌≤◌, length, not, false, IfOk, IfSome};
+ghost use Rattle.std.specs.Process.{exit_status};
+ghost use Rattle.program.specs.Arguments.{word_of, with_word, with_option, wishing, running_with};
+ghost use Rattle.program.specs.Ends.{status_number, ended};
+ghost use Rattle.program.specs.declared.Status.TheVariants.{Misused};
+
+use std::env::{Env, FillError};
+use std::io;
+use std::io::Read;
+use std::process::ExitCode;
+
+// The process that a program runs in, with its arguments and its standard streams: why standard input could not be read, if it could not, and whether some of
+// what was written to standard output is lost.
+#[derive(Clone, Copy)]
+pub struct Process {
+    rt: HostRuntime,
+    unread: Option<io::Error>,
+    lost: bool,
+}
+
+// How a program ends: all is done; reading or writing failed, a stream was cut or an answer differed; its arguments are not known or do not go together.
+#[derive(Clone, Copy)]
+pub enum Status {
+    Done,
+    Failed,
+    Misused,
+}
 
 // What an argument is.
 #[derive(Clone, Copy)]
@@ -27,8 +53,8 @@ pub enum Wish {
     Unknown(usize),
 }
 
-// What the arguments ask for together: whether a launcher waits for the status, whether lines end at CR LF, whether frames are counted, and whether it is told
-// how far a line that has no reading is right, and pointed there.
+// What the arguments ask for together: whether a launcher has said that it waits for the status, with which the program ends in any case; whether lines end at
+// CR LF, whether frames are counted, and whether it is told how far a line that has no reading is right, and pointed there.
 #[derive(Clone, Copy)]
 pub struct Asked {
     pub wish: Wish,
@@ -134,24 +160,27 @@ fn with_option(takes: bool, a: Asked, with: Asked, i: usize) -> Asked
     wished(a, Wish::Unknown(i))
 }
 
-// The `i`th argument. No word that is known is longer than the buffer.
-fn word_at(i: usize) -> Word {
+// The `i`th argument, if there is one. No word that is known is longer than the buffer.
+fn word_at(process: &Process, i: usize) -> Option<Word> {
     let mut text = [0u8; 64];
-    let n = os::arg(i, &mut text);
-    word_of(&text[0..n])
+    match argument(process, i, &mut text) {
+        Ok(n) => Some(word_of(&text[0..n])),
+        Err(FillError::TooLong) => Some(Word::Unknown),
+        Err(FillError::NotPresent) => None,
+    }
 }
 
 // What the arguments ask for, up to the first that asks for something else than a run.
-pub fn arguments(takes: Takes) -> Asked {
-    let n = os::arg_count();
+pub fn arguments(process: &Process, takes: Takes) -> Asked {
     let mut a = running(false, false, false, false, false);
-    let mut i = 1;
-    while i < n {
-        a = with_word(takes, a, word_at(i), i);
+    for i in 1..usize::MAX {
+        let Some(w) = word_at(process, i) else {
+            return a;
+        };
+        a = with_word(takes, a, w, i);
         if !is_run(a) {
             return a;
         }
-        i += 1;
     }
     a
 }
@@ -164,108 +193,228 @@ fn is_run(a: Asked) -> bool {
     }
 }
 
-// Writes a text to standard output. Where that fails standard output is closed, so that nothing is written behind what is lost, and `end` sees it.
-pub fn say(text: &[u8]) -> bool {
-    let ok = io::write_all(STDOUT_FILENO, text);
-    if !ok {
-        libc::close(STDOUT_FILENO);
+// ---- the process
+
+impl Process {
+    // With nothing written yet.
+    pub fn new(rt: HostRuntime) -> Process
+        ensures { result.lost ≡ false }
+    {
+        Process {
+            rt,
+            unread: None,
+            lost: false,
+        }
     }
+}
+
+// Puts the `i`th argument at the front of a buffer, and answers its length.
+pub fn argument(process: &Process, i: usize, text: &mut [u8]) -> Result<usize, FillError>
+    ensures { IfOk result (λ n. n ≤ length text.new) }
+{
+    process.rt.arg(i, text)
+}
+
+// How many arguments there are, the program's name among them.
+pub fn argument_count(process: &Process) -> usize {
+    let mut text = [0u8; 1];
+    for i in 0..usize::MAX {
+        if let Err(FillError::NotPresent) = argument(process, i, &mut text) {
+            return i;
+        }
+    }
+    usize::MAX
+}
+
+// Reads some bytes of standard input to the front of a buffer, and answers how many: 0 where it has ended, none where it cannot be read, which `tell_unread`
+// says.
+pub fn read(process: &mut Process, chunk: &mut [u8]) -> Option<usize>
+    ensures in_bounds { IfSome result (λ n. n ≤ length chunk.new) }
+    ensures lost_unchanged { process.new.lost ≡ process.old.lost }
+{
+    match process.rt.stdin().read(chunk) {
+        Ok(n) => Some(n),
+        Err(why) => {
+            process.unread = Some(why);
+            None
+        }
+    }
+}
+
+// Reads until the buffer is full, the input ends or a read fails, and answers how many bytes it put at the front.
+pub fn read_full(process: &mut Process, buffer: &mut [u8]) -> usize
+    ensures in_bounds { result ≤ length buffer.new }
+    ensures lost_unchanged { process.new.lost ≡ process.old.lost }
+{
+    let mut done = 0;
+    while done < buffer.len() {
+        let n = read(process, &mut buffer[done..]).unwrap_or(0);
+        if n == 0 {
+            return done;
+        }
+        done += n;
+    }
+    done
+}
+
+// Writes a text to standard output, all of it or as far as it goes.
+pub fn write(process: &Process, text: &[u8]) -> io::Result<()> {
+    process.rt.write_all(text)
+}
+
+// Writes a text to standard output. Where that fails nothing is written behind what is lost, and `end` sees it.
+pub fn say(process: &mut Process, text: &[u8]) -> bool
+    ensures { process.new.lost ≡ not result }
+{
+    if process.lost {
+        return false;
+    }
+    let ok = process.rt.write_all(text).is_ok();
+    process.lost = !ok;
     ok
 }
 
 // Writes a number, likewise.
-pub fn say_decimal(n: u64) -> bool {
-    let ok = io::print_decimal(STDOUT_FILENO, n);
-    if !ok {
-        libc::close(STDOUT_FILENO);
+pub fn say_decimal(process: &mut Process, n: u64) -> bool
+    ensures { process.new.lost ≡ not result }
+{
+    if process.lost {
+        return false;
     }
+    let ok = process.rt.print(n).is_ok();
+    process.lost = !ok;
     ok
 }
 
+// Writes a text to standard error. Where that fails there is no one to tell.
+pub fn tell(process: &Process, text: &[u8]) {
+    let _ = process.rt.stderr().write_all(text);
+}
+
+// Writes a number, likewise.
+pub fn tell_decimal(process: &Process, n: u64) {
+    let _ = process.rt.stderr().print(n);
+}
+
 // A line on standard error: the program's name and what is wrong.
-pub fn complain(name: &[u8], what: &[u8]) {
-    io::write_all(STDERR_FILENO, name);
-    io::write_all(STDERR_FILENO, b": ");
-    io::write_all(STDERR_FILENO, what);
-    io::write_all(STDERR_FILENO, b"\n");
+pub fn complain(process: &Process, name: &[u8], what: &[u8]) {
+    tell(process, name);
+    tell(process, b": ");
+    tell(process, what);
+    tell(process, b"\n");
+}
+
+// A line on standard error: the program's name, what failed, and why.
+pub fn fail(process: &Process, name: &[u8], what: &[u8], why: io::Error) {
+    tell(process, name);
+    tell(process, b": ");
+    tell(process, what);
+    tell(process, b": ");
+    let mut text = [0u8; 256];
+    tell(process, reason::reason(why, &mut text).as_bytes());
+    tell(process, b"\n");
+}
+
+// The line that says why standard input could not be read.
+pub fn tell_unread(process: &Process, name: &[u8]) {
+    if let Some(why) = process.unread {
+        fail(process, name, b"standard input", why);
+    }
 }
 
 // Whether standard input has ended. What ended the reading before this may have been a failure, or a buffer that is full: that is said.
-pub fn is_at_end(name: &[u8]) -> bool {
+pub fn is_at_end(process: &mut Process, name: &[u8]) -> bool
+    ensures { process.new.lost ≡ process.old.lost }
+{
     let mut one = [0u8; 1];
-    let got = libc::read(libc::STDIN_FILENO, &mut one);
-    if got < 0 {
-        io::write_all(STDERR_FILENO, name);
-        os::fail(b": standard input");
-    }
-    if 0 < got {
-        complain(
-            name,
-            b"standard input has a line, or is a list, of over 65,536 bytes",
-        );
-    }
-    got == 0
-}
-
-fn write_status(a: Asked, text: &[u8]) {
-    let launched = a.launched;
-    if launched {
-        io::write_all(3, text);
+    match read(process, &mut one) {
+        Some(0) => true,
+        Some(_) => {
+            complain(
+                process,
+                name,
+                b"standard input has a line, or is a list, of over 65,536 bytes",
+            );
+            false
+        }
+        None => {
+            tell_unread(process, name);
+            false
+        }
     }
 }
 
-// The last act of a program: standard output is closed, and the launcher is told how it went.
-pub fn end(a: Asked, name: &[u8], ok: bool) {
-    let written = libc::close(STDOUT_FILENO) == 0;
-    if ok & !written {
-        complain(name, b"standard output could not be written");
-    }
-    if ok & written {
-        write_status(a, b"0\n");
-    } else {
-        write_status(a, b"1\n");
+// ---- the end
+
+// What `main` answers.
+pub fn exit_code(status: Status) -> ExitCode
+    ensures { exit_status result ≡ status_number status }
+{
+    match status {
+        Status::Done => ExitCode::from(0),
+        Status::Failed => ExitCode::from(1),
+        Status::Misused => ExitCode::from(2),
     }
 }
 
-// The line on standard error about an argument that is not known, and the usage.
-fn refuse(a: Asked, name: &[u8], usage: &[u8], i: usize) {
-    let mut text = io::buffer();
-    let n = os::arg(i, &mut text);
-    io::write_all(STDERR_FILENO, name);
-    io::write_all(STDERR_FILENO, b": unknown argument '");
-    io::write_all(STDERR_FILENO, &text[0..n]);
-    io::write_all(STDERR_FILENO, b"'\n");
-    io::write_all(STDERR_FILENO, usage);
-    write_status(a, b"2\n");
+// The last act of a program: something is said where standard output is lost and nothing else has failed.
+pub fn end(process: &Process, name: &[u8], ok: bool) -> Status
+    ensures { result ≡ ended ok process.now.lost }
+{
+    if !ok {
+        return Status::Failed;
+    }
+    if process.lost {
+        complain(process, name, b"standard output could not be written");
+        return Status::Failed;
+    }
+    Status::Done
+}
+
+// The line on standard error about an argument that is not known, and the usage. One that is longer than the buffer is not shown.
+fn refuse(process: &Process, name: &[u8], usage: &[u8], i: usize) -> Status
+    ensures { result ≡ Misused }
+{
+    let mut text = [0u8; 4096];
+    let n = argument(process, i, &mut text).unwrap_or(0);
+    tell(process, name);
+    tell(process, b": unknown argument '");
+    tell(process, &text[0..n]);
+    tell(process, b"'\n");
+    tell(process, usage);
+    Status::Misused
 }
 
 // The line on standard error about arguments that are known and do not go together, and the usage.
-pub fn misused(a: Asked, name: &[u8], what: &[u8], usage: &[u8]) {
-    complain(name, what);
-    io::write_all(STDERR_FILENO, usage);
-    write_status(a, b"2\n");
+pub fn misused(process: &Process, name: &[u8], what: &[u8], usage: &[u8]) -> Status
+    ensures { result ≡ Misused }
+{
+    complain(process, name, what);
+    tell(process, usage);
+    Status::Misused
 }
 
-// Does what is asked for in place of a run, if anything is. Answers whether the program is to run.
-pub fn starts(a: Asked, name: &[u8], usage: &[u8], help: &[u8]) -> bool {
+// Does what is asked for in place of a run, if anything is. Answers how the program then ends; nothing where it is to run.
+pub fn starts(
+    process: &mut Process,
+    a: Asked,
+    name: &[u8],
+    usage: &[u8],
+    help: &[u8],
+) -> Option<Status> {
     let wish = a.wish;
     match wish {
-        Wish::Run => true,
+        Wish::Run => None,
         Wish::Help => {
-            say(usage);
-            say(help);
-            end(a, name, true);
-            false
+            say(process, usage);
+            say(process, help);
+            Some(end(process, name, true))
         }
         Wish::Version => {
-            say(name);
-            say(b" (Khamdoriem) 0.2.0\n");
-            end(a, name, true);
-            false
+            say(process, name);
+            say(process, b" (Khamdoriem) 0.2.0\n");
+            Some(end(process, name, true))
         }
-        Wish::Unknown(i) => {
-            refuse(a, name, usage, i);
-            false
-        }
+        Wish::Unknown(i) => Some(refuse(process, name, usage, i)),
     }
 }

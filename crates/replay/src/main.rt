@@ -2,8 +2,8 @@
 ghost use Rattle.std.specs.Prelude.{◌≡◌, ◌≤◌, length};
 
 use case_text::words::say_number;
-use libc::STDIN_FILENO;
-use program::Takes;
+use program::{Process, Status, Takes};
+use std::process::ExitCode;
 
 // How many cases of each service there were, and how many differed.
 #[derive(Clone, Copy)]
@@ -66,11 +66,11 @@ fn counted(t: Tally, service: u8, met: bool) -> Tally {
     next
 }
 
-fn replay_case(t: Tally, text: &[u8], at: u64) -> Tally {
+fn replay_case(process: &mut Process, t: Tally, text: &[u8], at: u64) -> Tally {
     let service = if text.len() == 0 { b' ' } else { text[0] };
     let met = is_met(text, service);
     if !met {
-        say_number(b"differs: case ", at, b"\n");
+        say_number(process, b"differs: case ", at, b"\n");
     }
     counted(t, service, met)
 }
@@ -83,19 +83,19 @@ struct State {
     used: usize,
 }
 
-fn one_case(s: State, text: &[u8], used: usize) -> State
+fn one_case(process: &mut Process, s: State, text: &[u8], used: usize) -> State
     ensures { result.used ≡ used }
 {
     let cases = one_more(s.cases);
     State {
-        tally: replay_case(s.tally, text, cases),
+        tally: replay_case(process, s.tally, text, cases),
         cases,
         used,
     }
 }
 
 // Replays the lines that end within the text; `used` is then where the rest starts.
-fn replay_lines(s: State, text: &[u8]) -> State
+fn replay_lines(process: &mut Process, s: State, text: &[u8]) -> State
     ensures { result.used ≤ length text.now }
 {
     let mut t = one_start(s);
@@ -105,7 +105,7 @@ fn replay_lines(s: State, text: &[u8]) -> State
         if end == text.len() {
             return t;
         }
-        t = one_case(t, &text[at..end], end + 1);
+        t = one_case(process, t, &text[at..end], end + 1);
         at = end + 1;
     }
 }
@@ -142,14 +142,14 @@ struct Turn {
     more: bool,
 }
 
-fn one_read(s: State, buffer: &mut [u8]) -> Turn
+fn one_read(process: &mut Process, s: State, buffer: &mut [u8]) -> Turn
     requires { s.used ≤ length buffer.old }
     ensures { result.state.used ≤ length buffer.old }
 {
     let used = s.used;
-    let n = io::read_full(STDIN_FILENO, &mut buffer[used..]);
+    let n = program::read_full(process, &mut buffer[used..]);
     let end = used + n;
-    let t = replay_lines(s, &buffer[0..end]);
+    let t = replay_lines(process, s, &buffer[0..end]);
     let tally = t.tally;
     let state = State {
         tally,
@@ -163,7 +163,7 @@ fn one_read(s: State, buffer: &mut [u8]) -> Turn
 }
 
 // A proved loop has to end, and nothing says that the input does: the turns count down from a number that no run uses up.
-fn replay(buffer: &mut [u8]) -> Tally {
+fn replay(process: &mut Process, buffer: &mut [u8]) -> Tally {
     let mut s = State {
         tally: Tally {
             read: 0,
@@ -177,34 +177,42 @@ fn replay(buffer: &mut [u8]) -> Tally {
     let mut more = true;
     let mut turns = u64::MAX;
     while turns > 0 && more {
-        let t = one_read(s, buffer);
+        let t = one_read(process, s, buffer);
         s = t.state;
         more = t.more;
         turns -= 1;
     }
     let used = s.used;
     if used > 0 {
-        s = one_case(s, &buffer[0..used], 0);
+        s = one_case(process, s, &buffer[0..used], 0);
     }
     s.tally
 }
 
-fn main() {
-    let a = program::arguments(Takes {
-        forms: false,
-        places: false,
-    });
+fn run(process: &mut Process) -> Status {
+    let a = program::arguments(
+        process,
+        Takes {
+            forms: false,
+            places: false,
+        },
+    );
     let help =
         *b"\nCalls what each line of standard input says, and compares the answers with the line's.\n";
-    if !program::starts(a, b"replay", b"usage: replay < FILE\n", &help) {
-        return;
+    let usage = *b"usage: replay < FILE\n";
+    if let Some(status) = program::starts(process, a, b"replay", &usage, &help) {
+        return status;
     }
-    let mut buffer = io::large_buffer();
-    let t = replay(&mut buffer);
-    let whole = program::is_at_end(b"replay");
-    say_number(b"replay: ", t.read, b" readings, ");
-    say_number(b"", t.printed, b" printed, ");
-    say_number(b"", t.looked, b" looked up; ");
-    say_number(b"", t.differ, b" differ\n");
-    program::end(a, b"replay", whole & (t.differ == 0));
+    let mut buffer = [0u8; 65536];
+    let t = replay(process, &mut buffer);
+    let whole = program::is_at_end(process, b"replay");
+    say_number(process, b"replay: ", t.read, b" readings, ");
+    say_number(process, b"", t.printed, b" printed, ");
+    say_number(process, b"", t.looked, b" looked up; ");
+    say_number(process, b"", t.differ, b" differ\n");
+    program::end(process, b"replay", whole & (t.differ == 0))
+}
+
+fn main(rt: HostRuntime) -> ExitCode {
+    program::exit_code(run(&mut Process::new(rt)))
 }

@@ -1,6 +1,10 @@
 // Shows a site's settings file as text.
+use program::Process;
+use std::process::ExitCode;
 
-fn main() {
+fn main(rt: HostRuntime) -> ExitCode {
+    let mut process = Process::new(rt);
     let mut file = [0u8; 65568];
-    settings_words::show(&mut file);
+    let status = settings_words::show(&mut process, &mut file);
+    program::exit_code(status)
 }

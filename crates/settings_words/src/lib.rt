@@ -1,14 +1,12 @@
 // A site's settings file for a person: each record shown as a line, and a record written from words.
-ghost use Rattle.std.specs.Prelude.{◌≡◌, ◌+◌, ◌-◌, ◌≤◌, ◌<◌, ◌^◌, length};
+ghost use Rattle.std.specs.Prelude.{◌≡◌, ◌+◌, ◌-◌, ◌≤◌, ◌<◌, ◌^◌, length, take};
 ghost use Rattle.std.proofs.Math.IntN.{sub_ℕ};
-ghost use Rattle.io.specs.Counts.{IsPrefixLen};
 ghost use Rattle.settings.specs.Record.{record_size, host_room};
 ghost use Rattle.settings.specs.File.{gate_of};
 ghost use Rattle.settings_words.specs.Words.{Last, number_of, sign_len, no_offset, minutes_of, offset_of, last_variant, first_bad};
 
 use digits::Number;
-use libc::STDIN_FILENO;
-use program::{Asked, Takes, Wish};
+use program::{Process, Status, Takes, Wish};
 use record::Written;
 use settings::SettingsAnswer;
 
@@ -66,110 +64,123 @@ fn is_last(rest: &[u8], gate: u32) -> bool
     answer.number == 9
 }
 
-fn say_named(name: &[u8], n: u32) {
-    program::say(name);
-    program::say_decimal(n as u64);
+fn say_named(process: &mut Process, name: &[u8], n: u32) {
+    program::say(process, name);
+    program::say_decimal(process, n as u64);
 }
 
 // Minutes with their sign, if they are negative.
-fn say_offset(offset: i32) {
-    program::say(b" offset ");
+fn say_offset(process: &mut Process, offset: i32) {
+    program::say(process, b" offset ");
     let minutes = base::split(base::widen(offset));
     if 0 < minutes.down {
-        program::say(b"-");
-        program::say_decimal(minutes.down);
+        program::say(process, b"-");
+        program::say_decimal(process, minutes.down);
         return;
     }
-    program::say_decimal(minutes.up);
+    program::say_decimal(process, minutes.up);
 }
 
 // The host of a record. None has words of its own: a host may be `-`.
-fn say_host(bytes: &[u8], len: usize)
+fn say_host(process: &mut Process, bytes: &[u8], len: usize)
     requires bytes_len { length bytes.now ≡ record_size }
     requires len_le_host_room { len ≤ host_room }
 {
     if len == 0 {
-        program::say(b" no host");
+        program::say(process, b" no host");
         return;
     }
-    program::say(b" host ");
-    program::say(&bytes[8..8 + len]);
+    program::say(process, b" host ");
+    program::say(process, &bytes[8..8 + len]);
 }
 
-fn say_settings(bytes: &[u8], s: SettingsAnswer)
+fn say_settings(process: &mut Process, bytes: &[u8], s: SettingsAnswer)
     requires bytes_len { length bytes.now ≡ record_size }
     requires host_len_bound { s.host_len ≤ host_room }
 {
-    say_named(b" version ", s.version);
-    say_named(b" year ", s.year);
-    say_offset(s.offset);
-    say_named(b" variant ", s.variant);
-    say_host(bytes, s.host_len);
+    say_named(process, b" version ", s.version);
+    say_named(process, b" year ", s.year);
+    say_offset(process, s.offset);
+    say_named(process, b" variant ", s.variant);
+    say_host(process, bytes, s.host_len);
 }
 
 // What the reader answers to a record by itself.
-fn say_answer(bytes: &[u8], gate: u32)
+fn say_answer(process: &mut Process, bytes: &[u8], gate: u32)
     requires { length bytes.now ≡ record_size }
 {
     let answer = settings::khamdoriem_settings_read(bytes, gate);
     if answer.number == 0 {
-        say_settings(bytes, answer);
+        say_settings(process, bytes, answer);
     } else {
-        say_named(b" refuse ", answer.number);
+        say_named(process, b" refuse ", answer.number);
     }
-    program::say(b"\n");
+    program::say(process, b"\n");
 }
 
 // The line of a record, which is the `number`th and has `rest` behind it.
-fn show_record(number: usize, bytes: &[u8], rest: &[u8])
+fn show_record(process: &mut Process, number: usize, bytes: &[u8], rest: &[u8])
     requires { length bytes.now ≡ record_size }
 {
     let gate = gate_of(bytes);
-    program::say_decimal(number as u64);
-    say_named(b" gate ", gate);
+    program::say_decimal(process, number as u64);
+    say_named(process, b" gate ", gate);
     if is_last(rest, gate) {
-        program::say(b" counts");
+        program::say(process, b" counts");
     } else {
-        program::say(b" replaced");
+        program::say(process, b" replaced");
     }
-    say_answer(bytes, gate);
+    say_answer(process, bytes, gate);
 }
 
-fn show_records(file: &[u8]) {
+fn show_records(process: &mut Process, file: &[u8]) {
     let mut at = 0;
     while settings::RECORD_SIZE <= file.len() - at {
         let end = at + settings::RECORD_SIZE;
-        show_record(end / settings::RECORD_SIZE, &file[at..end], &file[end..]);
+        show_record(
+            process,
+            end / settings::RECORD_SIZE,
+            &file[at..end],
+            &file[end..],
+        );
         at = end;
     }
 }
 
 // Whether standard input, of which this came, is a settings file, and shows it.
-fn is_shown(file: &[u8]) -> bool {
+fn is_shown(process: &mut Process, file: &[u8]) -> bool {
     if FILE_LIMIT < file.len() {
-        program::complain(b"settings", b"standard input has over 65,536 bytes");
+        program::complain(
+            process,
+            b"settings",
+            b"standard input has over 65,536 bytes",
+        );
         return false;
     }
-    if !program::is_at_end(b"settings") {
+    if !program::is_at_end(process, b"settings") {
         return false;
     }
     if file.len() % settings::RECORD_SIZE != 0 {
         program::complain(
+            process,
             b"settings",
             b"standard input is no settings file: its length is no multiple of 32",
         );
         return false;
     }
-    show_records(file);
+    show_records(process, file);
     true
 }
 
 // What `./settings` does in memory that it is lent, which is longer than the longest file.
-pub fn show(file: &mut [u8]) {
-    let a = program::arguments(Takes {
-        forms: false,
-        places: false,
-    });
+pub fn show(process: &mut Process, file: &mut [u8]) -> Status {
+    let a = program::arguments(
+        process,
+        Takes {
+            forms: false,
+            places: false,
+        },
+    );
     let help = *b"\nWrites a line for each record of a site's settings file, 32 bytes each:\n\
         \x20   N gate G counts version V year Y offset MINUTES variant P host HOST\n\
         N is the number of the record, from 1. In place of 'counts' stands 'replaced' where\n\
@@ -180,11 +191,13 @@ pub fn show(file: &mut [u8]) {
         Exit status: 0 all is shown; 1 standard input is no multiple of 32 bytes or has\n\
         over 65,536, or reading or writing failed, and standard error says which; 2 an\n\
         argument is not known.\n";
-    if !program::starts(a, b"settings", b"usage: ./settings < FILE\n", &help) {
-        return;
+    let usage = *b"usage: ./settings < FILE\n";
+    if let Some(status) = program::starts(process, a, b"settings", &usage, &help) {
+        return status;
     }
-    let n = io::read_full(STDIN_FILENO, file);
-    program::end(a, b"settings", is_shown(&file[0..n]));
+    let n = program::read_full(process, file);
+    let ok = is_shown(process, &file[0..n]);
+    program::end(process, b"settings", ok)
 }
 
 // ---- writing
@@ -283,44 +296,49 @@ fn first_bad(w: Words) -> Field
 }
 
 // How many bytes of the `i`th argument are in `text`: all of `text` where it is longer.
-fn word_len(i: usize, text: &mut [u8]) -> usize
-    ensures { IsPrefixLen result text.new }
+fn word_len(process: &Process, i: usize, text: &mut [u8]) -> usize
+    ensures in_bounds { result ≤ length text.new }
+    ensures prefix { result ≡ length (take result text.new) }
 {
-    let n = os::arg(i, text);
-    if os::errno() == 0 {
-        return n;
+    match program::argument(process, i, text) {
+        Ok(n) => n,
+        Err(_) => text.len(),
     }
-    io::count(isize::MAX, text)
 }
 
-fn number_at(i: usize) -> u32 {
+fn number_at(process: &Process, i: usize) -> u32 {
     let mut text = [0u8; 64];
-    let n = word_len(i, &mut text);
+    let n = word_len(process, i, &mut text);
     number_of(&text[0..n])
 }
 
-fn offset_at(i: usize) -> i32 {
+fn offset_at(process: &Process, i: usize) -> i32 {
     let mut text = [0u8; 64];
-    let n = word_len(i, &mut text);
+    let n = word_len(process, i, &mut text);
     offset_of(&text[0..n])
 }
 
 // Says which word is wrong, and what it may be.
-fn refuse(a: Asked, f: Field, usage: &[u8]) {
+fn refuse(process: &Process, f: Field, usage: &[u8]) -> Status {
     let name = *b"settings-write";
     match f {
-        Field::Version => program::misused(a, &name, b"VERSION is 1 or 2", usage),
-        Field::Gate => program::misused(a, &name, b"GATE is 0 to 65535", usage),
-        Field::Year => program::misused(a, &name, b"YEAR is 0 to 9999", usage),
-        Field::Offset => program::misused(a, &name, b"OFFSET is -1439 to 1439, in minutes", usage),
+        Field::Version => program::misused(process, &name, b"VERSION is 1 or 2", usage),
+        Field::Gate => program::misused(process, &name, b"GATE is 0 to 65535", usage),
+        Field::Year => program::misused(process, &name, b"YEAR is 0 to 9999", usage),
+        Field::Offset => program::misused(
+            process,
+            &name,
+            b"OFFSET is -1439 to 1439, in minutes",
+            usage,
+        ),
         Field::Variant => program::misused(
-            a,
+            process,
             &name,
             b"VARIANT is 0 to 2, and in version 1 it is 0",
             usage,
         ),
         Field::Host => program::misused(
-            a,
+            process,
             &name,
             b"HOST has at most 20 bytes, each of them 33 to 126",
             usage,
@@ -329,29 +347,30 @@ fn refuse(a: Asked, f: Field, usage: &[u8]) {
 }
 
 // Writes the record of the words and of a host, which may be empty.
-fn write_record(a: Asked, w: Words, host: &[u8], usage: &[u8]) {
+fn write_record(process: &mut Process, w: Words, host: &[u8], usage: &[u8]) -> Status {
     let mut text = [0u8; 32];
     let written = settings::write(
         w.version, w.gate, w.year, w.offset, w.variant, host, &mut text,
     );
     match written {
-        Written::Refused(_) => refuse(a, first_bad(w), usage),
+        Written::Refused(_) => refuse(process, first_bad(w), usage),
         Written::Done(_) => {
-            program::say(&text);
-            program::end(a, b"settings-write", true);
+            program::say(process, &text);
+            program::end(process, b"settings-write", true)
         }
     }
 }
 
 // The same of the host, which is none where there are five words.
-fn host_len(i: usize, count: usize, text: &mut [u8]) -> usize
+fn host_len(process: &Process, i: usize, count: usize, text: &mut [u8]) -> usize
     requires { i + count < 2 ^ 64 }
-    ensures { IsPrefixLen result text.new }
+    ensures in_bounds { result ≤ length text.new }
+    ensures prefix { result ≡ length (take result text.new) }
 {
     if count < 6 {
         return 0;
     }
-    word_len(i + 5, text)
+    word_len(process, i + 5, text)
 }
 
 // How many words there are from the `i`th argument on, of `n`.
@@ -365,32 +384,40 @@ fn words_from(i: usize, n: usize) -> usize
 }
 
 // Writes the record of the words from the `i`th argument on, of `count`.
-fn write_words(a: Asked, i: usize, count: usize, usage: &[u8])
+fn write_words(process: &mut Process, i: usize, count: usize, usage: &[u8]) -> Status
     requires le_count { 5 ≤ count }
     requires count_bound { i + count < 2 ^ 64 }
 {
     let w = Words {
-        version: number_at(i),
-        gate: number_at(i + 1),
-        year: number_at(i + 2),
-        offset: offset_at(i + 3),
-        variant: number_at(i + 4),
+        version: number_at(process, i),
+        gate: number_at(process, i + 1),
+        year: number_at(process, i + 2),
+        offset: offset_at(process, i + 3),
+        variant: number_at(process, i + 4),
     };
     let mut host = [0u8; 64];
-    let n = host_len(i, count, &mut host);
-    write_record(a, w, &host[0..n], usage);
+    let n = host_len(process, i, count, &mut host);
+    write_record(process, w, &host[0..n], usage)
 }
 
-fn miscounted(a: Asked, usage: &[u8]) {
-    program::misused(a, b"settings-write", b"5 or 6 words are asked for", usage);
+fn miscounted(process: &Process, usage: &[u8]) -> Status {
+    program::misused(
+        process,
+        b"settings-write",
+        b"5 or 6 words are asked for",
+        usage,
+    )
 }
 
 // What `./settings-write` does.
-pub fn write() {
-    let a = program::arguments(Takes {
-        forms: false,
-        places: false,
-    });
+pub fn write(process: &mut Process) -> Status {
+    let a = program::arguments(
+        process,
+        Takes {
+            forms: false,
+            places: false,
+        },
+    );
     let usage = *b"usage: ./settings-write VERSION GATE YEAR OFFSET VARIANT [HOST] >> FILE\n";
     let help = *b"\nWrites one record of a site's settings file, 32 bytes, to standard output:\n\
         \x20   VERSION   1 or 2\n\
@@ -406,19 +433,17 @@ pub fn write() {
         nothing is written, and standard error says which one is wrong.\n";
     let wish = a.wish;
     let Wish::Unknown(i) = wish else {
-        if program::starts(a, b"settings-write", &usage, &help) {
-            miscounted(a, &usage);
+        if let Some(status) = program::starts(process, a, b"settings-write", &usage, &help) {
+            return status;
         }
-        return;
+        return miscounted(process, &usage);
     };
-    let count = words_from(i, os::arg_count());
+    let count = words_from(i, program::argument_count(process));
     if count < 5 {
-        miscounted(a, &usage);
-        return;
+        return miscounted(process, &usage);
     }
     if 6 < count {
-        miscounted(a, &usage);
-        return;
+        return miscounted(process, &usage);
     }
-    write_words(a, i, count, &usage);
+    write_words(process, i, count, &usage)
 }

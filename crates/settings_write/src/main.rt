@@ -1,5 +1,9 @@
 // Writes a record of a site's settings file from words.
+use program::Process;
+use std::process::ExitCode;
 
-fn main() {
-    settings_words::write();
+fn main(rt: HostRuntime) -> ExitCode {
+    let mut process = Process::new(rt);
+    let status = settings_words::write(&mut process);
+    program::exit_code(status)
 }

@@ -9,7 +9,7 @@ ghost use Rattle.tallier.specs.Text.{cell_text, row_text, tally_text};
 ghost use Rattle.tallier.specs.Frames.{told_of, TalliesReading, Tallies, Onward};
 
 use frames::{Options, State, Task};
-use program::Takes;
+use program::{Process, Status, Takes};
 use record::{Refusal, StrictReading};
 use tally::Added;
 
@@ -114,11 +114,12 @@ pub fn put_tally(out: &mut [u8; 8192], tally: &[[u32; 9]; 25]) -> usize
 // ---- the program
 
 // Says that the tally refused a record. Answers whether it did not.
-fn said_of(told: Tallied) -> bool {
+fn said_of(process: &Process, told: Tallied) -> bool {
     match told {
         Tallied::Refused(f) => {
             let n = record::refusal_number(f);
             frames::complain(
+                process,
                 b"tally",
                 b": the tally refuses a record with ",
                 n,
@@ -131,20 +132,21 @@ fn said_of(told: Tallied) -> bool {
 }
 
 // Says why the input has ended too early.
-fn report(task: Task) {
+fn report(process: &Process, task: Task) {
     match task {
         Task::End(n) => frames::complain(
+            process,
             b"tally",
             b": the stream is refused with ",
             n,
             b", and nothing is tallied behind it\n",
         ),
-        _ => frames::report(b"tally", task),
+        _ => frames::report(process, b"tally", task),
     }
 }
 
 // What is to be done behind a turn.
-fn done(tally: &mut [[u32; 9]; 25], line: &[u8], s: State) -> State
+fn done(process: &Process, tally: &mut [[u32; 9]; 25], line: &[u8], s: State) -> State
     requires { to_read s.task ≤ length line.now }
     ensures keeps { Keeps s result }
     ensures onward { Onward tally.old tally.new }
@@ -152,47 +154,67 @@ fn done(tally: &mut [[u32; 9]; 25], line: &[u8], s: State) -> State
     if frames::is_read(s) {
         let n = frames::to_read(s);
         let told = add_frame(tally, &line[0..n]);
-        return frames::kept(s, said_of(told));
+        return frames::kept(s, said_of(process, told));
     }
     let task = s.task;
-    report(task);
+    report(process, task);
     frames::kept(s, true)
 }
 
-fn turn(line: &mut [u8], chunk: &mut [u8], tally: &mut [[u32; 9]; 25], s: State) -> State
+fn turn(
+    process: &mut Process,
+    line: &mut [u8],
+    chunk: &mut [u8],
+    tally: &mut [[u32; 9]; 25],
+    s: State,
+) -> State
     requires got_in_bounds { s.got ≤ length chunk.old }
     requires left_nonzero { 0 < s.left }
     ensures got_in_bounds_2 { result.got ≤ length chunk.old }
     ensures left_lt_left { result.left < s.left }
     ensures onward { Onward tally.old tally.new }
 {
-    let t = frames::advance(line, chunk, s);
-    done(tally, line, t)
+    let t = frames::advance(process, line, chunk, s);
+    done(process, tally, line, t)
 }
 
 // Tallies all frames of the input. Answers whether nothing failed.
-pub fn run(line: &mut [u8], chunk: &mut [u8], tally: &mut [[u32; 9]; 25], options: Options) -> bool
+pub fn run(
+    process: &mut Process,
+    line: &mut [u8],
+    chunk: &mut [u8],
+    tally: &mut [[u32; 9]; 25],
+    options: Options,
+) -> bool
     ensures { Onward tally.old tally.new }
 {
     let mut s = frames::start(options);
     while 0 < s.left {
-        s = turn(line, chunk, tally, s);
+        s = turn(process, line, chunk, tally, s);
     }
     s.ok
 }
 
-fn write_front(text: &[u8], n: usize) -> bool
+fn write_front(process: &Process, text: &[u8], n: usize) -> bool
     requires { n ≤ length text.now }
 {
-    frames::write(b"tally", &text[0..n])
+    frames::write(process, b"tally", &text[0..n])
 }
 
 // What `./tally` does in memory that it is lent: what its arguments ask for. Behind the input its line buffer holds what is written.
-pub fn tally_input(line: &mut [u8; 8192], chunk: &mut [u8], tally: &mut [[u32; 9]; 25]) {
-    let a = program::arguments(Takes {
-        forms: true,
-        places: false,
-    });
+pub fn tally_input(
+    process: &mut Process,
+    line: &mut [u8; 8192],
+    chunk: &mut [u8],
+    tally: &mut [[u32; 9]; 25],
+) -> Status {
+    let a = program::arguments(
+        process,
+        Takes {
+            forms: true,
+            places: false,
+        },
+    );
     let usage = *b"usage: ./tally [--crlf | --counted] < FILE\n";
     let help =
         *b"\nCounts the lines of standard input that the strict reader of RFC 5424 reads, by\n\
@@ -209,11 +231,11 @@ pub fn tally_input(line: &mut [u8; 8192], chunk: &mut [u8], tally: &mut [[u32; 9
         stream ends in a frame, or a cell is full, and standard error says which (what came\n\
         before is tallied and written); 2 an argument is not known, or both of the above\n\
         are given.\n";
-    if !frames::starts(a, b"tally", &usage, &help) {
-        return;
+    if let Some(status) = frames::starts(process, a, b"tally", &usage, &help) {
+        return status;
     }
-    let ok = run(line, chunk, tally, frames::options_of(a));
+    let ok = run(process, line, chunk, tally, frames::options_of(a));
     let n = put_tally(line, tally);
-    let written = write_front(line, n);
-    program::end(a, b"tally", ok & written);
+    let written = write_front(process, line, n);
+    program::end(process, b"tally", ok & written)
 }

@@ -1,8 +1,12 @@
 // Tallies standard input by the strict reader.
+use program::Process;
+use std::process::ExitCode;
 
-fn main() {
+fn main(rt: HostRuntime) -> ExitCode {
+    let mut process = Process::new(rt);
     let mut line = [0u8; record::LINE_LIMIT];
     let mut chunk = [0u8; 65536];
     let mut tally = [[0u32; 9]; 25];
-    tallier::tally_input(&mut line, &mut chunk, &mut tally);
+    let status = tallier::tally_input(&mut process, &mut line, &mut chunk, &mut tally);
+    program::exit_code(status)
 }

@@ -1,24 +1,25 @@
 // Reads one line of a gate's reader by the loose rules, at year 2023 and +60, and writes its instant and the line as it is printed.
-use program::Takes;
+use program::{Process, Status, Takes};
 use record::{Reading, Record, Stamp, Written};
+use std::process::ExitCode;
 
-fn write_seconds(r: Record) -> bool {
+fn write_seconds(process: &mut Process, r: Record) -> bool {
     let stamp = r.timestamp;
     let Stamp::Stamped(t) = stamp else {
         return false;
     };
     let seconds = base::split(t.seconds);
-    program::say_decimal(seconds.up) & program::say(b"\n")
+    program::say_decimal(process, seconds.up) & program::say(process, b"\n")
 }
 
-fn write_printed(w: Written, out: &[u8]) -> bool {
+fn write_printed(process: &mut Process, w: Written, out: &[u8]) -> bool {
     let Written::Done(n) = w else {
         return false;
     };
     if out.len() < n {
         return false;
     }
-    program::say(&out[0..n]) & program::say(b"\n")
+    program::say(process, &out[0..n]) & program::say(process, b"\n")
 }
 
 // Reads a line with a parameter table of its own.
@@ -48,7 +49,7 @@ fn print_line(
 }
 
 // Whether the line was read, and all was written.
-fn show() -> bool {
+fn show(process: &mut Process) -> bool {
     let line = *b"<13>Feb  5 10:01:02 gate7 reader[42]: tap ok";
     let mut elements = [[0usize; 2]; 4];
     let mut out = [0u8; 128];
@@ -56,24 +57,32 @@ fn show() -> bool {
     let Reading::Read(r, e, _) = reading else {
         return false;
     };
-    let timed = write_seconds(r);
+    let timed = write_seconds(process, r);
     let w = print_line(&line, r, e, &elements, &mut out);
-    timed & write_printed(w, &out)
+    timed & write_printed(process, w, &out)
 }
 
-fn main() {
-    let a = program::arguments(Takes {
-        forms: false,
-        places: false,
-    });
+fn run(process: &mut Process) -> Status {
+    let a = program::arguments(
+        process,
+        Takes {
+            forms: false,
+            places: false,
+        },
+    );
     let help =
         *b"\nReads one line of a gate that it holds, and writes its instant and the line as it is printed.\n";
-    if !program::starts(a, b"tap_line", b"usage: tap_line\n", &help) {
-        return;
+    let usage = *b"usage: tap_line\n";
+    if let Some(status) = program::starts(process, a, b"tap_line", &usage, &help) {
+        return status;
     }
-    let ok = show();
+    let ok = show(process);
     if !ok {
-        program::complain(b"tap_line", b"the line was not read and written");
+        program::complain(process, b"tap_line", b"the line was not read and written");
     }
-    program::end(a, b"tap_line", ok);
+    program::end(process, b"tap_line", ok)
+}
+
+fn main(rt: HostRuntime) -> ExitCode {
+    program::exit_code(run(&mut Process::new(rt)))
 }
