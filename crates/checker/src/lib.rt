@@ -283,8 +283,7 @@ fn unheld(len: usize) -> u32
 }
 
 // The check of the strict record and the counts that the 248 bytes hold, with both tables: 0 if they are the line's reading, else why not.
-#[unsafe(no_mangle)]
-pub extern "C" fn khamdoriem_check_claim(
+pub fn khamdoriem_check_claim(
     line: &[u8],
     memory: &[u8],
     elements: &[[usize; 2]],

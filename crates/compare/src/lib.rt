@@ -167,8 +167,7 @@ fn answer_of(c: Compared) -> CompareAnswer
 }
 
 // The comparison over the C boundary, in numbers.
-#[unsafe(no_mangle)]
-pub extern "C" fn khamdoriem_compare(
+pub fn khamdoriem_compare(
     line1: &[u8],
     line2: &[u8],
     variant: u32,

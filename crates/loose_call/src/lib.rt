@@ -75,8 +75,7 @@ fn leave(r: Reading, memory: &mut [u8]) -> ReadAnswer
 }
 
 // Loose reading: where the number is 0, the record's 216 bytes in `memory`.
-#[unsafe(no_mangle)]
-pub extern "C" fn khamdoriem_read_loose(
+pub fn khamdoriem_read_loose(
     line: &[u8],
     variant: u32,
     year: u32,

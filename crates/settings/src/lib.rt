@@ -410,24 +410,21 @@ fn settings_answer_of(r: SettingsRead) -> SettingsAnswer
 }
 
 // The settings of a gate.
-#[unsafe(no_mangle)]
-pub extern "C" fn khamdoriem_settings_read(file: &[u8], gate: u32) -> SettingsAnswer
+pub fn khamdoriem_settings_read(file: &[u8], gate: u32) -> SettingsAnswer
     ensures { ReadsNumbers last_version file.now gate result }
 {
     settings_answer_of(read(file, gate))
 }
 
 // The same by the reader of version 1.
-#[unsafe(no_mangle)]
-pub extern "C" fn khamdoriem_settings_read_1(file: &[u8], gate: u32) -> SettingsAnswer
+pub fn khamdoriem_settings_read_1(file: &[u8], gate: u32) -> SettingsAnswer
     ensures { ReadsNumbers 1 file.now gate result }
 {
     settings_answer_of(read_version_1(file, gate))
 }
 
 // A record of settings: number and length.
-#[unsafe(no_mangle)]
-pub extern "C" fn khamdoriem_settings_write(
+pub fn khamdoriem_settings_write(
     version: u32,
     gate: u32,
     year: u32,

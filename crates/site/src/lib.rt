@@ -258,8 +258,7 @@ fn leave(r: SiteReading, memory: &mut [u8]) -> SiteAnswer
 }
 
 // Loose reading with settings: where the number is 0, the record's 216 bytes in `memory`.
-#[unsafe(no_mangle)]
-pub extern "C" fn khamdoriem_read_with_settings(
+pub fn khamdoriem_read_with_settings(
     file: &[u8],
     gate: u32,
     line: &[u8],

@@ -62,8 +62,7 @@ fn leave(line: &[u8], r: StrictReading, memory: &mut [u8]) -> ReadAnswer
 }
 
 // Strict reading: where the number is 0, the record's 248 bytes in `memory`.
-#[unsafe(no_mangle)]
-pub extern "C" fn khamdoriem_read_strict(
+pub fn khamdoriem_read_strict(
     line: &[u8],
     elements: &mut [[usize; 2]],
     params: &mut [Param],

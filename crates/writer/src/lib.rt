@@ -288,8 +288,7 @@ pub fn write<'a>(
 }
 
 // The service as a C caller has it: number and length.
-#[unsafe(no_mangle)]
-pub extern "C" fn khamdoriem_write_strict<'a>(
+pub fn khamdoriem_write_strict<'a>(
     text: &'a [u8],
     handed: Handed,
     elements: &'a [[usize; 2]],
