@@ -1,5 +1,5 @@
 use Rattle.std.proofs.Common.{rules}
-use Rattle.utf8.proofs.Passing.{passing_laws}
+use Rattle.utf8.proofs.Passing.{passing_laws, char_more, char_step}
 use Rattle.utf8.proofs.is_utf8.Goals as goal
 
 pub loop-i-init : goal.loop-i-init
@@ -30,13 +30,15 @@ pub returns-then-n-eq0 : goal.returns-then-n-eq0
 returns-then-n-eq0 c = search (passing_laws, rules)
 
 pub overflow_add-i-else-s-i-lt128 : goal.overflow_add-i-else-s-i-lt128
-overflow_add-i-else-s-i-lt128 c = search (passing_laws, rules)
+overflow_add-i-else-s-i-lt128 c =
+    char_step _ _ c.loop-i.invariant c.loop-i-test.true _ c.past.ensures _ c.wide_len-n.ensures (search rules)
 
 pub loop-i-smaller : goal.loop-i-smaller
 loop-i-smaller c = search (passing_laws, rules)
 
 pub loop-i-preserved : goal.loop-i-preserved
-loop-i-preserved c = search (passing_laws, rules)
+loop-i-preserved c =
+    char_more _ _ c.loop-i.invariant c.loop-i-test.true _ c.past.ensures _ c.wide_len-n.ensures c.if-n-eq0.false
 
 pub returns : goal.returns
 returns c = search (passing_laws, rules)

@@ -1,7 +1,8 @@
 use Rattle.std.proofs.Common.{sym, ◌∙◌, arith}
 use Rattle.utf8.specs.Lead.{lead_of}
-use Rattle.utf8.proofs.Leads.{lead_1, lead_2, lead_E1, lead_EE, lead_F1}
+use Rattle.utf8.proofs.Leads.{lead_1, lead_tail, lead_2, lead_E1, lead_EE, lead_F1, lead_past}
 use Rattle.utf8.proofs.lead_of.Goals as goal
+use Rattle.utf8.proofs.lead_of.Goals.{in_default-via-then-b-lt194, in_default-via-else-b-lt194+else-b-lt224+else-b-lt237+else-b-lt240+else-b-lt244}
 
 pub returns-in-224 : goal.returns-in-224
 unfolding lead_of
@@ -33,3 +34,10 @@ returns-in-238-to-239 c = c.asks-in-238-to-239.ensures ∙ sym (lead_EE _ (omega
 
 pub returns-in-241-to-243 : goal.returns-in-241-to-243
 returns-in-241-to-243 c = c.asks-in-241-to-243.ensures ∙ sym (lead_F1 _ (omega arith) (omega arith))
+
+pub returns-in_default : goal.returns-in_default
+returns-in_default c =
+    elim c.in_default.branch [
+      | in_default-via-then-b-lt194 w ↦ c.asks-in_default.ensures ∙ sym (lead_tail _ (omega arith) (omega arith))
+      | in_default-via-else-b-lt194+else-b-lt224+else-b-lt237+else-b-lt240+else-b-lt244 w ↦ c.asks-in_default.ensures ∙ sym (lead_past _ (omega arith))
+    ]
