@@ -1,4 +1,6 @@
 // The check of a claimed reading: whether a strict record, counts and tables are the line's reading, from what was handed in, field after field.
+#![tactic(auto)]
+
 ghost use Rattle.std.specs.Prelude.{◌≡◌, true, false, ◌+◌, ◌≤◌, ◌<◌, ltb, length, take};
 ghost use Rattle.record.specs.Limits.{line_limit};
 ghost use Rattle.record.specs.Params.{row_of, rows};

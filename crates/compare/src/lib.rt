@@ -1,4 +1,6 @@
 // Comparing two lines, both read by the loose exact reader under one set of settings: which fields differ.
+#![tactic(auto)]
+
 ghost use Rattle.std.specs.Prelude.{◌≡◌, ◌&&◌};
 ghost use Rattle.record.specs.Params.{rows};
 ghost use Rattle.loose.specs.Judging.{reading_of};

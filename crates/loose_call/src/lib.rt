@@ -1,4 +1,6 @@
 // Loose reading over the C boundary.
+#![tactic(auto)]
+
 ghost use Rattle.std.specs.Prelude.{◌≡◌, ◌≤◌, length};
 ghost use Rattle.record.specs.Answers.{read_answer_of};
 ghost use Rattle.record.specs.Params.{rows};

@@ -1,4 +1,6 @@
 // The settings file of a site: records of 32 bytes, each with the year, offset, variant and default host of a gate.
+#![tactic(auto)]
+
 ghost use Rattle.std.specs.Prelude.{◌≡◌, true, ◌++◌, ◌+◌, ◌-◌, ◌≤◌, ◌<◌, ◌^◌, length, replicate};
 ghost use Rattle.base.specs.Choose.{within};
 ghost use Rattle.base.specs.Runs.{run};

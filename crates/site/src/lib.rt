@@ -1,4 +1,6 @@
 // Loose reading with the settings of a gate: the host is the line's own where it has one, and else the settings'.
+#![tactic(auto)]
+
 ghost use Rattle.std.specs.Prelude.{◌≡◌, ◌≤◌, length};
 ghost use Rattle.base.specs.Texts.{text_at};
 ghost use Rattle.record.specs.Params.{rows};

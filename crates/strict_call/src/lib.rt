@@ -1,4 +1,6 @@
 // Strict reading over the C boundary. Beside the reader stands the walk that finds where a line broke, and nothing else: what other calls need is compiled apart.
+#![tactic(auto)]
+
 ghost use Rattle.std.specs.Prelude.{◌≡◌, ◌≤◌, length};
 ghost use Rattle.record.specs.Params.{rows};
 ghost use Rattle.record.specs.declared.StrictReading.TheVariants.{Refused};

@@ -1,4 +1,6 @@
 // The tally: how many records of each facility and each severity came in. 25 rows, facilities 0 to 23 and none, of 9 columns, severities 0 to 7 and none.
+#![tactic(auto)]
+
 ghost use Rattle.std.specs.Prelude.{◌≡◌, suc, ◌≤◌, ◌<◌, length};
 ghost use Rattle.tally.specs.Tally.{no_facility, column_count, full, cell, place_of, Adds, row_sum, column_sum, cell_read, row_read, column_read};
 ghost use Rattle.tally.specs.Numbers.{place_in, added_number, cell_answer_of, sum_answer_of, AddsNumbers, cell_read_in, row_read_in, column_read_in, AddsIn};

@@ -1,4 +1,6 @@
 // Printing and lookup over the C boundary.
+#![tactic(auto)]
+
 ghost use Rattle.std.specs.Prelude.{◌≡◌};
 ghost use Rattle.record.specs.Answers.{output_answer_of};
 ghost use Rattle.record.specs.Params.{rows};

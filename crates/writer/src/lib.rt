@@ -1,4 +1,6 @@
 // The writer of strict lines. What is handed in is judged and measured in one walk over both tables, and written in a second one.
+#![tactic(auto)]
+
 ghost use Rattle.std.specs.Prelude.{◌≡◌, true, ◌++◌, ◌+◌, ◌≤◌, ◌<◌, length, take};
 ghost use Rattle.record.specs.Limits.{line_limit};
 ghost use Rattle.record.specs.Params.{rows};
