@@ -1,4 +1,6 @@
 // The Gregorian calendar, seconds since 1970-01-01T00:00:00Z, and the date and clock that they show.
+#![tactic(auto)]
+
 ghost use Rattle.std.specs.Prelude.{◌≡◌, true, ◌≤◌, ◌<◌, pos, ◌*ℤ◌};
 ghost use Rattle.base.specs.Diff.{diff_of};
 ghost use Rattle.calendar.specs.Calendar.{last_year, leap, row, month_days, valid_date, valid_time, valid_offset, valid, year_days, days_before_year, days_of_months, day_number};

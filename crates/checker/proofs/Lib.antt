@@ -3,5 +3,4 @@ pub mod Walking
 pub mod Steps
 pub mod Answers
 pub mod Memories
-pub mod Contracts
 pub mod Examples

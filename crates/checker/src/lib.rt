@@ -1,4 +1,6 @@
 // The check of a claimed reading: whether a strict record, counts and tables are the line's reading, from what was handed in, field after field.
+#![tactic(auto)]
+
 ghost use Rattle.std.specs.Prelude.{◌≡◌, true, false, ◌+◌, ◌≤◌, ◌<◌, ltb, length, take};
 ghost use Rattle.record.specs.Limits.{line_limit};
 ghost use Rattle.record.specs.Params.{row_of, rows};
@@ -283,8 +285,7 @@ fn unheld(len: usize) -> u32
 }
 
 // The check of the strict record and the counts that the 248 bytes hold, with both tables: 0 if they are the line's reading, else why not.
-#[unsafe(no_mangle)]
-pub extern "C" fn khamdoriem_check_claim(
+pub fn khamdoriem_check_claim(
     line: &[u8],
     memory: &[u8],
     elements: &[[usize; 2]],

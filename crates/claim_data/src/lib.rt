@@ -1,5 +1,7 @@
 // The structured data and the message of a claimed reading against the bytes where they are claimed to stand: an entry of a table at a time, whether ids differ, and
 // what is left of the line.
+#![tactic(auto)]
+
 ghost use Rattle.std.specs.Prelude.{◌≡◌, true, false, ◌+◌, ◌-◌, ◌≤◌, ◌<◌, length, get_or, take, drop};
 ghost use Rattle.base.specs.Texts.{all_different};
 ghost use Rattle.record.specs.Limits.{line_limit};

@@ -1,5 +1,7 @@
 // The header of a claimed reading, field after field, against the bytes where each is claimed to stand: the digits of the priority, the version and the instant, and
 // the places of the texts.
+#![tactic(auto)]
+
 ghost use Rattle.std.specs.Prelude.{◌≡◌, true, ◌∷◌, ◌++◌, ◌+◌, ◌*◌, ◌≤◌, nat_abs, length};
 ghost use Rattle.base.specs.Diff.{diff_of};
 ghost use Rattle.calendar.specs.Calendar.{offset_limit};

@@ -1,5 +1,7 @@
 // A claimed reading of a line, as another's parser delivers it: what must be true of it (specs/), and that a check field after field tells it (proofs/). The code of
 // the check is in `claim_header`, `claim_data` and `checker`.
+#![tactic(auto)]
+
 ghost use Rattle.std.specs.Prelude.{◌≡◌, ◌<◌};
 ghost use Rattle.claims.specs.Holds.{byte_next};
 

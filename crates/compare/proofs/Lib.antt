@@ -2,5 +2,4 @@ pub mod Answers
 pub mod Lines
 pub mod Alike
 pub mod Calls
-pub mod Contracts
 pub mod Examples

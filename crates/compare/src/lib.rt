@@ -1,4 +1,6 @@
 // Comparing two lines, both read by the loose exact reader under one set of settings: which fields differ.
+#![tactic(auto)]
+
 ghost use Rattle.std.specs.Prelude.{◌≡◌, ◌&&◌};
 ghost use Rattle.record.specs.Params.{rows};
 ghost use Rattle.loose.specs.Judging.{reading_of};
@@ -167,8 +169,7 @@ fn answer_of(c: Compared) -> CompareAnswer
 }
 
 // The comparison over the C boundary, in numbers.
-#[unsafe(no_mangle)]
-pub extern "C" fn khamdoriem_compare(
+pub fn khamdoriem_compare(
     line1: &[u8],
     line2: &[u8],
     variant: u32,

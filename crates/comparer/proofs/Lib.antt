@@ -1,4 +1,3 @@
 pub mod Texts
 pub mod Steps
-pub mod Contracts
 pub mod Examples

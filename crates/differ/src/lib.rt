@@ -1,4 +1,6 @@
 // What differs between two readings.
+#![tactic(auto)]
+
 ghost use Rattle.std.specs.Prelude.{◌≡◌, [], map, leb, ◌+◌, ◌≤◌, ◌<◌, length, get_or, take};
 ghost use Rattle.base.specs.Choose.{if◌then◌else◌};
 ghost use Rattle.keyed.specs.Notes.{Listed};

@@ -1,4 +1,6 @@
 // ASCII digits as numbers.
+#![tactic(auto)]
+
 ghost use Rattle.std.specs.Prelude.{◌≡◌, true, ◌-◌, ◌*◌, ◌^◌, ◌≤◌, ◌<◌, leb};
 ghost use Rattle.base.specs.Choose.{if◌then◌else◌};
 ghost use Rattle.digits.specs.Digits.{is_digit, number_at, fixed_at, fraction_at};

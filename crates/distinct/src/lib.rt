@@ -1,5 +1,7 @@
 // Which of a line's ids is the first that occurred before, if any did: by comparing each with all before it where they are few, by a tree of the ids where they
 // may be many. The id of element `k` takes `lens[k]` bytes of the line from `starts[k]`.
+#![tactic(auto)]
+
 ghost use Rattle.std.specs.Prelude.{◌≡◌, ◌+◌, ◌<◌, get_or};
 ghost use Rattle.base.specs.Texts.{same_text};
 ghost use Rattle.distinct.specs.Distinct.{id_of, FirstRepeat, Rows};

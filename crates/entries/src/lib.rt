@@ -1,4 +1,6 @@
 // The parameter table, an entry at a time: the two functions that touch the memory of one.
+#![tactic(auto)]
+
 ghost use Rattle.std.specs.Prelude.{◌≡◌, ◌<◌, length, get_or, set};
 ghost use Rattle.record.specs.Params.{blank};
 

@@ -1,4 +1,6 @@
 // A raw value, measured and written with its escapes: runs of plain bytes are passed over by sixteens and copied whole.
+#![tactic(auto)]
+
 ghost use Rattle.std.specs.Prelude.{◌≡◌, ◌∷◌, ◌+◌, ◌-◌, ◌≤◌, length, drop};
 ghost use Rattle.base.specs.Runs.{run, eight};
 ghost use Rattle.base.specs.Texts.{text_at};

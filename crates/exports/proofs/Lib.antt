@@ -3,4 +3,3 @@ pub mod Calls
 pub mod Services
 pub mod Determined
 mod Examples
-pub mod Contracts

@@ -4,8 +4,7 @@ ghost use Rattle.std.specs.Prelude.{◌≡◌};
 ghost use Rattle.exports.specs.Exports.{interface_number};
 
 // The number of the interface, which a host compares with that of its header.
-#[unsafe(no_mangle)]
-pub extern "C" fn khamdoriem_interface() -> u32
+pub fn khamdoriem_interface() -> u32
     ensures { result ≡ interface_number }
 {
     2

@@ -1,4 +1,6 @@
 // Refusal 17: whether the fields handed in fit the grammar. The ids of the elements are compared elsewhere.
+#![tactic(auto)]
+
 ghost use Rattle.std.specs.Prelude.{◌≡◌, true, false, not, ◌&&◌, ◌+◌, ◌≤◌, eqb, length};
 ghost use Rattle.base.specs.Choose.{is_at};
 ghost use Rattle.base.specs.Runs.{run};

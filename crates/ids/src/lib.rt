@@ -1,4 +1,6 @@
 // Whether the ids that rows name in a text differ: few of them by comparing each with all behind it, more by the strict reader, which refuses a repeated id.
+#![tactic(auto)]
+
 ghost use Rattle.std.specs.Prelude.{◌≡◌, true, [], ◌∷◌, ◌++◌, ◌+◌, ◌≤◌, ◌<◌, length, get_or, take, drop};
 ghost use Rattle.base.specs.Texts.{is_in, all_different};
 ghost use Rattle.record.specs.Limits.{line_limit};

@@ -1,5 +1,7 @@
 // The parameters of two lines as texts that are the same where the pairs are: the element's number, the length of the name, the name, the unescaped value. They are
 // walked over in the lines, from the places of the elements' ids.
+#![tactic(auto)]
+
 ghost use Rattle.std.specs.Prelude.{◌≡◌, true, [], ◌∷◌, ◌+◌, ◌≤◌, ◌<◌, length, get_or, take};
 ghost use Rattle.parsers.specs.Steps.{blanks_from};
 ghost use Rattle.record.specs.Params.{row_of};

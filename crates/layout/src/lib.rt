@@ -1,4 +1,6 @@
 // The record byte by byte, as docs/INTERFACE.md lays it out: into memory that was lent, and from memory that comes in.
+#![tactic(auto)]
+
 ghost use Rattle.std.specs.Prelude.{◌≡◌, true, [], ◌∷◌, ◌++◌, ◌+◌, ◌*◌, ◌≤◌, ◌<◌, length};
 ghost use Rattle.base.specs.Fills.{filled};
 ghost use Rattle.layout.specs.Layout.{protocol_word, version_word, facility_word, severity_word, timestamp_word, seconds_word, nanos_word, digits_word, offset_word, message_word, word_count, record_size, strict_size, bits, mark, protocol_words, level_words, stamp_words, place_words, front_words, name_words, end_words, record_words, record_bytes, strict_bytes, Room, Puts};

@@ -5,4 +5,3 @@ pub mod Finding
 pub mod ByCharacters
 pub mod Answers
 mod Examples
-pub mod Contracts

@@ -5,4 +5,3 @@ pub mod Readings
 pub mod Answers
 pub mod Determined
 pub mod Examples
-pub mod Contracts

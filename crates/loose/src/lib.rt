@@ -1,4 +1,6 @@
 // lib.rs: the loose reader.
+#![tactic(auto)]
+
 ghost use Rattle.std.specs.Prelude.{◌≡◌, ◌≤◌, length};
 ghost use Rattle.record.specs.Params.{rows};
 ghost use Rattle.draft.specs.Drafts.{draft_of};

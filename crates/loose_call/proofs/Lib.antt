@@ -1,2 +1,1 @@
 mod Leaving
-pub mod Contracts

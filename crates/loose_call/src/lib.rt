@@ -1,4 +1,6 @@
 // Loose reading over the C boundary.
+#![tactic(auto)]
+
 ghost use Rattle.std.specs.Prelude.{◌≡◌, ◌≤◌, length};
 ghost use Rattle.record.specs.Answers.{read_answer_of};
 ghost use Rattle.record.specs.Params.{rows};
@@ -75,8 +77,7 @@ fn leave(r: Reading, memory: &mut [u8]) -> ReadAnswer
 }
 
 // Loose reading: where the number is 0, the record's 216 bytes in `memory`.
-#[unsafe(no_mangle)]
-pub extern "C" fn khamdoriem_read_loose(
+pub fn khamdoriem_read_loose(
     line: &[u8],
     variant: u32,
     year: u32,

@@ -6,4 +6,3 @@ pub mod Answers
 pub mod Turns
 pub mod Laws
 mod Examples
-pub mod Contracts

@@ -1,4 +1,6 @@
 // message.rs: printing a record into a lent output.
+#![tactic(auto)]
+
 mod elements;
 mod fields;
 

@@ -1,4 +1,6 @@
 // message.rs, the timestamp: written into the output in place.
+#![tactic(auto)]
+
 ghost use Rattle.std.specs.Prelude.{◌≡◌, ◌∷◌, true, nat_abs, length};
 ghost use Rattle.calendar.specs.declared.Shown.TheVariants.{At};
 ghost use Rattle.output.specs.Fits.{Fits, Sized};

@@ -1,4 +1,6 @@
 // Writing into a lent output: a byte, a number, a text. Each answers the position after what it wrote.
+#![tactic(auto)]
+
 ghost use Rattle.std.specs.Prelude.{◌≡◌, [], ◌∷◌};
 ghost use Rattle.output.specs.Output.{Wrote};
 ghost use Rattle.output.specs.Fits.{Fits};

@@ -1,5 +1,7 @@
 // Which of many texts does not occur as often among the first of them as among the others. Texts that are the same walk alike through a tree of them, and so find
 // their class. Text `k` lies between `ends[k]` and `ends[k + 1]`.
+#![tactic(auto)]
+
 ghost use Rattle.std.specs.Prelude.{◌≡◌, ◌+◌, ◌-◌, ◌*◌, ◌≤◌, ◌<◌, length, get_or, take, drop};
 ghost use Rattle.base.specs.Texts.{common_len};
 ghost use Rattle.pairs.specs.Keys.{key_of, Keys};

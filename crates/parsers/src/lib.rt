@@ -1,4 +1,6 @@
 // parsers.rs: the fields of a header, each from the part of the line that starts at the current position; and steps of a reader.
+#![tactic(auto)]
+
 ghost use Rattle.std.specs.Prelude.{◌≡◌, ◌+◌, ◌^◌, ◌≤◌, ◌<◌, length};
 ghost use Rattle.base.specs.Runs.{run};
 ghost use Rattle.parsers.specs.Parsers.{alone, or_absent, plain_at, host_at, tag_len, tag_at};

@@ -1,4 +1,6 @@
 // pri.rs: the priority at the front of a line.
+#![tactic(auto)]
+
 ghost use Rattle.std.specs.Prelude.{◌≡◌};
 ghost use Rattle.pri.specs.Pri.{facility_of, severity_of, no_pri, pri_at};
 

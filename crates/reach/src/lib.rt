@@ -1,4 +1,6 @@
 // Where a line broke that the strict reader refuses with 4: how many bytes of it some line of the strict grammar also begins with, at most.
+#![tactic(auto)]
+
 ghost use Rattle.std.specs.Prelude.{◌≡◌, ◌≤◌, length};
 ghost use Rattle.record.specs.Limits.{line_limit};
 ghost use Rattle.viable.specs.Viable.{Reports};

@@ -1,4 +1,6 @@
 // How far the structured data and the message of a line go. Each piece is walked from its place in the line, and answers the place after it, or the place where it breaks.
+#![tactic(auto)]
+
 ghost use Rattle.std.specs.Prelude.{◌≡◌, not, [], ◌+◌, ◌-◌, ◌≤◌, ◌<◌, length, get_or, set, take, drop};
 ghost use Rattle.base.specs.Runs.{run};
 ghost use Rattle.grammar.specs.Abnf.{sd_name_byte};

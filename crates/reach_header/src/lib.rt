@@ -1,4 +1,6 @@
 // How far the header of a line goes: each piece is walked from its place in the line, and answers the place after it, or the place where it breaks.
+#![tactic(auto)]
+
 ghost use Rattle.std.specs.Prelude.{◌≡◌, true, ◌+◌, ◌-◌, ◌≤◌, ◌<◌, length, get_or, take, drop};
 ghost use Rattle.base.specs.Runs.{run};
 ghost use Rattle.digits.specs.Digits.{decimal};

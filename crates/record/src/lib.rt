@@ -1,4 +1,6 @@
 // What is read from a line: places, the record, the strict record; and the answers, with their refusals.
+#![tactic(auto)]
+
 ghost use Rattle.std.specs.Prelude.{◌≡◌};
 ghost use Rattle.record.specs.Places.{absent, place};
 ghost use Rattle.record.specs.Params.{blank};

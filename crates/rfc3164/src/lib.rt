@@ -1,4 +1,6 @@
 // rfc3164.rs: a line by the rules of RFC 3164.
+#![tactic(auto)]
+
 ghost use Rattle.std.specs.Prelude.{◌≡◌, ◌+◌, ◌≤◌, length};
 ghost use Rattle.base.specs.Choose.{if◌then◌else◌};
 ghost use Rattle.base.specs.Runs.{run};

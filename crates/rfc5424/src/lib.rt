@@ -1,4 +1,6 @@
 // rfc5424.rs: a line by the loose rules of RFC 5424.
+#![tactic(auto)]
+
 ghost use Rattle.std.specs.Prelude.{◌≡◌, ◌≤◌, length};
 ghost use Rattle.draft.specs.Drafts.{draft_of};
 ghost use Rattle.rfc5424.specs.Rfc5424.{blank_host, blank_plain, start_from, four_from, body_from, rfc5424};

@@ -1,4 +1,6 @@
 // The settings file of a site: records of 32 bytes, each with the year, offset, variant and default host of a gate.
+#![tactic(auto)]
+
 ghost use Rattle.std.specs.Prelude.{◌≡◌, true, ◌++◌, ◌+◌, ◌-◌, ◌≤◌, ◌<◌, ◌^◌, length, replicate};
 ghost use Rattle.base.specs.Choose.{within};
 ghost use Rattle.base.specs.Runs.{run};
@@ -410,24 +412,21 @@ fn settings_answer_of(r: SettingsRead) -> SettingsAnswer
 }
 
 // The settings of a gate.
-#[unsafe(no_mangle)]
-pub extern "C" fn khamdoriem_settings_read(file: &[u8], gate: u32) -> SettingsAnswer
+pub fn khamdoriem_settings_read(file: &[u8], gate: u32) -> SettingsAnswer
     ensures { ReadsNumbers last_version file.now gate result }
 {
     settings_answer_of(read(file, gate))
 }
 
 // The same by the reader of version 1.
-#[unsafe(no_mangle)]
-pub extern "C" fn khamdoriem_settings_read_1(file: &[u8], gate: u32) -> SettingsAnswer
+pub fn khamdoriem_settings_read_1(file: &[u8], gate: u32) -> SettingsAnswer
     ensures { ReadsNumbers 1 file.now gate result }
 {
     settings_answer_of(read_version_1(file, gate))
 }
 
 // A record of settings: number and length.
-#[unsafe(no_mangle)]
-pub extern "C" fn khamdoriem_settings_write(
+pub fn khamdoriem_settings_write(
     version: u32,
     gate: u32,
     year: u32,

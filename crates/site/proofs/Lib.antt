@@ -1,6 +1,5 @@
 pub mod Hosts
 pub mod Answers
 pub mod Calls
-pub mod Contracts
 pub mod Reading
 pub mod Examples

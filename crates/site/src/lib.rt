@@ -1,4 +1,6 @@
 // Loose reading with the settings of a gate: the host is the line's own where it has one, and else the settings'.
+#![tactic(auto)]
+
 ghost use Rattle.std.specs.Prelude.{◌≡◌, ◌≤◌, length};
 ghost use Rattle.base.specs.Texts.{text_at};
 ghost use Rattle.record.specs.Params.{rows};
@@ -258,8 +260,7 @@ fn leave(r: SiteReading, memory: &mut [u8]) -> SiteAnswer
 }
 
 // Loose reading with settings: where the number is 0, the record's 216 bytes in `memory`.
-#[unsafe(no_mangle)]
-pub extern "C" fn khamdoriem_read_with_settings(
+pub fn khamdoriem_read_with_settings(
     file: &[u8],
     gate: u32,
     line: &[u8],

@@ -1,4 +1,6 @@
 // The splitter: octet-counted and LF streams, fed any number of bytes at a time. One frame is held, at the front of a lent buffer.
+#![tactic(auto)]
+
 ghost use Rattle.std.specs.Prelude.{◌≡◌, ◌+◌, ◌*◌, ◌-◌, ◌≤◌, ◌<◌, true, [], length, drop};
 ghost use Rattle.base.specs.Runs.{run, eight};
 ghost use Rattle.record.specs.Limits.{line_limit};

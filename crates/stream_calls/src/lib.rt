@@ -6,28 +6,21 @@ ghost use Rattle.stream.specs.Numbers.{state_of, start_answer_of, Splits, finish
 use stream::{FeedAnswer, FinishAnswer, StartAnswer, StreamState};
 
 // The state at the start of a stream, or at its restart: kind 0 is counted, 1 lines.
-#[unsafe(no_mangle)]
-pub extern "C" fn khamdoriem_stream_start(kind: u32) -> StartAnswer
+pub fn khamdoriem_stream_start(kind: u32) -> StartAnswer
     ensures { result ≡ start_answer_of (start_of kind) }
 {
     stream::start_numbers(kind)
 }
 
 // Bytes of a stream, up to the end of a frame or to a refusal; what is held of a frame is at the front of `buffer`.
-#[unsafe(no_mangle)]
-pub extern "C" fn khamdoriem_stream_feed(
-    state: StreamState,
-    bytes: &[u8],
-    buffer: &mut [u8],
-) -> FeedAnswer
+pub fn khamdoriem_stream_feed(state: StreamState, bytes: &[u8], buffer: &mut [u8]) -> FeedAnswer
     ensures { Splits state bytes.now buffer.old result buffer.new }
 {
     stream::feed_numbers(state, bytes, buffer)
 }
 
 // The end of a stream: the content bytes of an unfinished frame.
-#[unsafe(no_mangle)]
-pub extern "C" fn khamdoriem_stream_finish(state: StreamState) -> FinishAnswer
+pub fn khamdoriem_stream_finish(state: StreamState) -> FinishAnswer
     ensures { result ≡ finish_answer_of (state_of state) }
 {
     stream::finish_numbers(state)

@@ -1,4 +1,6 @@
 // The strict reader: RFC 5424 section 6, no trimming, into lent tables.
+#![tactic(auto)]
+
 ghost use Rattle.std.specs.Prelude.{◌≡◌, ◌≤◌, length};
 ghost use Rattle.record.specs.Limits.{line_limit};
 ghost use Rattle.grammar.specs.Parse as parse;

@@ -1,4 +1,6 @@
 // Strict reading over the C boundary. Beside the reader stands the walk that finds where a line broke, and nothing else: what other calls need is compiled apart.
+#![tactic(auto)]
+
 ghost use Rattle.std.specs.Prelude.{◌≡◌, ◌≤◌, length};
 ghost use Rattle.record.specs.Params.{rows};
 ghost use Rattle.record.specs.declared.StrictReading.TheVariants.{Refused};
@@ -62,8 +64,7 @@ fn leave(line: &[u8], r: StrictReading, memory: &mut [u8]) -> ReadAnswer
 }
 
 // Strict reading: where the number is 0, the record's 248 bytes in `memory`.
-#[unsafe(no_mangle)]
-pub extern "C" fn khamdoriem_read_strict(
+pub fn khamdoriem_read_strict(
     line: &[u8],
     elements: &mut [[usize; 2]],
     params: &mut [Param],

@@ -9,6 +9,5 @@ pub mod Steps
 pub mod Texts
 pub mod Tables
 pub mod Filling
-pub mod Contracts
 pub mod Ids
 pub mod Differing

@@ -1,4 +1,6 @@
 // The structured data and the message of a strict line: a first pass that reads and counts, and a second that fills the lent tables.
+#![tactic(auto)]
+
 ghost use Rattle.std.specs.Prelude.{◌≡◌, false, ◌+◌, ◌≤◌, ◌<◌, length, drop, set};
 ghost use Rattle.base.specs.Runs.{run, eight};
 ghost use Rattle.base.specs.Fills.{filled};

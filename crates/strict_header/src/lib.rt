@@ -1,4 +1,6 @@
 // The header of a strict line: priority, version, timestamp and the four names, each read from the part of the line that starts at it.
+#![tactic(auto)]
+
 ghost use Rattle.std.specs.Prelude.{◌≡◌, true, ◌+◌, ◌-◌, ◌^◌, ◌≤◌, ◌<◌, pos, neg_ℤ, length, get_or, take};
 ghost use Rattle.std.proofs.Math.Option.{some};
 ghost use Rattle.base.specs.Choose.{if◌then◌else◌};

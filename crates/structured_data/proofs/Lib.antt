@@ -14,4 +14,3 @@ pub mod Filling
 pub mod Examples
 pub mod ByCharacters
 pub mod Within
-pub mod Contracts

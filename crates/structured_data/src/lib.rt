@@ -1,4 +1,6 @@
 // structured_data.rs: elements and their parameters, counted first and then stored into lent tables.
+#![tactic(auto)]
+
 ghost use Rattle.std.specs.Prelude.{◌≡◌, false, [], ◌∷◌, ◌+◌, ◌^◌, ◌≤◌, ◌<◌, leb, eqb, length, drop, set};
 ghost use Rattle.base.specs.Choose.{if◌then◌else◌};
 ghost use Rattle.base.specs.Runs.{run, eight};

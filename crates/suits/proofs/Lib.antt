@@ -3,4 +3,3 @@ pub mod Tests
 pub mod Suited
 pub mod Examples
 pub mod Checks
-pub mod Contracts

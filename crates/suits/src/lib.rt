@@ -1,4 +1,6 @@
 // Refusal 7: whether a record, counts and tables suit a line. Any numbers may come in.
+#![tactic(auto)]
+
 ghost use Rattle.std.specs.Prelude.{◌≡◌, ◌+◌, ◌≤◌, ◌<◌, leb, length, take};
 ghost use Rattle.record.specs.Params.{row_of, rows};
 ghost use Rattle.record.specs.declared.Stamp.TheVariants as stamp;

@@ -1,4 +1,6 @@
 // The tally: how many records of each facility and each severity came in. 25 rows, facilities 0 to 23 and none, of 9 columns, severities 0 to 7 and none.
+#![tactic(auto)]
+
 ghost use Rattle.std.specs.Prelude.{◌≡◌, suc, ◌≤◌, ◌<◌, length};
 ghost use Rattle.tally.specs.Tally.{no_facility, column_count, full, cell, place_of, Adds, row_sum, column_sum, cell_read, row_read, column_read};
 ghost use Rattle.tally.specs.Numbers.{place_in, added_number, cell_answer_of, sum_answer_of, AddsNumbers, cell_read_in, row_read_in, column_read_in, AddsIn};
@@ -259,8 +261,7 @@ fn sum_answer_of(r: SumRead) -> SumAnswer
 }
 
 // One record more of a facility and a severity, in a tally of 25 rows: a mark of 0 and the number 0 are none, a mark of 1 is the number behind it.
-#[unsafe(no_mangle)]
-pub extern "C" fn khamdoriem_tally_add(
+pub fn khamdoriem_tally_add(
     rows: &mut [[u32; 9]],
     facility_mark: u32,
     facility: u32,
@@ -275,24 +276,21 @@ pub extern "C" fn khamdoriem_tally_add(
 }
 
 // What a cell of a tally holds.
-#[unsafe(no_mangle)]
-pub extern "C" fn khamdoriem_tally_cell(rows: &[[u32; 9]], row: u32, column: u32) -> CellAnswer
+pub fn khamdoriem_tally_cell(rows: &[[u32; 9]], row: u32, column: u32) -> CellAnswer
     ensures { result ≡ cell_answer_of (cell_read_in rows.now row column) }
 {
     cell_answer_of(cell_at(rows, row as usize, column as usize))
 }
 
 // The sum of a row of a tally.
-#[unsafe(no_mangle)]
-pub extern "C" fn khamdoriem_tally_row(rows: &[[u32; 9]], row: u32) -> SumAnswer
+pub fn khamdoriem_tally_row(rows: &[[u32; 9]], row: u32) -> SumAnswer
     ensures { result ≡ sum_answer_of (row_read_in rows.now row) }
 {
     sum_answer_of(row_at(rows, row as usize))
 }
 
 // The sum of a column of a tally.
-#[unsafe(no_mangle)]
-pub extern "C" fn khamdoriem_tally_column(rows: &[[u32; 9]], column: u32) -> SumAnswer
+pub fn khamdoriem_tally_column(rows: &[[u32; 9]], column: u32) -> SumAnswer
     ensures { result ≡ sum_answer_of (column_read_in rows.now column) }
 {
     sum_answer_of(column_at(rows, column as usize))

@@ -1,4 +1,6 @@
 // Printing and lookup over the C boundary.
+#![tactic(auto)]
+
 ghost use Rattle.std.specs.Prelude.{◌≡◌};
 ghost use Rattle.record.specs.Answers.{output_answer_of};
 ghost use Rattle.record.specs.Params.{rows};
@@ -29,8 +31,7 @@ fn unheld(len: usize, kind: u32) -> OutputAnswer
 }
 
 // Printing of the record that the 216 bytes hold: number and length.
-#[unsafe(no_mangle)]
-pub extern "C" fn khamdoriem_print(
+pub fn khamdoriem_print(
     line: &[u8],
     memory: &[u8],
     elements: &[[usize; 2]],
@@ -51,8 +52,7 @@ pub extern "C" fn khamdoriem_print(
 }
 
 // Lookup in what a reader left: number and length.
-#[unsafe(no_mangle)]
-pub extern "C" fn khamdoriem_lookup(
+pub fn khamdoriem_lookup(
     line: &[u8],
     memory: &[u8],
     elements: &[[usize; 2]],

@@ -1,4 +1,6 @@
 // timestamp.rs: the forms of a timestamp, each read from a position of the line.
+#![tactic(auto)]
+
 ghost use Rattle.std.specs.Prelude.{◌≡◌, [], ◌∷◌, ◌+◌, ◌*◌, ◌≤◌, ◌<◌, length};
 ghost use Rattle.std.proofs.Math.IntN.{sub_ℕ};
 ghost use Rattle.calendar.specs.Calendar.{offset_limit};

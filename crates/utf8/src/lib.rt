@@ -1,4 +1,6 @@
 // UTF-8: what a lead byte asks for, the character at the front of a part, and whether a text is UTF-8.
+#![tactic(auto)]
+
 ghost use Rattle.std.specs.Prelude.{◌≡◌, true, ◌+◌, ◌≤◌, ltb, length};
 ghost use Rattle.base.specs.Runs.{eight};
 ghost use Rattle.utf8.specs.Lead.{lead_of, char_len, is_utf8};

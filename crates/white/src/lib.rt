@@ -1,4 +1,6 @@
 // White space, the length of a field, and trimming.
+#![tactic(auto)]
+
 ghost use Rattle.std.specs.Prelude.{◌≡◌, ◌&&◌, ◌||◌, [], ◌∷◌, ◌+◌, ◌-◌, ◌≤◌, ◌<◌, eqb, length, get_or, drop};
 ghost use Rattle.base.specs.Choose.{within};
 ghost use Rattle.white.specs.White.{is_white, white_len};

@@ -4,4 +4,3 @@ pub mod Lefts
 pub mod Lines
 pub mod Walks
 pub mod Putting
-pub mod Contracts

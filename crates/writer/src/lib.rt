@@ -1,4 +1,6 @@
 // The writer of strict lines. What is handed in is judged and measured in one walk over both tables, and written in a second one.
+#![tactic(auto)]
+
 ghost use Rattle.std.specs.Prelude.{◌≡◌, true, ◌++◌, ◌+◌, ◌≤◌, ◌<◌, length, take};
 ghost use Rattle.record.specs.Limits.{line_limit};
 ghost use Rattle.record.specs.Params.{rows};
@@ -288,8 +290,7 @@ pub fn write<'a>(
 }
 
 // The service as a C caller has it: number and length.
-#[unsafe(no_mangle)]
-pub extern "C" fn khamdoriem_write_strict<'a>(
+pub fn khamdoriem_write_strict<'a>(
     text: &'a [u8],
     handed: Handed,
     elements: &'a [[usize; 2]],

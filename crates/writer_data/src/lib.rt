@@ -1,5 +1,7 @@
 // The elements of a strict line, a step at a time: the next parameter of the element that is open, or its end and the opening of the next one. Each step is measured
 // and written.
+#![tactic(auto)]
+
 ghost use Rattle.std.specs.Prelude.{◌≡◌, true, false, [], ◌+◌, ◌≤◌, ◌<◌, length, get_or, take};
 ghost use Rattle.record.specs.Limits.{line_limit};
 ghost use Rattle.record.specs.Params.{row_of};

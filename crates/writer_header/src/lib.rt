@@ -1,4 +1,6 @@
 // The front of a strict line, `<p>` to the message id and its space, and the message: the length and the text.
+#![tactic(auto)]
+
 ghost use Rattle.std.specs.Prelude.{◌≡◌, true, ◌+◌, ◌≤◌, length};
 ghost use Rattle.output.specs.Fits.{Fits, Sized};
 ghost use Rattle.output.specs.Numerals.{numeral};

@@ -1,0 +1,6 @@
+use Rattle.std.proofs.Common.{rules}
+use Rattle.claim_data.proofs.Notes.{made_spacious}
+use Rattle.claim_data.proofs.many_differ.Goals as goal
+
+pub tree_noted-requires : goal.tree_noted-requires
+tree_noted-requires c = search (made_spacious, rules)

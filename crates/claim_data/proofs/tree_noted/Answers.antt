@@ -1,0 +1,24 @@
+use Rattle.std.proofs.Common.{rules}
+use Rattle.claim_data.proofs.Notes.{differ_laws}
+use Rattle.claim_data.proofs.tree_noted.Goals as goal
+
+pub note-requires : goal.note-requires
+note-requires c = search (differ_laws, rules)
+
+pub first_repeat-requires : goal.first_repeat-requires
+first_repeat-requires c = search (differ_laws, rules)
+
+pub shape_of-starts : goal.shape_of-starts
+shape_of-starts c = search (differ_laws, rules)
+
+pub shape_of-lens : goal.shape_of-lens
+shape_of-lens c = search (differ_laws, rules)
+
+pub shape_of-depths : goal.shape_of-depths
+shape_of-depths c = search (differ_laws, rules)
+
+pub shape_of-kids : goal.shape_of-kids
+shape_of-kids c = search (differ_laws, rules)
+
+pub returns : goal.returns
+returns c = search (differ_laws, rules)

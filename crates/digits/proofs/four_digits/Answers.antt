@@ -1,0 +1,21 @@
+use Rattle.std.proofs.Common.{rules}
+use Rattle.digits.proofs.Fixed.{four_laws}
+use Rattle.digits.proofs.four_digits.Goals as goal
+
+pub returns-in_default : goal.returns-in_default
+returns-in_default c = search (four_laws, rules)
+
+pub past-requires : goal.past-requires
+past-requires c = search (four_laws, rules)
+
+pub returns-in_default-two_digits : goal.returns-in_default-two_digits
+returns-in_default-two_digits c = search (four_laws, rules)
+
+pub overflow_mul-result : goal.overflow_mul-result
+overflow_mul-result c = search (four_laws, rules)
+
+pub overflow_add-result : goal.overflow_add-result
+overflow_add-result c = search (four_laws, rules)
+
+pub returns : goal.returns
+returns c = search (four_laws, rules)

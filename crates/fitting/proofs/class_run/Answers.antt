@@ -1,0 +1,24 @@
+use Rattle.std.proofs.Common.{rules}
+use Rattle.fitting.proofs.Tests.{run_laws}
+use Rattle.fitting.proofs.class_run.Goals as goal
+
+pub loop-i-init : goal.loop-i-init
+loop-i-init c = search (run_laws, rules)
+
+pub bounds-s-i : goal.bounds-s-i
+bounds-s-i c = search (run_laws, rules)
+
+pub overflow_add-i : goal.overflow_add-i
+overflow_add-i c = search (run_laws, rules)
+
+pub loop-i-smaller : goal.loop-i-smaller
+loop-i-smaller c = search (run_laws, rules)
+
+pub loop-i-preserved : goal.loop-i-preserved
+loop-i-preserved c = search (run_laws, rules)
+
+pub returns-else-b-name : goal.returns-else-b-name
+returns-else-b-name c = search (run_laws, rules)
+
+pub returns : goal.returns
+returns c = search (run_laws, rules)

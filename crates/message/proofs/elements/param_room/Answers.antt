@@ -1,0 +1,7 @@
+use Rattle.message.specs.Rooms.{param_size}
+use Rattle.message.proofs.Rooms.{after_left}
+use Rattle.message.proofs.elements.param_room.Goals as goal
+
+pub returns : goal.returns
+unfolding param_size
+returns c = search after_left

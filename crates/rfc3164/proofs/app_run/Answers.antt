@@ -1,0 +1,12 @@
+use Rattle.std.proofs.Common.{rules}
+use Rattle.base.proofs.Runs.{runs_laws}
+use Rattle.rfc3164.proofs.app_run.Goals as goal
+
+pub returns-then-not-is_app : goal.returns-then-not-is_app
+returns-then-not-is_app c = search (runs_laws, rules)
+
+pub loop-i-preserved : goal.loop-i-preserved
+loop-i-preserved c = search (runs_laws, rules)
+
+pub returns : goal.returns
+returns c = search (runs_laws, rules)

@@ -1,0 +1,12 @@
+use Rattle.std.proofs.Common.{rules}
+use Rattle.site.proofs.Answers.{default_laws}
+use Rattle.site.proofs.with_default.Goals as goal
+
+pub returns-in-Read : goal.returns-in-Read
+returns-in-Read c = search (default_laws, rules)
+
+pub returns-in-Whole : goal.returns-in-Whole
+returns-in-Whole c = search (default_laws, rules)
+
+pub returns-in-Refused : goal.returns-in-Refused
+returns-in-Refused c = search (default_laws, rules)

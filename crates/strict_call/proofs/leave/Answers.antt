@@ -1,0 +1,9 @@
+use Rattle.std.proofs.Common.{rules}
+use Rattle.exports.proofs.Calls.{strict_laws}
+use Rattle.strict_call.proofs.leave.Goals as goal
+
+pub returns-in-Read : goal.returns-in-Read
+returns-in-Read c = search (strict_laws, rules)
+
+pub returns-in-Refused : goal.returns-in-Refused
+returns-in-Refused c = search (strict_laws, rules)

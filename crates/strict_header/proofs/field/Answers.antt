@@ -1,0 +1,18 @@
+use Rattle.std.proofs.Common.{rules}
+use Rattle.strict_header.proofs.Fields.{field_laws}
+use Rattle.strict_header.proofs.field.Goals as goal
+
+pub returns-then-not-n-long : goal.returns-then-not-n-long
+returns-then-not-n-long c = search (field_laws, rules)
+
+pub returns-then-not-is_at : goal.returns-then-not-is_at
+returns-then-not-is_at c = search (field_laws, rules)
+
+pub overflow_add-len : goal.overflow_add-len
+overflow_add-len c = search (field_laws, rules)
+
+pub place_of-requires : goal.place_of-requires
+place_of-requires c = search (field_laws, rules)
+
+pub returns : goal.returns
+returns c = search (field_laws, rules)

@@ -1,0 +1,21 @@
+use Rattle.std.proofs.Common.{rules}
+use Rattle.strict_header.proofs.Stamps.{timestamp_laws}
+use Rattle.strict_header.proofs.timestamp.Goals as goal
+
+pub returns-then-not-is_at : goal.returns-then-not-is_at
+returns-then-not-is_at c = search (timestamp_laws, rules)
+
+pub returns-then-is_at : goal.returns-then-is_at
+returns-then-is_at c = search (timestamp_laws, rules)
+
+pub returns-in_default : goal.returns-in_default
+returns-in_default c = search (timestamp_laws, rules)
+
+pub returns-then-not-is_at-2 : goal.returns-then-not-is_at-2
+returns-then-not-is_at-2 c = search (timestamp_laws, rules)
+
+pub overflow_add-result : goal.overflow_add-result
+overflow_add-result c = search (timestamp_laws, rules)
+
+pub returns : goal.returns
+returns c = search (timestamp_laws, rules)

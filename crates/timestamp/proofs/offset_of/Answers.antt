@@ -1,0 +1,9 @@
+use Rattle.std.proofs.Common.{rules}
+use Rattle.timestamp.proofs.Zones.{offset_laws}
+use Rattle.timestamp.proofs.offset_of.Goals as goal
+
+pub narrow-requires : goal.narrow-requires
+narrow-requires c = search (offset_laws, rules)
+
+pub returns : goal.returns
+returns c = search (offset_laws, rules)
