@@ -16,7 +16,6 @@ use Rattle.base.proofs.Runs.{Runs, runs_start, runs_yes, run_front}
 use Rattle.base.proofs.Parts.{step, ended, at_below}
 use Rattle.base.proofs.Ranges.{orders}
 use Rattle.utf8.specs.Lead.{is_utf8, utf8_from}
-use Rattle.utf8.specs.Onward.{Onward}
 use Rattle.utf8.proofs.Passing.{one_passed}
 use Rattle.grammar.specs.Line.{bare}
 use Rattle.grammar.specs.Parse.{on_found, only, stop, until_quote, value}
