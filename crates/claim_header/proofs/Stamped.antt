@@ -80,7 +80,7 @@ module _ (line : List ℕ) (at zone : ℕ) (t : Timestamp) (w : Standing line at
   zone_inside = w.inside
 
   pub offset_in : nat_abs t.offset ≤ offset_limit
-  offset_in = (stamp_in_lem t w.fits).offset-in
+  offset_in = (stamp_in_lem t w.fits).offset_in
 
 pub ruleset stands_laws = (stamp_outside, stamp_told, clock_room, fraction_room, zone_inside, offset_in)
 
