@@ -1,8 +1,8 @@
 -- A claimed timestamp, test by test.
-use Prim.Native.Nat.{ℕ, ◌+◌, ◌-◌, ◌%◌, ◌^◌, ◌≤◌, ◌<◌}
+use Prim.Native.Nat.{ℕ, ◌+◌, ◌^◌, ◌≤◌, ◌<◌}
 use mathlib.Core.Path.{◌≡◌, refl, sym, ap, ◌∙◌}
 use mathlib.Core.Bool.{Bool, true, false, not, ◌&&◌}
-use mathlib.Core.List.{List, [], ◌∷◌}
+use mathlib.Core.List.{List, []}
 use native.Mathlib.Omega.{arith}
 use lib.Dec.{leb, eqb}
 use lib.IntN.{nat_abs}
@@ -25,7 +25,7 @@ use Rattle.record.specs.declared.Stamp.TheVariants.{Unstamped, Stamped}
 use Rattle.record.specs.declared.Timestamp.{Timestamp}
 use Rattle.grammar.specs.Line.{offset_then, timestamp_then}
 use Rattle.suits.specs.Suits.{stamp_suits}
-use Rattle.suits.proofs.Suited.{StampIn, stamp_in_lem}
+use Rattle.suits.proofs.Suited.{stamp_in_lem}
 use Rattle.message_stamp.specs.Stamps.{clock_text, fraction_text}
 use Rattle.claims.specs.Texts.{clock_in, fraction_len, zone_by, zone_at, written_stamp}
 use Rattle.claims.specs.Holds.{byte_next, stands_at, sign_holds, stamp_holds, stamp_next}
