@@ -40,7 +40,7 @@ def write(path, text):
 def files_below(top, ends):
     """The files below a folder whose names end so, without what `rt` made."""
     for folder, folders, names in os.walk(top):
-        folders[:] = sorted(d for d in folders if d not in ('target', '.git', '__pycache__'))
+        folders[:] = sorted(d for d in folders if d not in ('out', 'target', '.git', '__pycache__'))
         for name in sorted(names):
             if name.endswith(ends):
                 yield os.path.normpath(os.path.join(folder, name))
@@ -49,7 +49,7 @@ def files_below(top, ends):
 def crates():
     """The crates of crates.txt, in its order."""
     lines = (line.split('#')[0] for line in read(os.path.join(TOP, 'crates.txt')).split('\n'))
-    return [line.split(':')[0].strip() for line in lines if line.strip()]
+    return [line.split(':')[0].split()[0] for line in lines if line.strip()]
 
 
 def known(crate):
@@ -57,18 +57,22 @@ def known(crate):
         stop("crates.txt has no crate '%s'" % crate)
 
 
-def rt(*words):
-    """Whether `rt` with these words succeeded, and all that it said, uncut."""
+def folder_of(crate):
+    return os.path.join(TOP, 'crates', crate)
+
+
+def rt(crate, *words):
+    """Whether `rt` with these words succeeded in the crate's folder, and all that it said."""
     if not shutil.which('rt'):
         stop("no 'rt' on the PATH: the Rattle toolchain is needed")
-    done = subprocess.run(['rt', *words], cwd=TOP, capture_output=True, text=True, env=dict(os.environ, RT_CUT='0'))
+    done = subprocess.run(['rt', *words], cwd=folder_of(crate), capture_output=True, text=True, stdin=subprocess.DEVNULL)
     return done.returncode == 0, done.stdout + done.stderr
 
 
 def offered(lines, at):
     """The file that the check offers from line `at` on, indented by four, and the line after it."""
     body = []
-    while at < len(lines) and (lines[at].startswith('    ') or not lines[at].strip()):
+    while at < len(lines) and lines[at].startswith('    '):
         body.append(lines[at][4:])
         at += 1
     return '\n'.join(body).rstrip() + '\n', at

@@ -1,6 +1,6 @@
 -- The head of a claim: the digits of priority and version, and the levels' tests.
-use Prim.Native.Nat.{ℕ, suc, ◌+◌, ◌*◌, ◌^◌, ◌≤◌, ◌<◌}
-use mathlib.Core.Path.{◌≡◌, refl, sym, ap, ap₂, ◌∙◌}
+use Prim.Native.Nat.{ℕ, ◌+◌, ◌*◌, ◌^◌, ◌≤◌, ◌<◌}
+use mathlib.Core.Path.{◌≡◌, ap, ◌∙◌}
 use mathlib.Core.Bool.{Bool, true, false, not, ◌&&◌, and-false}
 use mathlib.Core.List.{List, [], ◌∷◌, ◌++◌}
 use native.Mathlib.Omega.{arith}
@@ -8,8 +8,6 @@ use lib.Dec.{leb}
 use lib.ListN.{length, take, length-append, length-take}
 use borrow.Author.Tests.{not-true, not-false}
 use Rattle.base.specs.Choose.{within, is_at}
-use Rattle.base.specs.Texts.{same_text}
-use Rattle.base.proofs.Tests.{both}
 use Rattle.base.proofs.Texts.{same_lengths}
 use Rattle.output.specs.Numerals.{fixed, width, numeral}
 use Rattle.output.proofs.Numerals.{length_fixed, width_le}

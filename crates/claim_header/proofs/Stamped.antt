@@ -1,8 +1,8 @@
 -- A claimed timestamp, test by test.
-use Prim.Native.Nat.{ℕ, ◌+◌, ◌-◌, ◌%◌, ◌^◌, ◌≤◌, ◌<◌}
+use Prim.Native.Nat.{ℕ, ◌+◌, ◌^◌, ◌≤◌, ◌<◌}
 use mathlib.Core.Path.{◌≡◌, refl, sym, ap, ◌∙◌}
 use mathlib.Core.Bool.{Bool, true, false, not, ◌&&◌}
-use mathlib.Core.List.{List, [], ◌∷◌}
+use mathlib.Core.List.{List, []}
 use native.Mathlib.Omega.{arith}
 use lib.Dec.{leb, eqb}
 use lib.IntN.{nat_abs}
@@ -25,7 +25,7 @@ use Rattle.record.specs.declared.Stamp.TheVariants.{Unstamped, Stamped}
 use Rattle.record.specs.declared.Timestamp.{Timestamp}
 use Rattle.grammar.specs.Line.{offset_then, timestamp_then}
 use Rattle.suits.specs.Suits.{stamp_suits}
-use Rattle.suits.proofs.Suited.{StampIn, stamp_in_lem}
+use Rattle.suits.proofs.Suited.{stamp_in_lem}
 use Rattle.message_stamp.specs.Stamps.{clock_text, fraction_text}
 use Rattle.claims.specs.Texts.{clock_in, fraction_len, zone_by, zone_at, written_stamp}
 use Rattle.claims.specs.Holds.{byte_next, stands_at, sign_holds, stamp_holds, stamp_next}
@@ -80,7 +80,7 @@ module _ (line : List ℕ) (at zone : ℕ) (t : Timestamp) (w : Standing line at
   zone_inside = w.inside
 
   pub offset_in : nat_abs t.offset ≤ offset_limit
-  offset_in = (stamp_in_lem t w.fits).offset-in
+  offset_in = (stamp_in_lem t w.fits).offset_in
 
 pub ruleset stands_laws = (stamp_outside, stamp_told, clock_room, fraction_room, zone_inside, offset_in)
 

@@ -1,7 +1,7 @@
 -- A claimed text, test by test, and the header.
 use Prim.Native.Nat.{ℕ, ◌+◌, ◌-◌, ◌^◌, ◌≤◌, ◌<◌}
-use mathlib.Core.Path.{◌≡◌, refl, sym, ap, ◌∙◌}
-use mathlib.Core.Bool.{Bool, true, false, not, ◌&&◌, and-false}
+use mathlib.Core.Path.{◌≡◌, ap, ◌∙◌}
+use mathlib.Core.Bool.{Bool, true, false, not, ◌&&◌}
 use mathlib.Core.List.{List}
 use native.Mathlib.Omega.{arith}
 use lib.Dec.{leb, eqb}
@@ -15,7 +15,7 @@ use Rattle.record.specs.declared.Place.{Place}
 use Rattle.record.specs.declared.StrictRecord.{StrictRecord}
 use Rattle.grammar.specs.Abnf.{print_us_ascii}
 use Rattle.suits.specs.Suits.{stamp_suits, record_suits}
-use Rattle.suits.proofs.Suited.{RecordIn, record_in_lem}
+use Rattle.suits.proofs.Suited.{record_in_lem}
 use Rattle.claims.specs.Holds.{on_next, byte_next, every, head_next, stamp_next, len_of, text_holds, text_next, names_next, header_next}
 use Rattle.claims.specs.declared.Next.{Next}
 use Rattle.claims.specs.declared.Next.TheVariants.{Off, At}

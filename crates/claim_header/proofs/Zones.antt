@@ -1,21 +1,21 @@
 -- The pieces of a timestamp's text, and the text whole.
-use Prim.Native.Nat.{ℕ, zero, suc, ◌+◌, ◌-◌, ◌*◌, ◌/◌, ◌%◌, ◌^◌, ◌≤◌, ◌<◌}
-use mathlib.Core.Path.{◌≡◌, refl, sym, ap, ap₂, ◌∙◌}
-use mathlib.Core.Bool.{Bool, true, false, not, ◌&&◌, and-true, and-false}
+use Prim.Native.Nat.{ℕ, zero, suc, ◌+◌, ◌-◌, ◌/◌, ◌%◌, ◌^◌, ◌≤◌, ◌<◌}
+use mathlib.Core.Path.{◌≡◌, refl, sym, ap, ◌∙◌}
+use mathlib.Core.Bool.{Bool, true, false, ◌&&◌, and-true}
 use mathlib.Core.List.{List, [], ◌∷◌, ◌++◌, append_assoc, append-nil}
 use mathlib.Core.Option.{some}
 use native.Mathlib.Omega.{arith}
-use lib.Dec.{leb, eqb}
+use lib.Dec.{eqb}
 use lib.IntN.{ℤ, pos, negsuc, nat_abs}
 use lib.ListN.{length, get_or, length-append}
 use mir.Syntax.{w32, w64}
 use mir.Val.{SFits, to_z, of_z}
 use mir.ValLaws.{to_z-of_z}
-use borrow.Author.Tests.{eq-eqb, ne_eqb, eqb-true, le-leb, not-true, not-false}
+use borrow.Author.Tests.{eq-eqb, ne_eqb}
 use Rattle.base.specs.Choose.{if◌then◌else◌, is_at}
 use Rattle.base.specs.Diff.{up, down, diff_of}
 use Rattle.base.specs.declared.Diff.{Diff}
-use Rattle.base.proofs.Tests.{by_test, clash}
+use Rattle.base.proofs.Tests.{by_test}
 use Rattle.digits.proofs.Fractions.{unit_some}
 use Rattle.calendar.specs.Calendar.{offset_limit}
 use Rattle.calendar.specs.declared.DateTime.{DateTime}

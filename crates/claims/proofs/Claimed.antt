@@ -1,7 +1,7 @@
 -- The check, field after field, holds exactly of the claim that the strict grammar gives for the line.
-use Prim.Native.Nat.{ℕ, ◌+◌, ◌*◌, ◌/◌, ◌%◌, ◌≤◌}
+use Prim.Native.Nat.{ℕ, ◌/◌, ◌%◌, ◌≤◌}
 use mathlib.Core.Path.{◌≡◌, refl, sym, ap, ◌∙◌}
-use mathlib.Core.Bool.{Bool, true, false, ◌&&◌}
+use mathlib.Core.Bool.{true}
 use mathlib.Core.List.{List, [], ◌∷◌}
 use mathlib.Core.Option.{Option, none, some}
 use native.Mathlib.Omega.{arith}
@@ -10,21 +10,18 @@ use Rattle.base.specs.Texts.{all_different}
 use Rattle.base.proofs.Tests.{both, clash}
 use Rattle.base.proofs.Texts.{different_sound, different_complete}
 use Rattle.digits.specs.Digits.{decimal}
-use Rattle.record.specs.declared.Place.{Place}
 use Rattle.record.specs.declared.Protocol.TheVariants.{Rfc5424}
 use Rattle.record.specs.declared.Level.TheVariants.{Set}
-use Rattle.grammar.specs.Line.{Element, Timestamp, Division, timestamp_then, data_then, message_text, TimestampOk, ids_of, Derives}
-use Rattle.grammar.specs.Reading.{timestamp_at, timestamp_len, hostname_at, app_name_at, procid_at, msgid_at, data_at, data_end, place_of, stamp_of, timestamp_place, message_span, message_flag, element_rows, param_rows, record_of}
+use Rattle.grammar.specs.Line.{Element, Timestamp, Division, timestamp_then, data_then, message_text, ids_of, Derives}
+use Rattle.grammar.specs.Reading.{timestamp_at, hostname_at, app_name_at, procid_at, msgid_at, data_at, data_end, place_of, stamp_of, timestamp_place, message_span, message_flag, element_rows, param_rows, record_of}
 use Rattle.grammar.proofs.Data.{data_reads}
 use Rattle.claims.specs.Claims.{Claim, claim_of, Claimed}
-use Rattle.claims.specs.Texts.{written_stamp}
-use Rattle.claims.specs.Holds.{head_next, stamp_next, text_next, names_next, header_next, data_next, ids_at, message_holds, end_holds, holds}
+use Rattle.claims.specs.Holds.{head_next, stamp_next, text_next, header_next, data_next, ids_at, message_holds, end_holds, holds}
 use Rattle.claims.specs.declared.Next.{Next}
 use Rattle.claims.specs.declared.Next.TheVariants.{Off, At}
 use Rattle.claims.proofs.Told.{told}
-use Rattle.claims.proofs.Numbers.{prival_again, version_again}
-use Rattle.claims.proofs.Places.{Here, here_as, laid, after_timestamp}
-use Rattle.claims.proofs.Tests.{all_both, on_next_lem, here_fits, text_step, text_taken}
+use Rattle.claims.proofs.Places.{here_as, laid}
+use Rattle.claims.proofs.Tests.{on_next_lem, here_fits, text_step, text_taken}
 use Rattle.claims.proofs.Pieces.{head_step, head_taken, message_sound, message_complete}
 use Rattle.claims.proofs.Stamps.{place_for, stamp_step, stamp_taken}
 use Rattle.claims.proofs.Rows.{data_step, data_taken, data_told, ids_told}

@@ -15,8 +15,7 @@ use Rattle.record.specs.Places.{absent, place}
 use Rattle.record.specs.declared.Place.{Place}
 use Rattle.record.specs.declared.Protocol.{Protocol}
 use Rattle.record.specs.declared.Protocol.TheVariants.{Rfc3164, Rfc5424}
-use Rattle.record.specs.declared.Level.TheVariants.{Unset, Set}
-use Rattle.record.specs.declared.Stamp.{Stamp}
+use Rattle.record.specs.declared.Level.TheVariants.{Set}
 use Rattle.record.specs.declared.Stamp.TheVariants.{Unstamped, Stamped}
 use Rattle.record.specs.declared.StrictRecord.{StrictRecord}
 use Rattle.record.specs.declared.Refusal.TheVariants.{LineTooLong, Unsuitable, WrongClaim}

@@ -2,8 +2,8 @@
 use Prim.Native.Nat.{ℕ, ◌≤◌, ◌<◌}
 use mathlib.Core.Path.{◌≡◌, refl, sym, ap, ◌∙◌}
 use mathlib.Core.Bool.{Bool, true, false, not}
-use mathlib.Core.List.{List, [], ◌∷◌}
-use mathlib.Core.Logic.{◌⊎◌, inl, inr}
+use mathlib.Core.List.{List}
+use mathlib.Core.Logic.{inl, inr}
 use native.Mathlib.Omega.{arith}
 use lib.Dec.{ltb}
 use lib.ListN.{length, take, length-map}
@@ -20,7 +20,7 @@ use Rattle.suits.specs.Suits.{place_suits, suits}
 use Rattle.suits.proofs.Suited.{tables_suited, elements_fit_lem, params_fit_lem}
 use Rattle.claims.specs.Claims.{Claim, claim_of, Claimed, pair_of, pairs, claim_in, claim_suits, Checks}
 use Rattle.claims.specs.Claims.Checks.{too_long, unsuitable, wrong, told_yes}
-use Rattle.claims.specs.Laws.{OneAnswer, Same, OneClaim, ChangedIsRefused}
+use Rattle.claims.specs.Laws.{OneAnswer, OneClaim, ChangedIsRefused}
 use Rattle.claims.specs.Holds.{holds}
 use Rattle.claims.specs.declared.Checked.{Checked}
 use Rattle.claims.specs.declared.Checked.TheVariants.{Yes, Refused}

@@ -1,7 +1,7 @@
 -- Digits that are written read as the number, and the digits of a number are written again.
 use Prim.Native.Nat.{ℕ, zero, suc, ◌+◌, ◌-◌, ◌*◌, ◌/◌, ◌%◌, ◌^◌, ◌≤◌, ◌<◌}
 use mathlib.Core.Path.{◌≡◌, refl, sym, ap, ap₂, ◌∙◌}
-use mathlib.Core.Bool.{Bool, true, false, ◌&&◌, and-true, and-false}
+use mathlib.Core.Bool.{Bool, false, ◌&&◌, and-true, and-false}
 use mathlib.Core.List.{List, [], ◌∷◌, ◌++◌}
 use native.Mathlib.Decide.{dec_le}
 use native.Mathlib.Nat.{pow-suc, mul-add-div_right, div-eq_of_lt, mul-add-mod_self_right, mod-eq_of_lt, one-le-pow, pow-le-pow_right, mul-le-mul_right}

@@ -1,50 +1,38 @@
 -- The tests of the head, the timestamp and the message, both ways.
-use Prim.Native.Nat.{ℕ, zero, suc, ◌+◌, ◌-◌, ◌*◌, ◌/◌, ◌%◌, ◌^◌, ◌≤◌}
+use Prim.Native.Nat.{ℕ, suc, ◌+◌, ◌*◌, ◌/◌, ◌%◌, ◌≤◌}
 use mathlib.Core.Path.{◌≡◌, refl, sym, ap, ap₂, ◌∙◌, subst}
-use mathlib.Core.Bool.{Bool, true, false, not, ◌&&◌}
+use mathlib.Core.Bool.{Bool, true, false, ◌&&◌}
 use mathlib.Core.List.{List, [], ◌∷◌, ◌++◌, append_assoc, append-nil}
 use mathlib.Core.Option.{Option, none, some}
 use native.Mathlib.Omega.{arith}
-use lib.Dec.{leb, eqb}
-use lib.IntN.{ℤ, pos, negsuc, neg_ℤ, nat_abs}
-use lib.ListN.{length, get_or, drop, length-append, length-drop}
-use borrow.Author.Tests.{le-leb, leb-true, eqb-true, eq-eqb, not-true}
-use Rattle.base.specs.Choose.{if◌then◌else◌, is_at}
+use lib.Dec.{eqb}
+use lib.ListN.{length, drop, length-append, length-drop}
+use borrow.Author.Tests.{le-leb, leb-true, eqb-true, eq-eqb}
+use Rattle.base.specs.Choose.{is_at}
 use Rattle.base.specs.Texts.{text_at}
 use Rattle.base.proofs.Tests.{clash, both, by_test}
 use Rattle.base.proofs.Ranges.{inside, orders}
 use Rattle.base.proofs.Parts.{ended}
-use Rattle.digits.specs.Digits.{is_digit, decimal}
-use Rattle.calendar.specs.Calendar.{valid_offset}
-use Rattle.calendar.specs.Instant.{seconds_of, shown, is_shown}
-use Rattle.calendar.proofs.ThereAndBack.{back, shown_seconds}
-use Rattle.output.specs.Numerals.{fixed, width, numeral}
+use Rattle.digits.specs.Digits.{decimal}
+use Rattle.output.specs.Numerals.{width, numeral}
 use Rattle.output.proofs.Numerals.{length_fixed}
-use Rattle.record.specs.Places.{absent, place}
-use Rattle.record.specs.declared.Place.{Place}
 use Rattle.record.specs.declared.Span.{Span}
 use Rattle.record.specs.declared.Protocol.{Protocol}
 use Rattle.record.specs.declared.Protocol.TheVariants.{Rfc3164, Rfc5424}
 use Rattle.record.specs.declared.Level.{Level}
 use Rattle.record.specs.declared.Level.TheVariants.{Unset, Set}
-use Rattle.record.specs.declared.Stamp.{Stamp}
-use Rattle.record.specs.declared.Stamp.TheVariants.{Unstamped, Stamped}
-use Rattle.record.specs.declared.Timestamp as stamped
-use Rattle.grammar.specs.Abnf.{Repeat}
-use Rattle.grammar.specs.Line.{Offset, Timestamp, secfrac_then, offset_then, time_then, timestamp_then, message_text, PrivalOk, VersionOk, SecfracOk, OffsetOk, FullOk, TimestampOk, MessageOk}
+use Rattle.grammar.specs.Line.{message_text, PrivalOk, VersionOk, MessageOk}
 use Rattle.grammar.specs.Parse.{choose, into, only, all_left, is_message, message}
 use Rattle.grammar.specs.Parse.Parsed.{failed}
-use Rattle.grammar.specs.Reading.{offset_of, nanos_of, digits_of, stamp_of, message_span, message_flag}
+use Rattle.grammar.specs.Reading.{message_span, message_flag}
 use Rattle.grammar.proofs.Readers.{not_found}
 use Rattle.grammar.proofs.Data.{message_reads}
-use Rattle.suits.specs.Suits.{fraction_suits, stamp_suits}
-use Rattle.claims.specs.Texts.{level_of, version_of, priority_of, secfrac_of, fraction_len, zone_by, zone_at, written_stamp}
-use Rattle.claims.specs.Holds.{next_if, stands_at, level_holds, protocol_holds, head_text, head_next, sign_holds, stamp_holds, len_of, stamp_next, message_holds}
-use Rattle.claims.specs.declared.Next.TheVariants.{Off, At}
+use Rattle.claims.specs.Texts.{version_of, priority_of}
+use Rattle.claims.specs.Holds.{stands_at, level_holds, protocol_holds, head_text, head_next, message_holds}
+use Rattle.claims.specs.declared.Next.TheVariants.{At}
 use Rattle.claims.proofs.Told.{told_message}
-use Rattle.claims.proofs.Numbers.{fixed_repeat, digits_again, prival_written, version_written, few_said, few_to, version_least, prival_again, version_again}
-use Rattle.claims.proofs.Moments.{Seen, seen, clock_of, clock_said, texts_ok, zone_minutes, zone_numbers, frac_said, frac_digits, frac_ok, frac_few, frac_nanos, frac_exact, frac_again, hour_again, minute_again, offset_small, full_valid, shows_again}
-use Rattle.claims.proofs.Places.{Here, here_all, here_next, here_on, here_text, here_byte, here_as, moved, timestamp_plain}
+use Rattle.claims.proofs.Numbers.{prival_written, version_written, few_said, few_to, version_least, prival_again, version_again}
+use Rattle.claims.proofs.Places.{Here, here_all, here_next, here_text, here_as, moved}
 use Rattle.claims.proofs.Tests.{all_both, next_if_lem, byte_stands, byte_then, cut_length, cut_then, text_then, text_stands}
 
 -- ---- PRI VERSION SP

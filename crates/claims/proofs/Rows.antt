@@ -1,8 +1,8 @@
 -- The tables: the rows are those of elements that obey the grammar and stand there, and the rows of such elements tell them.
-use Prim.Native.Nat.{ℕ, suc, ◌+◌, ◌≤◌, ◌<◌}
+use Prim.Native.Nat.{ℕ, ◌+◌, ◌≤◌, ◌<◌}
 use mathlib.Core.Path.{◌≡◌, refl, sym, ap, ap₂, ◌∙◌, subst}
 use mathlib.Core.Bool.{true, false, ◌&&◌}
-use mathlib.Core.List.{List, [], ◌∷◌, ◌++◌, append-nil, map}
+use mathlib.Core.List.{List, [], ◌∷◌, ◌++◌, append-nil}
 use native.Mathlib.Omega.{arith}
 use lib.Dec.{leb, eqb}
 use lib.ListN.{length, get_or, length-append}
@@ -16,11 +16,11 @@ use Rattle.utf8.proofs.Texts.{utf8_sound, utf8_complete}
 use Rattle.grammar.specs.Abnf.{sd_name_byte}
 use Rattle.grammar.specs.Line.{Param, Element, each_then, param_then, element_then, data_then, ParamOk, ElementOk, Each, ids_of}
 use Rattle.grammar.specs.Reading.{element_rows, rows_of_params, param_rows}
-use Rattle.claims.specs.Holds.{front, rest, next_if, class_at, well_escaped, value_at, param_next, params_next, id_next, byte_next, nothing_left, elements_next, data_next, ids_at}
-use Rattle.claims.specs.declared.Next.TheVariants.{Off, At}
+use Rattle.claims.specs.Holds.{front, rest, class_at, well_escaped, value_at, param_next, params_next, id_next, byte_next, nothing_left, elements_next, data_next, ids_at}
+use Rattle.claims.specs.declared.Next.TheVariants.{At}
 use Rattle.claims.proofs.Told.{told_params, told_elements}
 use Rattle.claims.proofs.Places.{Here, here_next, here_on, here_text, moved}
-use Rattle.claims.proofs.Tests.{all_both, never, same_at, next_if_lem, on_next_lem, byte_stands, byte_step, byte_taken, here_inside, byte_then, cut_length, cut_then, class_sound, class_complete, escaped_sound, escaped_complete}
+use Rattle.claims.proofs.Tests.{never, same_at, next_if_lem, on_next_lem, byte_stands, byte_step, byte_taken, here_inside, byte_then, cut_length, cut_then, class_sound, class_complete, escaped_sound, escaped_complete}
 
 -- ---- lengths
 

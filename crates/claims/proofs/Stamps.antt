@@ -12,7 +12,7 @@ use borrow.Author.Tests.{le-leb, leb-true, eqb-true, eq-eqb, ne_eqb, not-true}
 use Rattle.base.specs.Choose.{if◌then◌else◌, is_at}
 use Rattle.base.proofs.Tests.{both, by_test}
 use Rattle.digits.specs.Digits.{is_digit, decimal}
-use Rattle.calendar.specs.Instant.{seconds_of, shown, is_shown}
+use Rattle.calendar.specs.Instant.{shown, is_shown}
 use Rattle.calendar.proofs.ThereAndBack.{back, shown_seconds}
 use Rattle.output.specs.Numerals.{fixed}
 use Rattle.record.specs.Places.{absent, place}
@@ -22,7 +22,7 @@ use Rattle.record.specs.declared.Stamp.TheVariants.{Unstamped, Stamped}
 use Rattle.record.specs.declared.Timestamp as stamped
 use Rattle.grammar.specs.Abnf.{Repeat}
 use Rattle.grammar.specs.Line.{Offset, Timestamp, secfrac_then, offset_then, time_then, timestamp_then, SecfracOk, OffsetOk, FullOk, TimestampOk}
-use Rattle.grammar.specs.Reading.{offset_of, nanos_of, digits_of, stamp_of}
+use Rattle.grammar.specs.Reading.{offset_of, digits_of, stamp_of}
 use Rattle.suits.specs.Suits.{fraction_suits, stamp_suits}
 use Rattle.claims.specs.Texts.{secfrac_of, fraction_len, zone_by, zone_at, written_stamp}
 use Rattle.claims.specs.Holds.{byte_next, stands_at, sign_holds, stamp_holds, len_of, stamp_next}

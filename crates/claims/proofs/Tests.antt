@@ -2,11 +2,10 @@
 use Prim.Native.Nat.{ℕ, suc, ◌+◌, ◌≤◌, ◌<◌}
 use mathlib.Core.Path.{◌≡◌, refl, sym, ap, ap₂, ◌∙◌, subst}
 use mathlib.Core.Bool.{Bool, true, false, not, ◌&&◌}
-use mathlib.Core.List.{List, [], ◌∷◌, ◌++◌, append-nil}
-use mathlib.Core.Option.{some}
+use mathlib.Core.List.{List, [], ◌∷◌, ◌++◌}
 use native.Mathlib.Nat.{add-zero}
 use native.Mathlib.Omega.{arith}
-use lib.Dec.{leb, eqb}
+use lib.Dec.{eqb}
 use lib.ListN.{length, get_or, drop, length-drop, length-append, take-append-drop}
 use lib.Seq.{length-take-le, drop-drop, get_or-take, get_or-drop}
 use borrow.Author.Tests.{le-leb, leb-true, eqb-true, eq-eqb, not-true}
@@ -20,9 +19,8 @@ use Rattle.base.proofs.Parts.{at_cons}
 use Rattle.record.specs.Places.{absent, place}
 use Rattle.record.specs.declared.Place.{Place}
 use Rattle.grammar.specs.Abnf.{print_us_ascii, Repeat}
-use Rattle.grammar.specs.Line.{bare, Escaped, MessageOk}
+use Rattle.grammar.specs.Line.{bare, Escaped}
 use Rattle.grammar.specs.Line.Escaped.{nothing, plain, pair}
-use Rattle.grammar.specs.Parse.{is_message}
 use Rattle.grammar.specs.Reading.{place_of}
 use Rattle.claims.specs.Holds.{next_if, on_next, byte_next, every, stands_at, class_at, len_of, text_holds, text_next, well_escaped}
 use Rattle.claims.specs.declared.Next.{Next}

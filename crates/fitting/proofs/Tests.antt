@@ -115,19 +115,19 @@ pub ruleset stamp_laws = (stamp_absent, digits_absent, stamp_given, digits_given
 
 module _ (text : List ℕ) (h : Handed) (s : record_suits text (record_in h) ≡ true) where
   pub host_in : h.host.start + h.host.len ≤ length text
-  host_in = (record_in_lem text (record_in h) s).host-in
+  host_in = (record_in_lem text (record_in h) s).host_in
 
   pub app_in : h.app.start + h.app.len ≤ length text
-  app_in = (record_in_lem text (record_in h) s).app-in
+  app_in = (record_in_lem text (record_in h) s).app_in
 
   pub procid_in : h.procid.start + h.procid.len ≤ length text
-  procid_in = (record_in_lem text (record_in h) s).procid-in
+  procid_in = (record_in_lem text (record_in h) s).procid_in
 
   pub msgid_in : h.msgid.start + h.msgid.len ≤ length text
-  msgid_in = (record_in_lem text (record_in h) s).msgid-in
+  msgid_in = (record_in_lem text (record_in h) s).msgid_in
 
   pub message_in : h.message.start + h.message.len ≤ length text
-  message_in = (record_in_lem text (record_in h) s).message-in
+  message_in = (record_in_lem text (record_in h) s).message_in
 
 pub ruleset places_in = (host_in, app_in, procid_in, msgid_in, message_in)
 

@@ -7,7 +7,7 @@ use mathlib.Core.Option.{Option, none, some}
 use lib.ListN.{length}
 use Rattle.base.specs.Choose.{is_at}
 use Rattle.grammar.specs.Line.{Division, data_then, line_text, message_text, MessageOk, Derives}
-use Rattle.grammar.specs.Parse.{Header, division_of, header, structured, message, parse}
+use Rattle.grammar.specs.Parse.{Header, division_of, header, structured, parse}
 use Rattle.grammar.specs.Parse.Parsed.{failed, found}
 use Rattle.grammar.proofs.Readers.{Reads, ToEnd, not_found, fields_reads, next_reads, next_any, next_to_end, into_to_end}
 use Rattle.grammar.proofs.Header.{header_then, header_reads}

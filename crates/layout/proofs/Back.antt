@@ -233,19 +233,19 @@ module _ (r : Record) (e p : ℕ) (h : InTypes r e p) (rest : List ℕ) where
 
   all_fit : AllFit (listed r e p)
   all_fit = (
-    of_protocol.mark-fits,
+    of_protocol.mark_fits,
     (
       of_protocol.fits,
       (
-        of_facility.mark-fits,
+        of_facility.mark_fits,
         (
           of_facility.fits,
           (
-            of_severity.mark-fits,
+            of_severity.mark_fits,
             (
               of_severity.fits,
               (
-                of_timestamp.mark-fits,
+                of_timestamp.mark_fits,
                 (
                   of_timestamp.seconds_fit,
                   (

@@ -33,19 +33,19 @@ module _ (line : List ℕ) (r : Record) (s : record_suits line r ≡ true) where
   stamp_in_lem = (record_in_lem line r s).timestamp_in
 
   pub host_in : r.host.start + r.host.len ≤ length line
-  host_in = (record_in_lem line r s).host-in
+  host_in = (record_in_lem line r s).host_in
 
   pub app_in : r.app.start + r.app.len ≤ length line
-  app_in = (record_in_lem line r s).app-in
+  app_in = (record_in_lem line r s).app_in
 
   pub procid_in : r.procid.start + r.procid.len ≤ length line
-  procid_in = (record_in_lem line r s).procid-in
+  procid_in = (record_in_lem line r s).procid_in
 
   pub msgid_in : r.msgid.start + r.msgid.len ≤ length line
-  msgid_in = (record_in_lem line r s).msgid-in
+  msgid_in = (record_in_lem line r s).msgid_in
 
   pub message_in : r.message.start + r.message.len ≤ length line
-  message_in = (record_in_lem line r s).message-in
+  message_in = (record_in_lem line r s).message_in
 
 pub ruleset places_in = (stamp_in_lem, host_in, app_in, procid_in, msgid_in)
 

@@ -8,7 +8,7 @@ use lib.ListN.{length, get_or, take, drop, get_or-eq_default}
 use borrow.Author.Tests.{eq-eqb, ne_eqb}
 use Rattle.base.proofs.Tests.{by_if}
 use Rattle.pairs.specs.Keys.{key_of, Keys}
-use Rattle.pairs.specs.Tree.{bit_of, side_of}
+use Rattle.pairs.specs.Tree.{bit_of, side_of, Placing}
 
 module _ (text ends : List ℕ) (k : ℕ) (h : Keys text ends (k + 1)) (start end : ℕ) (es : start ≡ get_or ends k 0) (ee : end ≡ get_or ends (k + 1) 0) where
   pub key_in_order : start ≤ end
@@ -31,6 +31,10 @@ keys_less text ends n k h l = record {
   inside = λ m b. h.inside m (omega arith);
 }
 
+-- the text whose slot it is
+pub parent_keys : (text ends depths : List ℕ) (slot i : ℕ) → Placing text ends depths slot i → (slot ≡ 0 → ⊥) → Keys text ends ((slot - 1) / 3 + 1)
+parent_keys text ends depths slot i p z = keys_less text ends (i + 1) ((slot - 1) / 3 + 1) p.keys (omega (arith, p.under))
+
 -- a byte past the end
 pub byte_out : (text : List ℕ) (p : ℕ) → length text ≤ p → 0 ≡ get_or text p 0
 byte_out text p h = sym (get_or-eq_default text 0 h)
@@ -42,6 +46,8 @@ module _ (own other : List ℕ) (d x y : ℕ) (ex : x ≡ get_or own (d / 8) 0) 
 
   pub side_bit : (x ≡ y → ⊥) → (n : ℕ) → n ≡ bit_of x (d % 8) → n ≡ side_of own other d
   side_bit h n e = rw (← ex, ← ey, ne_eqb x y h) e
+
+pub ruleset side_laws = (side_third, side_bit)
 
 pub side_few : (own other : List ℕ) (d : ℕ) → side_of own other d ≤ 2
 side_few own other d =

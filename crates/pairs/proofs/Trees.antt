@@ -11,7 +11,7 @@ use mir.Val.{Fits}
 use Rattle.pairs.specs.declared.Seat.{Seat}
 use Rattle.pairs.specs.declared.Seat.TheVariants.{Taken, Free}
 use Rattle.pairs.specs.Keys.{key_of, Keys}
-use Rattle.pairs.specs.Tree.{slot_of, Leads, Tree, Room, Seeking, Grows, Meets, Fresh, Sought, Classed, Asked, Classes}
+use Rattle.pairs.specs.Tree.{turn_of, Leads, Tree, Room, Seeking, Grows, Meets, Fresh, Sought, Placing, Classed, Asked, Classes}
 use Rattle.pairs.specs.Tree.Leads.{here, on}
 use Rattle.pairs.specs.Tree.Classed.{met, first}
 use Rattle.pairs.proofs.Keys.{keys_less}
@@ -32,12 +32,12 @@ module _ (text ends depths kids : List ℕ) (i : ℕ) (a : Seeking text ends dep
     pub class_met : (j : ℕ) → r ≡ Taken j → Classed (key_of text ends) depths kids i j depths kids
     class_met j e = met (subst (Sought (key_of text ends) depths kids i) e s) refl refl
 
-    module _ (slot far : ℕ) (e : r ≡ Free slot far) where
+    module _ (slot : ℕ) (e : r ≡ Free slot) where
       fresh : Fresh (key_of text ends) depths kids i slot
       fresh = subst (Sought (key_of text ends) depths kids i) e s
 
-      pub slot_placed : slot < 1 + 3 * length depths
-      slot_placed = omega (arith, fresh.under, depth_inside)
+      pub slot_placed : Placing text ends depths slot i
+      slot_placed = record { keys = a.keys; below = depth_inside; under = fresh.under }
 
       pub slot_scales : Fits w64 (slot * 2)
       slot_scales = record { fits = omega (arith, fresh.under, a.room.few) }
@@ -75,7 +75,7 @@ module _ (key : ℕ → List ℕ) (depths kids classes : List ℕ) (i : ℕ) (t 
   leads_more depths' kids' own g {q} {m} (on j e l) =
       let d : get_or depths' j 0 ≡ get_or depths j 0 = g.same_depths j (omega (arith, t.kept q)) in
       on j (g.same_slots q (λ z. omega arith) ∙ e)
-      (subst (λ (x : ℕ). Leads key depths' kids' own (slot_of own (key j) j x) m) (sym d) (leads_more depths' kids' own g l))
+      (subst (λ (x : ℕ). Leads key depths' kids' own (turn_of own (key j) j x).slot m) (sym d) (leads_more depths' kids' own g l))
 
   -- the classes with that of text i: a fact of each is one of c and one of the classes before
   by_class : (c : ℕ) (P : ℕ → ℕ → Type 0) → P i c → ((m : ℕ) → m < i → P m (get_or classes m 0)) → (m : ℕ) → m < i + 1 → P m (get_or (set classes i c) m 0)

@@ -16,20 +16,14 @@ abbrev pub side_of : List ℕ → List ℕ → ℕ → ℕ
 side_of own other d =
     if eqb (get_or own (d / 8) 0) (get_or other (d / 8) 0) then 2 else bit_of (get_or own (d / 8) 0) (d % 8)
 
--- the slot where its walk goes on from text j, which is `other` and has depth d
-abbrev pub slot_of : List ℕ → List ℕ → ℕ → ℕ → ℕ
-slot_of own other j d = 1 + 3 * j + side_of own other d
-
--- a text meets another, from which its walk goes on to a slot
-pub record Turns (own other : List ℕ) (slot : ℕ) (t : Turn) : Type 0 where
-  pub told : t.same ≡ same_text own other
-  pub goes : t.slot ≡ slot
-  pub short : t.far ≤ length own
+-- a text meets text j, which is `other` and has depth d
+abbrev pub turn_of : List ℕ → List ℕ → ℕ → ℕ → Turn
+turn_of own other j d = record { same = same_text own other; met = j; slot = 1 + 3 * j + side_of own other d }
 
 -- From a slot the text `own` is led to text m.
 pub data Leads (key : ℕ → List ℕ) (depths kids own : List ℕ) : ℕ → ℕ → Type 0 where
   here : {q m : ℕ} → get_or kids q 0 ≡ m + 1 → Leads key depths kids own q m
-  on : {q m : ℕ} (j : ℕ) → get_or kids q 0 ≡ j + 1 → Leads key depths kids own (slot_of own (key j) j (get_or depths j 0)) m → Leads key depths kids own q m
+  on : {q m : ℕ} (j : ℕ) → get_or kids q 0 ≡ j + 1 → Leads key depths kids own (turn_of own (key j) j (get_or depths j 0)).slot m → Leads key depths kids own q m
 
 -- The first i texts have their classes, and each is led to its own. A text's slots come after the slot that it is in, and a text in a slot is its own class.
 pub record Tree (key : ℕ → List ℕ) (depths kids classes : List ℕ) (i : ℕ) : Type 0 where
@@ -47,11 +41,12 @@ pub record Room (n : ℕ) (depths kids : List ℕ) : Type 0 where
   pub depths_room : n ≤ length depths
   pub slots_room : 1 + 3 * n ≤ length kids
 
--- a text meets text j
-pub record Turning (text ends depths : List ℕ) (j : ℕ) : Type 0 where
-  pub keys : Keys text ends (j + 1)
-  pub few : j < 65536
-  pub depth_given : j < length depths
+-- text i meets text j
+pub record Turning (text ends depths : List ℕ) (i j : ℕ) : Type 0 where
+  pub keys : Keys text ends (i + 1)
+  pub few : i < 65536
+  pub below : j < i
+  pub depths_room : i ≤ length depths
 
 -- text i walks: each slot has a text before it, or none
 pub record Seeking (text ends depths kids : List ℕ) (i : ℕ) : Type 0 where
@@ -80,7 +75,13 @@ pub record Fresh (key : ℕ → List ℕ) (depths kids : List ℕ) (i slot : ℕ
 
 abbrev pub Sought : (ℕ → List ℕ) → List ℕ → List ℕ → ℕ → Seat → Type 0
 Sought key depths kids i (Taken j) = Meets key kids i j
-Sought key depths kids i (Free slot far) = Fresh key depths kids i slot
+Sought key depths kids i (Free slot) = Fresh key depths kids i slot
+
+-- text i goes into a slot of a text before it, or where walks begin
+pub record Placing (text ends depths : List ℕ) (slot i : ℕ) : Type 0 where
+  pub keys : Keys text ends (i + 1)
+  pub below : i < length depths
+  pub under : slot < 1 + 3 * i
 
 -- Text i has class r: that of a text which it meets, or its own, in a slot of the tree.
 pub data Classed (key : ℕ → List ℕ) (depths kids : List ℕ) (i r : ℕ) (depths' kids' : List ℕ) : Type 0 where

@@ -2,10 +2,9 @@
 // their class. Text `k` lies between `ends[k]` and `ends[k + 1]`.
 #![tactic(auto)]
 
-ghost use Rattle.std.specs.Prelude.{◌≡◌, ◌+◌, ◌-◌, ◌*◌, ◌≤◌, ◌<◌, length, get_or, take, drop};
-ghost use Rattle.base.specs.Texts.{common_len};
+ghost use Rattle.std.specs.Prelude.{◌≡◌, ◌+◌, ◌-◌, ◌≤◌, ◌<◌, get_or};
 ghost use Rattle.pairs.specs.Keys.{key_of, Keys};
-ghost use Rattle.pairs.specs.Tree.{bit_of, slot_of, Turns, Turning, Seeking, Sought, Classed, Asked, Classes};
+ghost use Rattle.pairs.specs.Tree.{bit_of, side_of, turn_of, Turning, Seeking, Sought, Placing, Classed, Asked, Classes};
 ghost use Rattle.pairs.specs.Odd.{is_odd, element_of, element_at, ElementIs, Comparing, Least, Counted, Counting, unlike, Weighing, better_of, IfEven, Halved, Roomy};
 
 fn wide(x: u16) -> usize
@@ -43,101 +42,47 @@ fn bit_of(x: u8, b: usize) -> usize
     small((x >> b) % 2)
 }
 
-// What a text finds at another: whether it is the same, and the slot where a walk goes on. `far` is a place at which it differs from the last text that it was held
-// against; it is held against the next from there on.
+// To which of a text's three slots a text goes that meets it. The depth names a bit: `d % 8` of byte `d / 8`. A text with another byte there goes by its own bit; one
+// with the same byte to the third slot.
+fn side_of(own: &[u8], other: &[u8], d: usize) -> usize
+    ensures { result ≡ side_of own.now other.now d }
+{
+    let p = d / 8;
+    let x = byte_of(own, p);
+    if x == byte_of(other, p) {
+        return 2;
+    }
+    bit_of(x, d % 8)
+}
+
+// What a text finds at another: whether it is the same, the other's number, and the slot where a walk goes on.
 #[derive(Clone, Copy)]
 struct Turn {
     same: bool,
+    met: usize,
     slot: usize,
-    far: usize,
 }
 
-// Where the shorter of two texts has ended they differ.
-fn lesser(a: usize, b: usize) -> usize
-    ensures { result ≤ a }
+// Text `i` meets text `j`.
+fn meet<'a>(text: &'a [u8], ends: &'a [u16], depths: &[u16], i: usize, j: usize) -> Turn
+    requires { Turning text.now ends.now depths.now i j }
+    ensures { result ≡ turn_of (key_of text.now ends.now i) (key_of text.now ends.now j) j (get_or depths.now j 0) }
 {
-    if a < b { a } else { b }
-}
-
-// How many bytes are the same in both: from `from` on, and in front of `to`.
-fn common_past(a: &[u8], b: &[u8], from: usize) -> usize
-    requires from_in_bounds { from ≤ length a.now }
-    requires from_in_bounds_2 { from ≤ length b.now }
-    ensures { result ≡ common_len (drop from a.now) (drop from b.now) }
-{
-    base::common_len(base::past(a, from), base::past(b, from))
-}
-
-fn common_front(a: &[u8], b: &[u8], to: usize) -> usize
-    requires to_in_bounds { to ≤ length a.now }
-    requires to_in_bounds_2 { to ≤ length b.now }
-    ensures { result ≡ common_len (take to a.now) (take to b.now) }
-{
-    base::common_len(&a[0..to], &b[0..to])
-}
-
-// A text that may be the same as another, and goes on to `slot` where it is not. It is held against the other from `far` on, and in front of `far` only where all of
-// that is the same.
-fn meet_same(own: &[u8], other: &[u8], slot: usize, far: usize) -> Turn
-    requires { far ≤ length own.now }
-    ensures { Turns own.now other.now slot result }
-{
-    let len = own.len();
-    if len != other.len() {
-        return Turn {
-            same: false,
-            slot,
-            far: lesser(len, other.len()),
-        };
-    }
-    let rest = common_past(own, other, far);
-    if far + rest < len {
-        return Turn {
-            same: false,
-            slot,
-            far: far + rest,
-        };
-    }
-    let front = common_front(own, other, far);
-    Turn {
-        same: front == far,
-        slot,
-        far: front,
-    }
-}
-
-// A text meets text `j`. The depth names a bit: `d % 8` of byte `d / 8`. A text with another byte there is another, and goes by its own bit; one with the same byte
-// to the third slot.
-fn meet<'a>(
-    own: &[u8],
-    text: &'a [u8],
-    ends: &'a [u16],
-    depths: &[u16],
-    j: usize,
-    far: usize,
-) -> Turn
-    requires turning { Turning text.now ends.now depths.now j }
-    requires far_in_bounds { far ≤ length own.now }
-    ensures { Turns own.now (key_of text.now ends.now j) (slot_of own.now (key_of text.now ends.now j) j (get_or depths.now j 0)) result }
-{
+    let own = key_of(text, ends, i);
     let other = key_of(text, ends, j);
-    let d = wide(depths[j]);
-    let x = byte_of(own, d / 8);
-    if x == byte_of(other, d / 8) {
-        return meet_same(own, other, 3 + 3 * j, far);
-    }
+    let side = side_of(own, other, wide(depths[j]));
     Turn {
-        same: false,
-        slot: 1 + 3 * j + bit_of(x, d % 8),
-        far,
+        same: base::same_text(own, other),
+        met: j,
+        slot: 1 + 3 * j + side,
     }
 }
 
-// Where a text goes: to one before it that is the same, or into a free slot, with `far` of its last turn.
+// Where a text goes: to one before it that is the same, or into a free slot.
 #[derive(Clone, Copy)]
 enum Seat {
     Taken(usize),
-    Free(usize, usize),
+    Free(usize),
 }
 
 // The walk of text `i` among those before it. A slot holds the number of its text and one more, 0 where it is free.
@@ -145,36 +90,35 @@ fn find<'a>(text: &'a [u8], ends: &'a [u16], depths: &[u16], kids: &[u16], i: us
     requires { Seeking text.now ends.now depths.now kids.now i }
     ensures { Sought (key_of text.now ends.now) depths.now kids.now i result }
 {
-    let own = key_of(text, ends, i);
     let mut slot = 0;
-    let mut far = 0;
     loop {
         let k = wide(kids[slot]);
         if k == 0 {
-            return Seat::Free(slot, far);
+            return Seat::Free(slot);
         }
-        let t = meet(own, text, ends, depths, k - 1, far);
+        let t = meet(text, ends, depths, i, k - 1);
         if t.same {
-            return Seat::Taken(k - 1);
+            return Seat::Taken(t.met);
         }
         slot = t.slot;
-        far = t.far;
     }
 }
 
-// The depth of a text that goes into a slot: the next bit where it went by a bit, else the byte at `far`. No answer depends on it; the cost does. Along a walk no
-// byte is asked again after it was the same, so that a walk meets at most nine texts for each byte.
-fn depth_in(depths: &[u16], slot: usize, far: usize) -> u16
-    requires { slot < 1 + 3 * length depths.now }
+// The depth of text `i`, which goes into a slot: the next bit where it went by a bit, else the first byte in which it differs from the one that it met. No answer
+// depends on it; the cost does. Along a walk no byte is asked again after it was the same, so that a walk meets at most nine texts for each byte.
+fn depth_in<'a>(text: &'a [u8], ends: &'a [u16], depths: &[u16], slot: usize, i: usize) -> u16
+    requires { Placing text.now ends.now depths.now slot i }
 {
     if slot == 0 {
         return 0;
     }
+    let j = (slot - 1) / 3;
     if (slot - 1) % 3 < 2 {
-        let d = depths[(slot - 1) / 3];
+        let d = depths[j];
         return if d < 65535 { d + 1 } else { d };
     }
-    (8 * (far % 8192)) as u16
+    let p = base::common_len(key_of(text, ends, i), key_of(text, ends, j));
+    (8 * (p % 8192)) as u16
 }
 
 // The class of text `i`: the first text that is the same. One that is new goes into the tree.
@@ -190,8 +134,8 @@ fn class_of<'a>(
 {
     match find(text, ends, depths, kids, i) {
         Seat::Taken(j) => j,
-        Seat::Free(slot, far) => {
-            depths[i] = depth_in(depths, slot, far);
+        Seat::Free(slot) => {
+            depths[i] = depth_in(text, ends, depths, slot, i);
             kids[slot] = (i + 1) as u16;
             i
         }

@@ -1,9 +1,9 @@
 -- The walk over a line tells what is reported of it.
-use Prim.Native.Nat.{ℕ, ◌+◌, ◌≤◌, ◌<◌}
-use mathlib.Core.Path.{◌≡◌, refl, sym, ap, ◌∙◌, subst}
+use Prim.Native.Nat.{ℕ, ◌≤◌, ◌<◌}
+use mathlib.Core.Path.{◌≡◌, refl, subst}
 use mathlib.Core.List.{List}
 use native.Mathlib.Omega.{arith}
-use lib.ListN.{length, drop}
+use lib.ListN.{length}
 use Rattle.record.specs.Limits.{line_limit}
 use Rattle.grammar.specs.Parse.{◌next◌, into, division_of, header, message}
 use Rattle.grammar.specs.Parse.Parsed.{failed, found}
@@ -11,7 +11,6 @@ use Rattle.viable.specs.Viable.{Longest, Reports}
 use Rattle.viable.specs.Viable.Reports.{too_long, derived, underivable}
 use Rattle.viable.specs.Far.{next_far}
 use Rattle.viable.specs.Reach.{header_far, structured_in, structured_far, end_far, parse_in, reach}
-use Rattle.viable.specs.Walks.{went_at}
 use Rattle.viable.specs.declared.Went.{Went}
 use Rattle.viable.specs.declared.Went.TheVariants.{Past, Stuck}
 use Rattle.viable.proofs.Lines.{parse_sound, none_derived, reach_longest}

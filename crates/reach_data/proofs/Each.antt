@@ -1,27 +1,24 @@
 -- Element after element: where they end, where one breaks, and where one goes on.
-use Prim.Native.Nat.{ℕ, zero, suc, ◌+◌, ◌*◌, ◌≤◌, ◌<◌}
-use mathlib.Core.Path.{◌≡◌, refl, sym, ap, ap₂, ◌∙◌, subst}
-use mathlib.Core.Bool.{Bool, true, false, not, ◌&&◌, ◌||◌}
-use mathlib.Core.List.{List, [], ◌∷◌, ◌++◌}
+use Prim.Native.Nat.{ℕ, zero, suc, ◌+◌, ◌≤◌, ◌<◌}
+use mathlib.Core.Path.{◌≡◌, refl, sym, ap, ap₂, ◌∙◌}
+use mathlib.Core.Bool.{Bool, true, false, not, ◌||◌}
+use mathlib.Core.List.{List, [], ◌∷◌}
 use native.Mathlib.Omega.{arith}
-use lib.ListN.{length, get_or, take, drop, length-drop}
-use lib.Seq.{drop-drop, take-take}
-use lib.Dec.{leb, eqb}
-use borrow.Author.Tests.{le-leb, lt-leb, leb-true, leb-false, eqb-true, eqb-false, not-true, not-false}
-use Rattle.base.specs.Choose.{if◌then◌else◌, is_at}
-use Rattle.base.specs.Texts.{same_text, text_at, Differ}
+use lib.ListN.{length, take, drop}
+use lib.Seq.{drop-drop}
+use lib.Dec.{eqb}
+use borrow.Author.Tests.{eqb-true, eqb-false, not-true, not-false}
+use Rattle.base.specs.Choose.{is_at}
+use Rattle.base.specs.Texts.{same_text, Differ}
 use Rattle.base.proofs.Tests.{clash, by_test}
 use Rattle.base.proofs.Texts.{same_is, same_self}
 use Rattle.base.proofs.Parts.{at_below}
-use Rattle.record.specs.Limits.{line_limit}
-use Rattle.distinct.specs.Distinct as distinct
-use Rattle.distinct.specs.Distinct.{Repeated, FirstRepeat}
 use Rattle.grammar.specs.Line.{Element}
-use Rattle.grammar.specs.Parse.{Parsed, on_found, item_and, choose, closed, many, sd_name, param, element, into, ◌next◌}
+use Rattle.grammar.specs.Parse.{Parsed, on_found, item_and, choose, element, into, ◌next◌}
 use Rattle.grammar.specs.Parse.Parsed.{failed, found}
 use Rattle.grammar.proofs.Data.{element_reads}
-use Rattle.viable.specs.Far.{reached, each_from, each_far, next_far, follow, choose_far}
-use Rattle.viable.specs.Ids.{is_used, is_unused, room, id_of, id_far, is_shut}
+use Rattle.viable.specs.Far.{each_from, each_far, next_far, follow, choose_far}
+use Rattle.viable.specs.Ids.{is_used, room, id_of, id_far, is_shut}
 use Rattle.viable.specs.Reach.{element_in, element_far, used_and, cons_of, elements, elements_far, structured_in, structured_far}
 use Rattle.viable.specs.Walks.{went_of, onward_of, went_at}
 use Rattle.viable.specs.declared.Went.{Went}
@@ -30,10 +27,8 @@ use Rattle.viable.proofs.Data.{element_in_reads}
 use Rattle.viable.proofs.Near.{room_early}
 use Rattle.viable.proofs.Reaches.{by_parsed}
 use Rattle.viable.proofs.Walks.{onward_twice, at_here, choose_yes, choose_no}
-use Rattle.reach_data.specs.Pieces.{plain_far, plain_at, data_at}
-use Rattle.reach_data.specs.Rows.{each_at, id_len, Elements, Ends, used_to, near_of, shut_at, id_end}
-use Rattle.reach_data.specs.Rows.Elements.{none, more}
-use Rattle.reach_data.specs.Rows.Ends.{ended, broke}
+use Rattle.reach_data.specs.Pieces.{plain_at, data_at}
+use Rattle.reach_data.specs.Rows.{each_at, id_len, used_to, near_of}
 use Rattle.reach_data.proofs.Used.{id_used, far_used, unused_same}
 
 -- ---- one step

@@ -1,14 +1,13 @@
 -- Parameters and elements, as code walks.
 use Prim.Native.Nat.{ℕ, zero, suc, ◌+◌, ◌-◌, ◌^◌, ◌≤◌, ◌<◌}
 use mathlib.Core.Path.{◌≡◌, refl, sym, ap, ◌∙◌}
-use mathlib.Core.Bool.{Bool, true, false, not, ◌&&◌}
-use mathlib.Core.List.{List, [], ◌∷◌, ◌++◌}
+use mathlib.Core.Bool.{Bool, true, false, not}
+use mathlib.Core.List.{List, [], ◌∷◌}
 use native.Mathlib.Omega.{arith}
 use mir.Syntax.{w64}
 use mir.Val.{Fits}
-use lib.ListN.{length, get_or, drop, length-drop}
+use lib.ListN.{length, drop}
 use lib.Seq.{drop-drop}
-use lib.Dec.{eqb}
 use borrow.Author.Tests.{not-true, not-false}
 use Rattle.base.specs.Choose.{if◌then◌else◌, is_at}
 use Rattle.base.specs.Runs.{run}
@@ -16,10 +15,9 @@ use Rattle.base.proofs.Tests.{by_test}
 use Rattle.base.proofs.Parts.{at_below}
 use Rattle.grammar.specs.Abnf.{sd_name_byte}
 use Rattle.grammar.specs.Line.{Param}
-use Rattle.grammar.specs.Parse.{Parsed, on_found, behind, closed, many, item_and, ◌next◌, sd_name, value, param, param_of}
+use Rattle.grammar.specs.Parse.{on_found, behind, closed, many, item_and, ◌next◌, sd_name, value, param, param_of}
 use Rattle.grammar.specs.Parse.Parsed.{failed, found}
-use Rattle.grammar.proofs.Readers.{many_end, many_item, many_failed, found_within}
-use Rattle.grammar.proofs.Data.{param_reads}
+use Rattle.grammar.proofs.Readers.{many_end, many_item, many_failed}
 use Rattle.viable.specs.Far.{reached, behind_far, closed_far, each_far}
 use Rattle.viable.specs.Leaves.{repeat_far, value_far}
 use Rattle.viable.specs.Reach.{param_far, params_far}

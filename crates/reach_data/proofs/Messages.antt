@@ -3,23 +3,23 @@ use Prim.Native.Nat.{ℕ, zero, suc, ◌+◌, ◌-◌, ◌^◌, ◌≤◌, ◌<�
 use mathlib.Core.Path.{◌≡◌, refl, sym, ap, ap₂, ◌∙◌}
 use mathlib.Core.Bool.{Bool, true, false, not, ◌&&◌, ◌||◌}
 use mathlib.Core.List.{List, [], ◌∷◌}
-use mathlib.Core.Option.{none, some}
+use mathlib.Core.Option.{some}
 use native.Mathlib.Omega.{arith}
 use mir.Syntax.{w64}
 use mir.Val.{Fits}
 use lib.ListN.{length, get_or, drop, length-drop}
 use lib.Seq.{drop-drop}
 use lib.Dec.{leb, ltb, eqb}
-use borrow.Author.Tests.{ltb-true, ltb-false, le-leb, ne_eqb, eq-eqb, not-true, not-false}
+use borrow.Author.Tests.{le-leb, ne_eqb, eq-eqb, not-true, not-false}
 use Rattle.base.specs.Choose.{if◌then◌else◌, within, is_at}
-use Rattle.base.proofs.Tests.{clash, both, by_test}
+use Rattle.base.proofs.Tests.{both, by_test}
 use Rattle.base.proofs.Parts.{step, ended, at_below}
 use Rattle.utf8.specs.Lead.{lead_of, utf8_from, is_utf8}
 use Rattle.utf8.specs.declared.Lead.{Lead}
 use Rattle.utf8.proofs.Leads.{lead_1}
-use Rattle.grammar.specs.Parse.{on_found, choose, into, only, all_left, at_end, is_message, message}
+use Rattle.grammar.specs.Parse.{only, all_left, at_end, is_message, message}
 use Rattle.grammar.specs.Parse.Parsed.{failed, found}
-use Rattle.viable.specs.Far.{choose_far, none_far}
+use Rattle.viable.specs.Far.{none_far}
 use Rattle.viable.specs.Leaves.{utf8_far_from, utf8_far, message_far}
 use Rattle.viable.specs.Reach.{end_far}
 use Rattle.viable.specs.Walks.{went_of, onward_of, went_at}

@@ -1,32 +1,28 @@
 -- The rows that a walk notes: what they say of the line, and what is told by the first that repeats.
-use Prim.Native.Nat.{ℕ, zero, suc, ◌+◌, ◌-◌, ◌*◌, ◌^◌, ◌≤◌, ◌<◌}
+use Prim.Native.Nat.{ℕ, zero, suc, ◌+◌, ◌-◌, ◌*◌, ◌≤◌, ◌<◌}
 use mathlib.Core.Path.{◌≡◌, refl, sym, ap, ap₂, ◌∙◌, subst}
-use mathlib.Core.Bool.{Bool, true, false, not, ◌&&◌, ◌||◌}
-use mathlib.Core.List.{List, [], ◌∷◌, ◌++◌}
+use mathlib.Core.Bool.{Bool, true, false}
+use mathlib.Core.List.{List, [], ◌∷◌}
 use native.Mathlib.Omega.{arith}
-use native.Mathlib.Decide.{ℕ_discrete}
-use mir.Syntax.{w64}
-use mir.Val.{Fits}
 use lib.ListN.{length, get_or, set, take, drop, replicate, length-replicate, length-drop, length-set, length-append}
 use lib.Seq.{take-append_seam, take-take, get_or-set_same, get_or-set_other}
 use lib.Dec.{leb, eqb}
 use borrow.Author.Tests.{le-leb, lt-leb, leb-true, leb-false, eqb-true, eqb-false}
 use Rattle.base.specs.Choose.{if◌then◌else◌, is_at}
 use Rattle.base.specs.Runs.{run}
-use Rattle.base.specs.Texts.{text_at, Differ}
-use Rattle.base.proofs.Tests.{clash, by_test}
+use Rattle.base.specs.Texts.{Differ}
+use Rattle.base.proofs.Tests.{by_test}
 use Rattle.base.proofs.Parts.{at_below}
 use Rattle.base.proofs.Runs.{run_le, run_text}
 use Rattle.record.specs.Limits.{line_limit}
-use Rattle.distinct.specs.Distinct.{id_of, Rows, Repeated, FirstRepeat}
-use Rattle.distinct.specs.Tree.{Room, Asked}
+use Rattle.distinct.specs.Distinct.{id_of, Repeated, FirstRepeat}
+use Rattle.distinct.specs.Tree.{Asked}
 use Rattle.grammar.specs.Abnf.{sd_name_byte, Repeat}
 use Rattle.grammar.specs.Line.{Param, Element, each_then, param_then}
 use Rattle.grammar.specs.Parse.{closed, many, sd_name, param, element, element_of, into, ◌next◌}
-use Rattle.grammar.specs.Parse.Parsed.{failed, found}
+use Rattle.grammar.specs.Parse.Parsed.{found}
 use Rattle.grammar.proofs.Data.{element_reads}
 use Rattle.viable.specs.Ids.{is_used, is_shut}
-use Rattle.viable.specs.Walks.{went_at}
 use Rattle.viable.specs.declared.Went.{Went}
 use Rattle.viable.specs.declared.Went.TheVariants.{Past, Stuck}
 use Rattle.viable.proofs.Data.{no_name}

@@ -1,40 +1,34 @@
 -- Elements whose ids have to differ: how far they go, by the ids that are used.
-use Prim.Native.Nat.{ℕ, zero, suc, ◌+◌, ◌-◌, ◌≤◌, ◌<◌}
-use mathlib.Core.Path.{◌≡◌, refl, sym, ap, ap₂, ◌∙◌, subst}
-use mathlib.Core.Bool.{Bool, true, false, not, ◌&&◌, ◌||◌}
+use Prim.Native.Nat.{ℕ, ◌+◌, ◌≤◌, ◌<◌}
+use mathlib.Core.Path.{◌≡◌, refl, sym, ap, ◌∙◌}
+use mathlib.Core.Bool.{true, false, not, ◌&&◌}
 use mathlib.Core.List.{List, [], ◌∷◌, ◌++◌}
 use native.Mathlib.Omega.{arith}
-use lib.ListN.{length, get_or, take, drop, length-drop}
-use lib.Seq.{drop-drop, take-add, length-take-le}
-use lib.Dec.{leb, eqb}
+use lib.ListN.{length, get_or, take, drop}
+use lib.Seq.{take-add, length-take-le}
+use lib.Dec.{leb}
 use borrow.Author.Tests.{le-leb, lt-leb, leb-true, leb-false}
-use Rattle.base.specs.Choose.{if◌then◌else◌, within, is_at}
+use Rattle.base.specs.Choose.{if◌then◌else◌, within}
 use Rattle.base.specs.Runs.{run}
-use Rattle.base.specs.Texts.{same_text, Differ}
 use Rattle.base.proofs.Tests.{clash, by_test}
-use Rattle.base.proofs.Texts.{same_is, same_self}
-use Rattle.base.proofs.Ranges.{inside, above, orders}
-use Rattle.base.proofs.Parts.{at_below, step}
+use Rattle.base.proofs.Ranges.{inside, orders}
+use Rattle.base.proofs.Parts.{step}
 use Rattle.base.proofs.Runs.{run_le, run_in}
 use Rattle.grammar.specs.Abnf.{sd_name_byte}
-use Rattle.grammar.specs.Line.{Param, Element}
-use Rattle.grammar.specs.Parse.{Parsed, Reader, on_found, item_and, closed, many, into, only, repeat, sd_name, param, element, element_of, ◌next◌}
+use Rattle.grammar.specs.Line.{Param}
+use Rattle.grammar.specs.Parse.{Parsed, on_found, closed, many, into, only, repeat, sd_name, param, element_of, ◌next◌}
 use Rattle.grammar.specs.Parse.Parsed.{failed, found}
-use Rattle.grammar.proofs.Data.{element_reads}
-use Rattle.viable.specs.Far.{Far, reached, next_far, closed_far, each_from, each_far}
-use Rattle.viable.specs.Ids.{is_used, is_unused, is_free, alive, room, id_of, id_far, is_shut, id_near}
+use Rattle.viable.specs.Far.{next_far, closed_far}
+use Rattle.viable.specs.Ids.{is_used, is_unused, is_free, alive, id_of, id_far, is_shut, id_near}
 use Rattle.viable.specs.Leaves.{repeat_far}
-use Rattle.viable.specs.Reach.{params_far, element_in, element_far, used_and}
-use Rattle.viable.specs.Walks.{went_of, onward_of, went_at}
-use Rattle.viable.specs.declared.Went.{Went}
-use Rattle.viable.specs.declared.Went.TheVariants.{Past, Stuck}
-use Rattle.viable.proofs.Data.{element_in_reads}
-use Rattle.viable.proofs.Ids.{Ends, alive_yes}
+use Rattle.viable.specs.Reach.{params_far, element_in, element_far}
+use Rattle.viable.specs.Walks.{went_of}
+use Rattle.viable.specs.declared.Went.TheVariants.{Stuck}
+use Rattle.viable.proofs.Ids.{alive_yes}
 use Rattle.viable.proofs.Leaves.{tested_yes, tested_no, tested_long}
 use Rattle.viable.proofs.Near.{near}
-use Rattle.viable.proofs.Walks.{onward_twice, at_here}
 use Rattle.reach_data.specs.Pieces.{plain_far}
-use Rattle.reach_data.specs.Rows.{each_at, id_len, used_to, near_of}
+use Rattle.reach_data.specs.Rows.{id_len, near_of}
 
 -- ---- an id, by whether it is used
 

@@ -1,22 +1,20 @@
 -- The walk over a value answers how far the reader of values went.
-use Prim.Native.Nat.{ℕ, zero, suc, ◌+◌, ◌-◌, ◌^◌, ◌≤◌, ◌<◌}
+use Prim.Native.Nat.{ℕ, zero, suc, ◌+◌, ◌-◌, ◌≤◌, ◌<◌}
 use mathlib.Core.Path.{◌≡◌, refl, sym, ap, ◌∙◌}
 use mathlib.Core.Bool.{Bool, true, false, not, ◌&&◌, ◌||◌}
 use mathlib.Core.List.{List, [], ◌∷◌}
 use native.Mathlib.Omega.{arith}
-use native.Mathlib.Numerals.{add-one}
 use lib.ListN.{length, get_or, take, drop}
 use lib.Dec.{leb, ltb, eqb, leb-suc-suc}
-use borrow.Author.Tests.{ltb-true, ltb-false, le-leb, lt-leb, eqb-true, ne_eqb, leb-true, leb-false}
+use borrow.Author.Tests.{ltb-true, ltb-false, le-leb, ne_eqb, leb-true}
 use Rattle.base.specs.Choose.{if◌then◌else◌, within, is_at}
 use Rattle.base.proofs.Tests.{clash, by_test}
 use Rattle.base.proofs.Ranges.{orders, inside, above, below}
 use Rattle.base.proofs.Parts.{step, ended}
 use Rattle.utf8.specs.Lead.{lead_of, utf8_from, is_utf8}
 use Rattle.utf8.specs.declared.Lead.{Lead}
-use Rattle.utf8.proofs.Leads.{lead_1}
 use Rattle.grammar.specs.Line.{bare}
-use Rattle.grammar.specs.Parse.{Parsed, on_found, only, stop, until_quote, value}
+use Rattle.grammar.specs.Parse.{on_found, only, stop, until_quote, value}
 use Rattle.grammar.specs.Parse.Parsed.{failed, found}
 use Rattle.viable.specs.Leaves.{utf8_far_from, utf8_far, value_far}
 use Rattle.viable.proofs.Texts.{Ready, led_ready, backslash_ready, no_bare}

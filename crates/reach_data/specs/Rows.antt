@@ -9,7 +9,7 @@ use Rattle.distinct.specs.Tree.{Room}
 use Rattle.grammar.specs.Abnf.{sd_name_byte, Repeat}
 use Rattle.grammar.specs.Line.{Element}
 use Rattle.grammar.specs.Parse.{element}
-use Rattle.grammar.specs.Parse.Parsed.{failed, found}
+use Rattle.grammar.specs.Parse.Parsed.{found}
 use Rattle.viable.specs.Far.{each_from, each_far}
 use Rattle.viable.specs.Ids.{is_shut, room}
 use Rattle.viable.specs.Reach.{element_in, element_far, used_and}

@@ -1,31 +1,31 @@
 -- Numbers of two digits in a range, and days of a month.
-use Prim.Native.Nat.{ℕ, zero, suc, ◌+◌, ◌-◌, ◌*◌, ◌^◌, ◌≤◌, ◌<◌}
-use mathlib.Core.Path.{◌≡◌, refl, sym, ap, ap₂, ◌∙◌, subst}
+use Prim.Native.Nat.{ℕ, suc, ◌+◌, ◌-◌, ◌*◌, ◌^◌, ◌≤◌, ◌<◌}
+use mathlib.Core.Path.{◌≡◌, refl, sym, ap, ◌∙◌}
 use mathlib.Core.Bool.{Bool, true, false, not, ◌&&◌, ◌||◌}
 use mathlib.Core.List.{List, [], ◌∷◌, ◌++◌}
 use native.Mathlib.Omega.{arith}
 use mir.Syntax.{w8, w64}
 use mir.Val.{Fits}
-use lib.ListN.{length, get_or, take, drop, length-append, length-drop}
-use lib.Seq.{get_or-drop, drop-drop, take-append_seam, take_at}
+use lib.ListN.{length, get_or, take, drop, length-append}
+use lib.Seq.{get_or-drop, drop-drop, take_at}
 use lib.Dec.{leb, ltb}
 use borrow.Author.Tests.{le-leb, lt-leb, leb-true, leb-false, ltb-true, ltb-false, not-true, not-false}
-use Rattle.base.specs.Choose.{if◌then◌else◌, within, is_at}
+use Rattle.base.specs.Choose.{if◌then◌else◌, within}
 use Rattle.base.specs.Runs.{run}
-use Rattle.base.proofs.Tests.{clash, both, by_test}
+use Rattle.base.proofs.Tests.{clash, by_test}
 use Rattle.base.proofs.Ranges.{inside, above, below, orders}
-use Rattle.base.proofs.Parts.{step, ended, at_below}
-use Rattle.base.proofs.Runs.{run_le, run_least, all_at}
+use Rattle.base.proofs.Parts.{step}
+use Rattle.base.proofs.Runs.{run_least, all_at}
 use Rattle.digits.specs.Digits.{decimal, decimal_from}
 use Rattle.calendar.specs.Calendar.{leap, months, row, month_days, valid_date}
-use Rattle.grammar.specs.Abnf.{is_digit, Repeat}
+use Rattle.grammar.specs.Abnf.{is_digit}
 use Rattle.grammar.specs.Parse.{fixed, date}
 use Rattle.grammar.specs.Parse.Parsed.{failed, found}
 use Rattle.grammar.proofs.Readers.{behind_reads}
 use Rattle.viable.specs.Far.{next_far, follow}
 use Rattle.viable.specs.Leaves.{fixed_far, ranged, ranged_far, is_tens}
 use Rattle.viable.specs.Reach.{two_in, two_in_far, date_by, date_far}
-use Rattle.viable.specs.Walks.{went_of, onward_of, went_at}
+use Rattle.viable.specs.Walks.{went_at}
 use Rattle.viable.specs.declared.Went.{Went}
 use Rattle.viable.specs.declared.Went.TheVariants.{Past, Stuck}
 use Rattle.viable.proofs.Leaves.{ranged_reads}

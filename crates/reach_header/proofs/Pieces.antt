@@ -1,6 +1,6 @@
 -- The pieces of a header, each made of others.
 use Prim.Native.Nat.{ℕ, ◌+◌}
-use mathlib.Core.Path.{◌≡◌, refl, sym, ap, ◌∙◌}
+use mathlib.Core.Path.{◌≡◌, sym, ap, ◌∙◌}
 use mathlib.Core.Bool.{Bool, true, false, not}
 use mathlib.Core.List.{List}
 use mathlib.Core.Option.{none, some}
@@ -8,8 +8,8 @@ use native.Mathlib.Omega.{arith}
 use borrow.Author.Tests.{not-true, not-false}
 use Rattle.base.specs.Choose.{is_at}
 use Rattle.grammar.specs.Abnf.{is_digit, print_us_ascii}
-use Rattle.grammar.specs.Parse.{◌next◌, choose, always, never, behind, into, only, repeat, is_prival, is_version, pri, version, pri_version, date, clock, secfrac, zone, east_of, west_of, offset, timestamp_of, full, timestamp, printable, names, header}
-use Rattle.viable.specs.Far.{Far, next_far, closed_far, choose_far, none_far, behind_far}
+use Rattle.grammar.specs.Parse.{◌next◌, choose, always, into, only, repeat, is_prival, is_version, pri, version, pri_version, date, clock, secfrac, zone, east_of, west_of, offset, timestamp_of, full, timestamp, printable, names, header}
+use Rattle.viable.specs.Far.{next_far, choose_far, none_far}
 use Rattle.viable.specs.Leaves.{repeat_far, prival_far, version_far, ranged, ranged_far}
 use Rattle.viable.specs.Reach.{pri_far, version_sp_far, two_in, two_in_far, date_far, clock_by, clock_far, secfrac_far, zone_by, zone_far, offset_far, full_far, timestamp_far, printable_far, names_far, header_far}
 use Rattle.viable.specs.Walks.{went_at}

@@ -117,26 +117,26 @@ module _ (b : List ℕ) (m : Meaning) (h : Holds b m) where
   of_holds = ranges m h.in_range_lem
 
   pub holds_length : length b ≡ record_size
-  holds_length = ap length h.bytes-are ∙ record_length m of_holds
+  holds_length = ap length h.bytes_are ∙ record_length m of_holds
 
   pub holds_meaning : m ≡ meaning_at b
-  holds_meaning = sym (ap meaning_at h.bytes-are ∙ record_meaning m of_holds)
+  holds_meaning = sym (ap meaning_at h.bytes_are ∙ record_meaning m of_holds)
 
   host_byte : get_or b 1 0 ≡ length m.host
   unfolding record_of
-  host_byte = ap (λ (s : List ℕ). get_or s 1 0) h.bytes-are
+  host_byte = ap (λ (s : List ℕ). get_or s 1 0) h.bytes_are
 
   pub holds_room : get_or b 1 0 ≤ host_room
   holds_room = omega (arith, host_byte, of_holds.host_to)
 
   pub holds_host : text_at b host_place (length m.host) ≡ m.host
-  holds_host = rw h.bytes-are (record_host m of_holds)
+  holds_host = rw h.bytes_are (record_host m of_holds)
 
   pub holds_unused : all_within 0 0 (text_at b (host_place + get_or b 1 0) (host_room - get_or b 1 0)) ≡ true
-  holds_unused = rw (host_byte, h.bytes-are) (zeros_are _ (20 - length m.host) (record_unused m of_holds))
+  holds_unused = rw (host_byte, h.bytes_are) (zeros_are _ (20 - length m.host) (record_unused m of_holds))
 
   pub holds_end : all_within 0 0 (text_at b 29 3) ≡ true
-  holds_end = zeros_are (text_at b 29 3) 3 (rw h.bytes-are (record_zeros m of_holds))
+  holds_end = zeros_are (text_at b 29 3) 3 (rw h.bytes_are (record_zeros m of_holds))
 
 pub holds_one : (b : List ℕ) (m m' : Meaning) → Holds b m → Holds b m' → m ≡ m'
 holds_one b m m' h k = holds_meaning b m h ∙ sym (holds_meaning b m' k)

@@ -70,7 +70,7 @@ settings_kept (taken i m c v h q) = record { at = i; meaning = m; chosen = c; ho
 pub in_range_lem : InRange
 in_range_lem greatest file gate s k =
     let w = settings_kept k in
-    let r = ranges w.meaning w.holds.in-range in
+    let r = ranges w.meaning w.holds.in_range_lem in
     rw (w.is, le-leb w.meaning.variant 2 (variant_to w.meaning.version w.meaning.variant r.variant_ok), le-leb w.meaning.year last_year r.year_to, r.offset_ok)
 
 -- ---- no refusal 2

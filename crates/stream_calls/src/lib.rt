@@ -1,4 +1,6 @@
 // The splitter over the C boundary.
+#![tactic(auto)]
+
 ghost use Rattle.std.specs.Prelude.{◌≡◌};
 ghost use Rattle.stream.specs.Machine.{start_of};
 ghost use Rattle.stream.specs.Numbers.{state_of, start_answer_of, Splits, finish_answer_of};

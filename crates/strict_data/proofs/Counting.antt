@@ -274,11 +274,6 @@ not_same false false e = refl
 not_same true false e = clash (sym e)
 not_same false true e = clash e
 
-one_differs : (es : List Element) → length es ≡ 1 → ids_differ es ≡ true
-one_differs [] e = refl
-one_differs (x ∷ []) e = refl
-one_differs (x ∷ y ∷ es) e = absurd (omega arith)
-
 module _ (s : List ℕ) (t : Bool) (et : t ≡ is_at s 0 45) where
   pub data_nil : t ≡ true → IsData 1 0 0 ≡ counts_of (structured s)
   unfolding structured listed choose only
@@ -298,14 +293,6 @@ module _ (s : List ℕ) (t : Bool) (et : t ≡ is_at s 0 45) where
       data_empty z =
           let f = all_here in
           rw (← et, h, f.is, lt-leb 1 (length f.value) (omega (arith, f.counted)))
-
-      -- one id differs from no other
-      pub data_one : n ≡ 1 → IsData m n k ≡ counts_of (structured s)
-      unfolding structured listed choose only
-      data_one z =
-          let f = all_here in
-          let d = one_differs f.value (omega (arith, f.counted)) in
-          rw (← et, h, f.is, le-leb 1 (length f.value) (omega (arith, f.counted)), d) (ap₂ (IsData m) f.counted f.params_counted)
 
       module _ (z : n ≡ 0 → ⊥) (r : Bool) (er : r ≡ first_differ n s) where
         tells : (x : Bool) → not r ≡ not x → ids_differ all_here.value ≡ x
@@ -327,7 +314,7 @@ module _ (s : List ℕ) (t : Bool) (et : t ≡ is_at s 0 45) where
             let d = tells true q in
             rw (← et, h, f.is, le-leb 1 (length f.value) (omega (arith, f.counted)), d) (ap₂ (IsData m) f.counted f.params_counted)
 
-pub ruleset data_laws = (data_nil, data_bad, data_empty, data_one, data_repeats, data_is)
+pub ruleset data_laws = (data_nil, data_bad, data_empty, data_repeats, data_is)
 
 -- what is counted lies within the text
 pub data_within : (s : List ℕ) (g : Counts) (m n k : ℕ) → g ≡ counts_of (structured s) → g ≡ IsData m n k → m ≤ length s

@@ -1,39 +1,28 @@
 -- What `next` answers.
 use Prim.Native.Nat.{ℕ, ◌+◌, ◌^◌, ◌≤◌, ◌<◌}
 use mathlib.Core.Path.{◌≡◌, sym, ap, ap₂, ◌∙◌}
-use mathlib.Core.Bool.{Bool, true, false, not}
+use mathlib.Core.Bool.{Bool, true, false}
 use mathlib.Core.List.{List}
 use native.Mathlib.Omega.{arith}
 use lib.ListN.{length, drop, length-drop}
 use mir.Syntax.{w64}
 use mir.Val.{Fits}
 use Rattle.base.specs.Choose.{is_at}
-use Rattle.base.specs.Runs.{run, eight}
-use Rattle.base.proofs.Runs.{run_le, Runs, runs_start, runs_yes, eight_on}
+use Rattle.base.specs.Runs.{run}
+use Rattle.base.proofs.Runs.{run_le}
+use Rattle.grammar.specs.Abnf.{sd_name_byte}
+use Rattle.grammar.specs.Parse.{stop}
 use Rattle.strict_data.specs.declared.Entry.{Entry}
-use Rattle.strict_data.specs.Entries.{opening, holding, passing, in_id, in_name, quote_len, id_at, name_at, value_at, entry_at, Lies}
+use Rattle.strict_data.specs.Entries.{opening, holding, passing, name_at, value_at, entry_at, Lies}
 
-id_inside : (line : List ℕ) (at : ℕ) → at < length line → at + id_at line at + 1 ≤ length line
-id_inside line at h =
+name_inside : (line : List ℕ) (at : ℕ) → at < length line → at + name_at line at + 1 ≤ length line
+name_inside line at h =
     let d = length-drop (at + 1) line in
-    let r = run_le in_id (drop (at + 1) line) in
+    let r = run_le sd_name_byte (drop (at + 1) line) in
     omega arith
 
-pub id_at_is : (line : List ℕ) (at n : ℕ) (u : List ℕ) → u ≡ drop (at + 1) line → n ≡ run in_id u → n ≡ id_at line at
-id_at_is line at n u eu en = en ∙ ap (run in_id) eu
-
-pub name_at_is : (line : List ℕ) (at n : ℕ) (u : List ℕ) → u ≡ drop (at + 1) line → n ≡ run in_name u → n ≡ name_at line at
-name_at_is line at n u eu en = en ∙ ap (run in_name) eu
-
--- where an id goes on after its first eight bytes
-pub id_none : (s : List ℕ) → run in_id s ≡ 0 + run in_id (drop 0 s)
-id_none s = omega arith
-
-pub id_eight : (s : List ℕ) → 8 ≤ length s → (b : Bool) → b ≡ eight in_id s 0 → not b ≡ false → run in_id s ≡ 8 + run in_id (drop 8 s)
-id_eight s l b e q = (eight_on in_id s (λ i. Runs in_id s (run in_id s) i) (λ j h w t. runs_yes in_id s (run in_id s) j w h t) 0 l (runs_start in_id s) b e q).ends
-
-pub id_front : (s : List ℕ) (i : ℕ) → i ≤ length s → run in_id s ≡ i + run in_id (drop i s) → Runs in_id s (run in_id s) i
-id_front s i h e = record { within_s = h; ends = e }
+pub name_at_is : (line : List ℕ) (at n : ℕ) (u : List ℕ) → u ≡ drop (at + 1) line → n ≡ run sd_name_byte u → n ≡ name_at line at
+name_at_is line at n u eu en = en ∙ ap (run sd_name_byte) eu
 
 -- a parameter
 module _ (line : List ℕ) (at : ℕ) (w : at + name_at line at + value_at line at + 4 ≤ length line) (n : ℕ) (en : n ≡ name_at line at) where
@@ -46,9 +35,9 @@ module _ (line : List ℕ) (at : ℕ) (w : at + name_at line at + value_at line 
   pub held_past_fits : length line < 2 ^ 64 → Fits w64 (at + n + 3)
   held_past_fits z = record { fits = omega arith }
 
-  module _ (u : List ℕ) (eu : u ≡ drop (at + n + 3) line) (m : ℕ) (em : m ≡ quote_len false u) where
+  module _ (u : List ℕ) (eu : u ≡ drop (at + n + 3) line) (m : ℕ) (em : m ≡ stop false u) where
     value_is : m ≡ value_at line at
-    value_is = em ∙ ap (quote_len false) (eu ∙ ap (λ (x : ℕ). drop (at + x + 3) line) en)
+    value_is = em ∙ ap (stop false) (eu ∙ ap (λ (x : ℕ). drop (at + x + 3) line) en)
 
     pub held_value_fits : length line < 2 ^ 64 → Fits w64 (at + n + m)
     held_value_fits z = let q = value_is in record { fits = omega arith }
@@ -63,12 +52,12 @@ pub ruleset held_laws = (held_past, held_name_fits, held_past_fits, held_value_f
 
 -- what stands at a place
 module _ (line : List ℕ) (at : ℕ) (w : Lies line at) (t : Bool) (et : t ≡ is_at line at 91) where
-  module _ (h : t ≡ true) (n : ℕ) (en : n ≡ id_at line at) where
+  module _ (h : t ≡ true) (n : ℕ) (en : n ≡ name_at line at) where
     pub opening_name_fits : length line < 2 ^ 64 → Fits w64 (at + n)
-    opening_name_fits z = let q = id_inside line at w.inside in record { fits = omega arith }
+    opening_name_fits z = let q = name_inside line at w.inside in record { fits = omega arith }
 
     pub opening_fits : length line < 2 ^ 64 → Fits w64 (at + n + 1)
-    opening_fits z = let q = id_inside line at w.inside in record { fits = omega arith }
+    opening_fits z = let q = name_inside line at w.inside in record { fits = omega arith }
 
     pub opening_is : opening at n ≡ entry_at line at
     unfolding entry_at

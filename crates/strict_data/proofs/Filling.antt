@@ -11,6 +11,7 @@ use Rattle.base.specs.Fills.{filled}
 use Rattle.base.specs.Runs.{run}
 use Rattle.base.proofs.Tests.{clash}
 use Rattle.base.proofs.Runs.{run_no}
+use Rattle.grammar.specs.Abnf.{sd_name_byte}
 use Rattle.grammar.specs.Line.{Param, Element, each_then, param_then, element_then, data_then, Each, ParamOk, ElementOk}
 use Rattle.grammar.specs.Reading.{param_count, element_rows, rows_of_params, param_rows}
 use Rattle.grammar.proofs.Readers.{Front, text_length, found_within, many_reads}
@@ -18,7 +19,7 @@ use Rattle.grammar.proofs.Data.{param_reads, data_reads, data_front}
 use Rattle.strict_data.specs.declared.Entry.{Entry}
 use Rattle.record.specs.Params.{row_of, blank}
 use Rattle.strict_data.specs.declared.Step.{Step}
-use Rattle.strict_data.specs.Entries.{opening, holding, passing, in_id, entry_at}
+use Rattle.strict_data.specs.Entries.{opening, holding, passing, entry_at}
 use Rattle.strict_data.specs.Steps.{param_of, step_of, ids_of, Stepping}
 use Rattle.strict_data.specs.Filling.{elements_at, Fillable}
 use Rattle.strict_data.proofs.Texts.{Found, over, finds_other, finds_id, finds_param}
@@ -73,9 +74,9 @@ data Next (line r : List ℕ) (at end k : ℕ) (l : Left) : Type 0 where
   passes : (l' : Left) → Found line at (passing at) → elements_left at l ≡ elements_left (at + 1) l' → params_left k at l ≡ params_left k (at + 1) l'
       → Ahead line r (at + 1) end k l' → Next line r at end k l
 
-no_name : (ps : List Param) (r : List ℕ) → run in_id (each_then param_then ps (93 ∷ r)) ≡ 0
-no_name [] r = run_no in_id 93 r refl
-no_name (p ∷ ps) r = run_no in_id 32 _ refl
+no_name : (ps : List Param) (r : List ℕ) → run sd_name_byte (each_then param_then ps (93 ∷ r)) ≡ 0
+no_name [] r = run_no sd_name_byte 93 r refl
+no_name (p ∷ ps) r = run_no sd_name_byte 32 _ refl
 
 pub params_length : (ps : List Param) (r : List ℕ) → Each ParamOk ps → length (each_then param_then ps r) ≡ length (each_then param_then ps []) + length r
 params_length ps r h = text_length (many_reads 31 param_reads) ps r h

@@ -1,6 +1,5 @@
 pub mod Answers
 pub mod Values
-pub mod Quotes
 pub mod Pieces
 pub mod Counting
 pub mod Messages

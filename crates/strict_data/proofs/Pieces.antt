@@ -1,86 +1,37 @@
 -- Names, values and parameters: what their readers answer.
-use Prim.Native.Nat.{ℕ, ◌+◌, ◌-◌, ◌%◌, ◌^◌, ◌≤◌, ◌<◌}
-use mathlib.Core.Path.{◌≡◌, refl, sym, ap, ◌∙◌}
-use mathlib.Core.Bool.{Bool, true, false, not, ◌&&◌, ◌||◌, and-false}
+use Prim.Native.Nat.{ℕ, ◌+◌, ◌-◌, ◌^◌, ◌≤◌, ◌<◌}
+use mathlib.Core.Path.{◌≡◌, sym, ap, ◌∙◌}
+use mathlib.Core.Bool.{Bool, true, false, not, ◌&&◌}
 use mathlib.Core.List.{List}
 use native.Mathlib.Omega.{arith}
-use lib.Dec.{leb, eqb}
-use lib.ListN.{length, get_or, drop, length-drop}
+use lib.Dec.{leb}
+use lib.ListN.{length, drop, length-drop}
 use mir.Syntax.{w64}
 use mir.Val.{Fits}
-use borrow.Author.Tests.{leb-true, ne_eqb, not-true, not-false}
-use Rattle.base.specs.Choose.{within, is_at}
-use Rattle.base.specs.Runs.{run, eight}
-use Rattle.base.proofs.Runs.{Runs, runs_start, runs_yes, eight_on}
-use Rattle.base.proofs.Tests.{both, by_test}
+use borrow.Author.Tests.{not-true, not-false}
+use Rattle.base.specs.Choose.{is_at}
+use Rattle.base.specs.Runs.{run}
 use Rattle.base.proofs.Parts.{at_below}
-use Rattle.base.proofs.Ranges.{inside, orders}
 use Rattle.grammar.specs.Abnf.{sd_name_byte}
 use Rattle.grammar.specs.Parse.{choose, behind, closed, ◌next◌, into, repeat, value, sd_name, param}
 use Rattle.grammar.proofs.Readers.{found_within, behind_reads}
 use Rattle.grammar.proofs.Bytes.{repeat_reads}
 use Rattle.grammar.proofs.Data.{value_reads}
-use Rattle.strict_data.specs.Sizes.{is_common, size_of}
+use Rattle.strict_data.specs.Sizes.{size_of}
 use Rattle.strict_data.specs.declared.Size.{Size}
 use Rattle.strict_data.specs.declared.Size.TheVariants.{Missing, Bytes}
 use Rattle.strict_data.proofs.Answers.{finds, misses}
 
 -- ---- a name
 
-abbrev Naming : List ℕ → ℕ → Type 0
-Naming s i = Runs sd_name_byte s (run sd_name_byte s) i
-
-pub name_front : (s : List ℕ) (i : ℕ) → i ≤ length s → run sd_name_byte s ≡ i + run sd_name_byte (drop i s) → Runs sd_name_byte s (run sd_name_byte s) i
-name_front s i h e = record { within_s = h; ends = e }
-
-pub name_none : (s : List ℕ) → run sd_name_byte s ≡ 0 + run sd_name_byte (drop 0 s)
-name_none s = omega arith
-
--- eight bytes of a name
-or_none : (x : Bool) → (x || false) ≡ x
-or_none true = refl
-or_none false = refl
-
-letter_named : (b : ℕ) → within 94 126 b ≡ true → sd_name_byte b ≡ true
-letter_named b h =
-    let o = orders 94 126 b h in
-    rw (inside 33 126 b (omega arith) o.1, ne_eqb b 61 (omega arith), ne_eqb b 93 (omega arith), ne_eqb b 34 (omega arith))
-
-common_named : (b : ℕ) → is_common b ≡ true → sd_name_byte b ≡ true
-common_named b h =
-    let (w, n) = both (within 35 126 b) (not (eqb b 61 || eqb b 93)) h in
-    let o = orders 35 126 b w in
-    rw (inside 33 126 b (omega arith) o.1, ne_eqb b 34 (omega arith), or_none (eqb b 61 || eqb b 93)) n
-
-pub name_letter : (s : List ℕ) (i : ℕ) → Runs sd_name_byte s (run sd_name_byte s) i → i < length s → (leb 94 (get_or s i 0) && leb (get_or s i 0) 126) ≡ true
-    → Runs sd_name_byte s (run sd_name_byte s) (i + 1)
-name_letter s i w h t = runs_yes sd_name_byte s (run sd_name_byte s) i w h (letter_named (get_or s i 0) t)
-
-name_next : (s : List ℕ) (j : ℕ) → j < length s → Naming s j → is_common (get_or s j 0) ≡ true → Naming s (j + 1)
-name_next s j h w t = runs_yes sd_name_byte s (run sd_name_byte s) j w h (common_named (get_or s j 0) t)
-
-pub name_eight : (s : List ℕ) → 8 ≤ length s → (b : Bool) → b ≡ eight is_common s 0 → not b ≡ false → run sd_name_byte s ≡ 8 + run sd_name_byte (drop 8 s)
-name_eight s l b e q = (eight_on is_common s (Naming s) (name_next s) 0 l (runs_start sd_name_byte s) b e q).ends
-
--- a length that passes the test is its own remainder
-remainder : (long : ℕ) → long ≤ 32 → long % 65536 ≡ long
-remainder long h = omega arith
-
-tested : (long : ℕ) → (leb 1 (long % 65536) && leb long 32) ≡ (leb 1 long && leb long 32)
-tested long =
-    by_test (λ b. leb long 32 ≡ b → (leb 1 (long % 65536) && b) ≡ (leb 1 long && b)) (leb long 32)
-    (λ _ b. ap (λ (k : ℕ). leb 1 k && true) (remainder long (leb-true long 32 b))) (λ _ b. and-false (leb 1 (long % 65536)) ∙ sym (and-false (leb 1 long))) refl
-
-module _ (s : List ℕ) (long : ℕ) (e : long ≡ run sd_name_byte s) where
-  pub name_is : (leb 1 (long % 65536) && leb long 32) ≡ true → Bytes (long % 65536) ≡ size_of (sd_name s)
+module _ (s : List ℕ) (n : ℕ) (e : n ≡ run sd_name_byte s) where
+  pub name_is : (leb 1 n && leb n 32) ≡ true → Bytes n ≡ size_of (sd_name s)
   unfolding repeat
-  name_is t =
-      let k : (leb 1 long && leb long 32) ≡ true = sym (tested long) ∙ t in
-      rw (remainder long (leb-true long 32 (both (leb 1 long) (leb long 32) k).1), ← e, k)
+  name_is t = rw (← e, t)
 
-  pub name_not : (leb 1 (long % 65536) && leb long 32) ≡ false → Missing ≡ size_of (sd_name s)
+  pub name_not : (leb 1 n && leb n 32) ≡ false → Missing ≡ size_of (sd_name s)
   unfolding repeat
-  name_not t = let k : (leb 1 long && leb long 32) ≡ false = sym (tested long) ∙ t in rw (← e, k)
+  name_not t = rw (← e, t)
 
 pub name_within : (s : List ℕ) (g : Size) (n : ℕ) → g ≡ size_of (sd_name s) → g ≡ Bytes n → n ≤ length s
 name_within s g n e h = let f = finds (sd_name s) g e h in found_within (repeat_reads 32 sd_name_byte) s f.value n f.is

@@ -1,28 +1,23 @@
 -- Values: where one stops, and what it has to be.
 use Prim.Native.Nat.{ℕ, suc, ◌+◌, ◌-◌, ◌^◌, ◌≤◌, ◌<◌}
-use mathlib.Core.Path.{◌≡◌, refl, sym, ap, subst, ◌∙◌}
-use mathlib.Core.Bool.{Bool, true, false, not, ◌&&◌, ◌||◌}
+use mathlib.Core.Path.{◌≡◌, refl, sym, ap, ◌∙◌}
+use mathlib.Core.Bool.{Bool, true, false, not, ◌&&◌}
 use mathlib.Core.List.{List, [], ◌∷◌}
 use native.Mathlib.Omega.{arith}
 use mir.Syntax.{w64}
 use mir.Val.{Fits}
-use lib.Dec.{eqb, leb, ltb}
+use lib.Dec.{eqb}
 use lib.ListN.{length, get_or, take, drop}
-use borrow.Author.Tests.{eq-eqb, ne_eqb, eqb-true, leb-false, lt-ltb, ltb-true, not-true, not-false}
+use borrow.Author.Tests.{eq-eqb, ne_eqb, not-true, not-false}
 use Rattle.base.specs.Choose.{if◌then◌else◌, is_at}
-use Rattle.base.specs.Runs.{run, All}
-use Rattle.base.proofs.Tests.{by_test, clash}
-use Rattle.base.proofs.Runs.{Runs, runs_start, runs_yes, run_front}
+use Rattle.base.proofs.Tests.{by_test}
 use Rattle.base.proofs.Parts.{step, ended, at_below}
-use Rattle.base.proofs.Ranges.{orders}
-use Rattle.utf8.specs.Lead.{is_utf8, utf8_from}
-use Rattle.utf8.specs.Onward.{Onward}
-use Rattle.utf8.proofs.Passing.{one_passed}
+use Rattle.utf8.specs.Lead.{is_utf8}
 use Rattle.grammar.specs.Line.{bare}
 use Rattle.grammar.specs.Parse.{on_found, only, stop, until_quote, value}
 use Rattle.grammar.specs.Parse.Parsed.{failed, found}
 use Rattle.grammar.proofs.Bytes.{stop_le}
-use Rattle.strict_data.specs.Sizes.{Plain, size_of}
+use Rattle.strict_data.specs.Sizes.{size_of}
 use Rattle.strict_data.specs.declared.Size.TheVariants.{Missing, Bytes}
 
 -- ---- where a value stops
@@ -74,77 +69,6 @@ module _ (s : List ℕ) (i : ℕ) (w : Stopping s i) where
 
 pub ruleset stop_laws = (stop_start, stop_out, stop_here, stop_on, stop_last, stop_pair)
 
--- ---- the front of a value that is ASCII
-
-abbrev is_ascii : ℕ → Bool
-is_ascii b = ltb b 128
-
-empty_valid : is_utf8 [] ≡ true
-unfolding utf8_from
-empty_valid = refl
-
-ascii_valid : (t : List ℕ) → All is_ascii t → is_utf8 t ≡ true
-ascii_valid [] h = empty_valid
-ascii_valid (x ∷ t) h = (one_passed (x ∷ t) 0 (omega arith) (ltb-true x 128 h.0)).same ∙ ascii_valid t h.1
-
--- `i` bytes are passed: no pair is open, and all are ASCII
-pub record Plainly (s : List ℕ) (i : ℕ) : Type 0 where
-  pub stopping : Stopping s i
-  pub ascii : Runs is_ascii s (run is_ascii s) i
-
-pub plain_start : (s : List ℕ) → Plainly s 0
-plain_start s = record { stopping = stop_start s; ascii = runs_start is_ascii s }
-
-pub or_left : (a b : Bool) → (a || b) ≡ false → a ≡ false
-or_left true b h = clash h
-or_left false b h = refl
-
-or_right : (a b : Bool) → (a || b) ≡ false → b ≡ false
-or_right true b h = clash h
-or_right false b h = h
-
-module _ (s : List ℕ) (i : ℕ) (w : Plainly s i) where
-  pub plain_is : Plain s i
-  plain_is =
-      record {
-        inside = w.stopping.passed;
-        onward = w.stopping.whole;
-        valid = ascii_valid (take i s) (run_front is_ascii s i (let e = w.ascii.ends in omega arith));
-      }
-
-  pub plain_inside : i ≤ length s
-  plain_inside = w.stopping.passed
-
-  module _ (h : i < length s) where
-    passes : bare (get_or s i 0) ≡ false → (get_or s i 0 ≡ 92 → ⊥) → get_or s i 0 < 128 → Plainly s (i + 1)
-    passes t e l =
-        record {
-          stopping = stop_on s i w.stopping h t e;
-          ascii = runs_yes is_ascii s (run is_ascii s) i w.ascii h (lt-ltb (get_or s i 0) 128 l);
-        }
-
-    -- a letter
-    pub plain_letter : (leb 94 (get_or s i 0) && leb (get_or s i 0) 127) ≡ true → Plainly s (i + 1)
-    plain_letter t =
-        let b = get_or s i 0 in
-        let o = orders 94 127 b t in
-        passes (rw (ne_eqb (get_or s i 0) 34 (omega arith), ne_eqb (get_or s i 0) 93 (omega arith))) (λ e. absurd (omega arith)) (omega arith)
-
-    pub plain_on : (get_or s i 0 ≡ 92 → ⊥) → (eqb (get_or s i 0) 34 || eqb (get_or s i 0) 93 || leb 128 (get_or s i 0)) ≡ false → Plainly s (i + 1)
-    plain_on e t =
-        passes (or_left (bare (get_or s i 0)) (leb 128 (get_or s i 0)) t) e (leb-false 128 (get_or s i 0) (or_right (bare (get_or s i 0)) (leb 128 (get_or s i 0)) t))
-
-    pub plain_pair : get_or s i 0 ≡ 92 → 2 ≤ length s - i → get_or s (i + 1) 0 < 128 → Plainly s (i + 2)
-    plain_pair e l b =
-        let k : i + 1 + 1 ≡ i + 2 = omega arith in
-        let one = runs_yes is_ascii s (run is_ascii s) i w.ascii h (lt-ltb (get_or s i 0) 128 (omega arith)) in
-        record {
-          stopping = stop_pair s i w.stopping h (ap bare e) e l;
-          ascii = subst (λ (j : ℕ). Runs is_ascii s (run is_ascii s) j) k (runs_yes is_ascii s (run is_ascii s) (i + 1) one (omega arith) (lt-ltb (get_or s (i + 1) 0) 128 b));
-        }
-
-pub ruleset plain_laws = (plain_start, plain_is, plain_inside, plain_letter, plain_on, plain_pair)
-
 -- ---- a value
 
 abbrev value_text : List ℕ → List ℕ
@@ -186,23 +110,5 @@ module _ (s : List ℕ) (n : ℕ) (e : n ≡ stop false s) where
 
         pub value_closed : not u ≡ false → Bytes (n + 1) ≡ size_of (value s)
         value_closed q = closed_here s n e (sym et ∙ not-false t h) (sym (not-false u q) ∙ eu ∙ text)
-
--- the front is all of it
-module _ (s : List ℕ) (n : ℕ) (w : Plain s n) (t : Bool) (et : t ≡ is_at s n 34) (h : t ≡ true) where
-  plain_room : n < length s
-  plain_room = at_below s n 33 (sym et ∙ h)
-
-  pub plain_fits : length s < 2 ^ 64 → Fits w64 (n + 1)
-  plain_fits g = record { fits = omega (arith, plain_room) }
-
-  quote_here : get_or s n 0 ≡ 34
-  quote_here = eqb-true (get_or s n 0) 34 (sym et ∙ h)
-
-  pub plain_closed : Bytes (n + 1) ≡ size_of (value s)
-  plain_closed =
-      let e : n ≡ stop false s = stop_here s n (record { passed = w.inside; whole = w.onward }) plain_room (ap bare quote_here) in
-      closed_here s n e (sym et ∙ h) (sym w.valid ∙ ap (λ (k : ℕ). is_utf8 (take k s)) e)
-
-pub ruleset plain_value_laws = (plain_fits, plain_closed)
 
 pub ruleset value_laws = (value_inside, value_open, value_fits, value_other)

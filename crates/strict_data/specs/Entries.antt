@@ -1,7 +1,9 @@
 -- For private contracts alone: what the second pass finds at a place of the structured data, by the byte there.
-use Rattle.std.specs.Prelude.{ℕ, suc, ◌+◌, ◌≤◌, ◌<◌, ◌≡◌, Bool, true, false, not, ◌||◌, List, [], ◌∷◌, eqb, length, drop}
+use Rattle.std.specs.Prelude.{ℕ, ◌+◌, ◌≤◌, ◌<◌, ◌≡◌, true, false, List, length, drop}
 use Rattle.base.specs.Choose.{if◌then◌else◌, is_at}
 use Rattle.base.specs.Runs.{run}
+use Rattle.grammar.specs.Abnf.{sd_name_byte}
+use Rattle.grammar.specs.Parse.{stop}
 use Rattle.strict_data.specs.declared.Entry.{Entry}
 
 -- "[" and an id of n bytes
@@ -16,31 +18,15 @@ holding at n m = record { opens = false; holds = true; name = n; value = m; next
 abbrev pub passing : ℕ → Entry
 passing at = record { opens = false; holds = false; name = 0; value = 0; next = at + 1 }
 
--- a byte before the end of an id, and one before the end of a name, where both are known to be right
-abbrev pub in_id : ℕ → Bool
-in_id b = not (eqb b 32 || eqb b 93)
-
-abbrev pub in_name : ℕ → Bool
-in_name b = not (eqb b 61)
-
--- the bytes of such a value before the quote that ends it; the test: the byte before is a backslash that begins a pair
-unfoldable pub quote_len : Bool → List ℕ → ℕ
-quote_len paired [] = 0
-quote_len true (b ∷ s) = suc (quote_len false s)
-quote_len false (b ∷ s) = if eqb b 34 then 0 else suc (quote_len (eqb b 92) s)
-
-abbrev pub id_at : List ℕ → ℕ → ℕ
-id_at line at = run in_id (drop (at + 1) line)
-
 abbrev pub name_at : List ℕ → ℕ → ℕ
-name_at line at = run in_name (drop (at + 1) line)
+name_at line at = run sd_name_byte (drop (at + 1) line)
 
 abbrev pub value_at : List ℕ → ℕ → ℕ
-value_at line at = quote_len false (drop (at + name_at line at + 3) line)
+value_at line at = stop false (drop (at + name_at line at + 3) line)
 
 unfoldable pub entry_at : List ℕ → ℕ → Entry
 entry_at line at =
-    if is_at line at 91 then opening at (id_at line at)
+    if is_at line at 91 then opening at (name_at line at)
     else if is_at line at 32 then holding at (name_at line at) (value_at line at)
     else passing at
 

@@ -1,9 +1,7 @@
 -- For private contracts alone: what the first pass keeps of the pieces of the structured data: how many bytes each takes, and of an element how many parameters it has.
-use Rattle.std.specs.Prelude.{ℕ, ◌+◌, ◌≤◌, ◌≡◌, Bool, true, false, not, ◌&&◌, ◌||◌, List, eqb, length, take, drop}
-use Rattle.base.specs.Choose.{within}
-use Rattle.utf8.specs.Lead.{is_utf8}
+use Rattle.std.specs.Prelude.{ℕ, length}
 use Rattle.grammar.specs.Line.{Element}
-use Rattle.grammar.specs.Parse.{Parsed, stop}
+use Rattle.grammar.specs.Parse.{Parsed}
 use Rattle.grammar.specs.Parse.Parsed.{failed, found}
 use Rattle.strict_data.specs.declared.Size.{Size}
 use Rattle.strict_data.specs.declared.Size.TheVariants.{Missing, Bytes}
@@ -11,16 +9,6 @@ use Rattle.strict_data.specs.declared.Block.{Block}
 use Rattle.strict_data.specs.declared.Block.TheVariants.{NoBlock, IsBlock}
 use Rattle.strict_data.specs.declared.Item.{Item}
 use Rattle.strict_data.specs.declared.Item.TheVariants.{NoItem, IsItem}
-
--- a byte of a name, '!' left aside
-abbrev pub is_common : ℕ → Bool
-is_common b = within 35 126 b && not (eqb b 61 || eqb b 93)
-
--- so many bytes in front of a value are UTF-8 and do not end it
-pub record Plain (s : List ℕ) (n : ℕ) : Type 0 where
-  pub inside : n ≤ length s
-  pub onward : stop false s ≡ n + stop false (drop n s)
-  pub valid : is_utf8 (take n s) ≡ true
 
 abbrev pub size_of : {A : Type 0} → Parsed A → Size
 size_of failed = Missing

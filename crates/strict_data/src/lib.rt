@@ -1,8 +1,8 @@
 // The structured data and the message of a strict line: a first pass that reads and counts, and a second that fills the lent tables.
 #![tactic(auto)]
 
-ghost use Rattle.std.specs.Prelude.{◌≡◌, false, ◌+◌, ◌≤◌, ◌<◌, length, drop, set};
-ghost use Rattle.base.specs.Runs.{run, eight};
+ghost use Rattle.std.specs.Prelude.{◌≡◌, false, ◌+◌, ◌≤◌, ◌<◌, length, set};
+ghost use Rattle.base.specs.Runs.{run};
 ghost use Rattle.base.specs.Fills.{filled};
 ghost use Rattle.record.specs.Limits.{line_limit};
 ghost use Rattle.record.specs.Params.{rows};
@@ -10,8 +10,8 @@ ghost use Rattle.grammar.specs.Abnf.{sd_name_byte};
 ghost use Rattle.grammar.specs.Parse as parse;
 ghost use Rattle.grammar.specs.Reading.{element_rows, param_rows};
 ghost use Rattle.strict_data.specs.Counts.{counts_of, tail_of};
-ghost use Rattle.strict_data.specs.Sizes.{is_common, Plain, size_of, block_of, item_of};
-ghost use Rattle.strict_data.specs.Entries.{in_id, in_name, quote_len, id_at, name_at, value_at, holding, entry_at, Lies};
+ghost use Rattle.strict_data.specs.Sizes.{size_of, block_of, item_of};
+ghost use Rattle.strict_data.specs.Entries.{name_at, value_at, holding, entry_at, Lies};
 ghost use Rattle.strict_data.specs.Ids.{Noted, Noting, Listed, Rowed, elements_in, Among, Spacious, first_differ};
 ghost use Rattle.strict_data.specs.Steps.{Stepping, step_of, ids_of};
 ghost use Rattle.strict_data.specs.Filling.{elements_at, Fillable};
@@ -62,47 +62,14 @@ enum Item {
     },
 }
 
-// Whether the first eight bytes are of a name, '!' left aside, so that '"' needs no test. All are asked, so that the compiler makes one test of them.
-fn eight_named(s: &[u8]) -> bool
-    requires { 8 ≤ length s.now }
-    ensures { result ≡ eight is_common s.now 0 }
-{
-    ((35 <= s[0]) & (s[0] <= 126) & !((s[0] == b'=') | (s[0] == b']')))
-        & ((35 <= s[1]) & (s[1] <= 126) & !((s[1] == b'=') | (s[1] == b']')))
-        & ((35 <= s[2]) & (s[2] <= 126) & !((s[2] == b'=') | (s[2] == b']')))
-        & ((35 <= s[3]) & (s[3] <= 126) & !((s[3] == b'=') | (s[3] == b']')))
-        & ((35 <= s[4]) & (s[4] <= 126) & !((s[4] == b'=') | (s[4] == b']')))
-        & ((35 <= s[5]) & (s[5] <= 126) & !((s[5] == b'=') | (s[5] == b']')))
-        & ((35 <= s[6]) & (s[6] <= 126) & !((s[6] == b'=') | (s[6] == b']')))
-        & ((35 <= s[7]) & (s[7] <= 126) & !((s[7] == b'=') | (s[7] == b']')))
-}
-
-// How many bytes in front are of a name, by eight: most ids have as many.
-fn id_front(s: &[u8]) -> usize
-    ensures upper_bound { result ≤ length s.now }
-    ensures s_value { run sd_name_byte s.now ≡ result + run sd_name_byte (drop result s.now) }
-{
-    if s.len() < 8 {
-        return 0;
-    }
-    if !eight_named(s) {
-        return 0;
-    }
-    8
-}
-
-// How many bytes of a name stand in front, of which `front` are known. Letters are asked for first.
-fn name_run(s: &[u8], front: usize) -> usize
-    requires front_in_bounds { front ≤ length s.now }
-    requires s_value { run sd_name_byte s.now ≡ front + run sd_name_byte (drop front s.now) }
+// How many bytes of a name stand in front.
+fn name_run(s: &[u8]) -> usize
     ensures { result ≡ run sd_name_byte s.now }
 {
-    let mut i = front;
+    let mut i = 0;
     while i < s.len() {
         let b = s[i];
-        if (94 <= b) & (b <= 126) {
-            i += 1;
-        } else if (33 <= b) & (b <= 126) & !((b == b'=') | (b == b']') | (b == b'"')) {
+        if (33 <= b) & (b <= 126) & !((b == b'=') | (b == b']') | (b == b'"')) {
             i += 1;
         } else {
             return i;
@@ -111,16 +78,11 @@ fn name_run(s: &[u8], front: usize) -> usize
     i
 }
 
-// A name, of which `front` bytes are known. `n` is `long` where it is used. Without the remainder the compiler keeps each place that is reckoned from it in
-// a counter of the loop.
-fn name(s: &[u8], front: usize) -> Size
-    requires front_in_bounds { front ≤ length s.now }
-    requires s_value { run sd_name_byte s.now ≡ front + run sd_name_byte (drop front s.now) }
+fn name(s: &[u8]) -> Size
     ensures { result ≡ size_of (parse.sd_name s.now) }
 {
-    let long = name_run(s, front);
-    let n = long % 65536;
-    if (1 <= n) & (long <= 32) {
+    let n = name_run(s);
+    if (1 <= n) & (n <= 32) {
         Size::Bytes(n)
     } else {
         Size::Missing
@@ -150,46 +112,8 @@ fn stop(s: &[u8]) -> usize
     i
 }
 
-// How many bytes in front of a value are ASCII and do not end it. Letters are asked for first; a backslash is passed with the byte that it takes.
-fn plain_len(s: &[u8]) -> usize
-    ensures { Plain s.now result }
-{
-    let n = s.len();
-    let mut i = 0;
-    while i < n {
-        let b = s[i];
-        if (94 <= b) & (b <= 127) {
-            i += 1;
-        } else if b == b'\\' {
-            if n - i < 2 {
-                return i;
-            }
-            if 128 <= s[i + 1] {
-                return i;
-            }
-            i += 2;
-        } else if (b == b'"') | (b == b']') | (128 <= b) {
-            return i;
-        } else {
-            i += 1;
-        }
-    }
-    i
-}
-
-// A value and its closing quote. One of ASCII alone, as most are, is looked at once.
+// A value and its closing quote.
 fn value(s: &[u8]) -> Size
-    ensures { result ≡ size_of (parse.value s.now) }
-{
-    let n = plain_len(s);
-    if base::is_at(s, n, b'"') {
-        return Size::Bytes(n + 1);
-    }
-    any_value(s)
-}
-
-// The same of any text.
-fn any_value(s: &[u8]) -> Size
     ensures { result ≡ size_of (parse.value s.now) }
 {
     let n = stop(s);
@@ -219,7 +143,7 @@ fn quoted(s: &[u8]) -> Size
 fn param(s: &[u8]) -> Size
     ensures { result ≡ size_of (parse.param s.now) }
 {
-    let Size::Bytes(n) = name(s, 0) else {
+    let Size::Bytes(n) = name(s) else {
         return Size::Missing;
     };
     if !base::is_at(s, n, b'=') {
@@ -263,8 +187,7 @@ fn params(s: &[u8]) -> Block
 fn element(s: &[u8]) -> Item
     ensures { result ≡ item_of (parse.element s.now) }
 {
-    let front = id_front(s);
-    let Size::Bytes(n) = name(s, front) else {
+    let Size::Bytes(n) = name(s) else {
         return Item::NoItem;
     };
     let Block::IsBlock { len, params } = params(base::past(s, n)) else {
@@ -425,13 +348,6 @@ pub fn count_data(s: &[u8]) -> Counts
     if elements == 0 {
         return Counts::NoData;
     }
-    if elements == 1 {
-        return Counts::IsData {
-            len,
-            elements,
-            params,
-        };
-    }
     if !ids_differ(s, elements, &starts, &lens) {
         return Counts::NoData;
     }
@@ -485,103 +401,12 @@ struct Entry {
     next: usize,
 }
 
-// ---- ids, names and values in the second pass, which are right: an id goes to a space or ']', a name to '='
-
-// Whether an id does not end in the first eight bytes.
-fn eight_of_id(s: &[u8]) -> bool
-    requires { 8 ≤ length s.now }
-    ensures { result ≡ eight in_id s.now 0 }
-{
-    !((s[0] == b' ') | (s[0] == b']'))
-        & !((s[1] == b' ') | (s[1] == b']'))
-        & !((s[2] == b' ') | (s[2] == b']'))
-        & !((s[3] == b' ') | (s[3] == b']'))
-        & !((s[4] == b' ') | (s[4] == b']'))
-        & !((s[5] == b' ') | (s[5] == b']'))
-        & !((s[6] == b' ') | (s[6] == b']'))
-        & !((s[7] == b' ') | (s[7] == b']'))
-}
-
-fn front_of_id(s: &[u8]) -> usize
-    ensures upper_bound { result ≤ length s.now }
-    ensures s_value { run in_id s.now ≡ result + run in_id (drop result s.now) }
-{
-    if s.len() < 8 {
-        return 0;
-    }
-    if !eight_of_id(s) {
-        return 0;
-    }
-    8
-}
-
-fn id_len(s: &[u8]) -> usize
-    ensures { result ≡ run in_id s.now }
-{
-    let mut i = front_of_id(s);
-    while i < s.len() {
-        let b = s[i];
-        if !((b == b' ') | (b == b']')) {
-            i += 1;
-        } else {
-            return i;
-        }
-    }
-    i
-}
-
-fn name_len(s: &[u8]) -> usize
-    ensures { result ≡ run in_name s.now }
-{
-    let mut i = 0;
-    while i < s.len() {
-        let b = s[i];
-        if !(b == b'=') {
-            i += 1;
-        } else {
-            return i;
-        }
-    }
-    i
-}
-
-// A value goes to a bare '"': no bare ']' stands in it.
-fn value_len(s: &[u8]) -> usize
-    ensures { result ≡ quote_len false s.now }
-{
-    let n = s.len();
-    let mut i = 0;
-    while i < n {
-        let b = s[i];
-        if b == b'"' {
-            return i;
-        }
-        if b == b'\\' {
-            if n - i < 2 {
-                return n;
-            }
-            i += 2;
-        } else {
-            i += 1;
-        }
-    }
-    i
-}
-
-// How many bytes of an id stand after the '[' at `at`.
-fn id_at(line: &[u8], at: usize) -> usize
-    requires { at < length line.now }
-    ensures { result ≡ id_at line.now at }
-{
-    id_len(base::past(line, at + 1))
-}
-
-// How many bytes of a name stand after the space at `at`.
+// How many bytes of a name stand after the byte at `at`.
 fn name_at(line: &[u8], at: usize) -> usize
     requires { at < length line.now }
     ensures { result ≡ name_at line.now at }
 {
-    name_len(base::past(line, at + 1))
+    name_run(base::past(line, at + 1))
 }
 
 // The parameter after the space at `at`.
@@ -590,7 +415,7 @@ fn held(line: &[u8], at: usize) -> Entry
     ensures { result ≡ holding at (name_at line.now at) (value_at line.now at) }
 {
     let n = name_at(line, at);
-    let m = value_len(base::past(line, at + n + 3));
+    let m = stop(base::past(line, at + n + 3));
     Entry {
         opens: false,
         holds: true,
@@ -605,7 +430,7 @@ fn next(line: &[u8], at: usize) -> Entry
     ensures { result ≡ entry_at line.now at }
 {
     if base::is_at(line, at, b'[') {
-        let n = id_at(line, at);
+        let n = name_at(line, at);
         return Entry {
             opens: true,
             holds: false,

@@ -1,7 +1,7 @@
 -- The names of the header.
-use Prim.Native.Nat.{ℕ, zero, suc, ◌+◌, ◌-◌, ◌%◌, ◌^◌, ◌≤◌, ◌<◌}
+use Prim.Native.Nat.{ℕ, zero, suc, ◌+◌, ◌-◌, ◌^◌, ◌≤◌, ◌<◌}
 use mathlib.Core.Path.{◌≡◌, refl, sym, ap, ◌∙◌}
-use mathlib.Core.Bool.{Bool, true, false, not, ◌&&◌, and-false}
+use mathlib.Core.Bool.{Bool, true, false, not, ◌&&◌}
 use mathlib.Core.List.{List, [], ◌∷◌}
 use native.Mathlib.Omega.{arith}
 use lib.Dec.{leb, eqb}
@@ -9,11 +9,11 @@ use lib.ListN.{length, take, drop, length-append, length-drop}
 use lib.Seq.{length-take-le, get_or-take}
 use mir.Syntax.{w64}
 use mir.Val.{Fits}
-use borrow.Author.Tests.{leb-true, not-true, not-false}
+use borrow.Author.Tests.{not-true, not-false}
 use Rattle.base.specs.Choose.{is_at}
 use Rattle.base.specs.Runs.{run}
 use Rattle.base.proofs.Runs.{run_le}
-use Rattle.base.proofs.Tests.{both, by_test, told}
+use Rattle.base.proofs.Tests.{told}
 use Rattle.grammar.specs.Abnf.{print_us_ascii}
 use Rattle.grammar.specs.Parse.{◌next◌, repeat, printable, names}
 use Rattle.grammar.specs.Reading.{place_of}
@@ -48,56 +48,26 @@ pub ruleset place_laws = (place_absent, place_is)
 -- ---- a field and its space
 
 module _ (s : List ℕ) (at most n : ℕ) (en : n ≡ run print_us_ascii s) where
-  size_not : not (leb 1 n && leb n most) ≡ true → NoField ≡ field_at at (printable most s)
+  pub field_in : n ≤ length s
+  field_in = rw en (run_le print_us_ascii s)
+
+  pub field_size : not (leb 1 n && leb n most) ≡ true → NoField ≡ field_at at (printable most s)
   unfolding repeat
-  size_not h = failed_answer (field_at at) (closed_failed {p = repeat most print_us_ascii} (record { is = rw (← en, not-true (leb 1 n && leb n most) h) }) 32)
+  field_size h = failed_answer (field_at at) (closed_failed {p = repeat most print_us_ascii} (record { is = rw (← en, not-true (leb 1 n && leb n most) h) }) 32)
 
   module _ (h : not (leb 1 n && leb n most) ≡ false) (t : Bool) (et : t ≡ is_at s n 32) where
     bytes : Finds (λ u. take n s ≡ u) n (repeat most print_us_ascii) s
     unfolding repeat
     bytes = record { value = take n s; is = rw (← en, not-false (leb 1 n && leb n most) h); has = refl }
 
-    not_closed : not t ≡ true → NoField ≡ field_at at (printable most s)
-    not_closed k = failed_answer (field_at at) (closed_open bytes 32 (untold t _ et k))
+    pub field_open : not t ≡ true → NoField ≡ field_at at (printable most s)
+    field_open k = failed_answer (field_at at) (closed_open bytes 32 (untold t _ et k))
 
-    is_closed : not t ≡ false → (x : Place) → x ≡ place_of at (take n s) → IsField x (n + 1) ≡ field_at at (printable most s)
-    is_closed k x e = field_found at (finds_so (closed_found bytes 32 (told t _ et k)) (λ u q. sym (e ∙ ap (place_of at) q)))
+    pub field_is : not t ≡ false → (x : Place) → x ≡ place_of at (take n s) → IsField x (n + 1) ≡ field_at at (printable most s)
+    field_is k x e = field_found at (finds_so (closed_found bytes 32 (told t _ et k)) (λ u q. sym (e ∙ ap (place_of at) q)))
 
--- a length that passes the test is its own remainder
-module _ (s : List ℕ) (at most long : ℕ) (m : most < 65536) (en : long ≡ run print_us_ascii s) where
-  remainder : leb long most ≡ true → long % 65536 ≡ long
-  remainder h = let l = leb-true long most h in omega arith
-
-  tested : (leb 1 (long % 65536) && leb long most) ≡ (leb 1 long && leb long most)
-  tested =
-      by_test (λ b. leb long most ≡ b → (leb 1 (long % 65536) && b) ≡ (leb 1 long && b)) (leb long most)
-      (λ _ b. ap (λ (k : ℕ). leb 1 k && true) (remainder b)) (λ _ b. and-false (leb 1 (long % 65536)) ∙ sym (and-false (leb 1 long))) refl
-
-  pub field_size : not (leb 1 (long % 65536) && leb long most) ≡ true → NoField ≡ field_at at (printable most s)
-  field_size h = size_not s at most long en (sym (ap not tested) ∙ h)
-
-  module _ (h : not (leb 1 (long % 65536) && leb long most) ≡ false) where
-    same : long % 65536 ≡ long
-    same = remainder (both (leb 1 (long % 65536)) (leb long most) (not-false _ h)).1
-
-    en' : long % 65536 ≡ run print_us_ascii s
-    en' = same ∙ en
-
-    h' : not (leb 1 (long % 65536) && leb (long % 65536) most) ≡ false
-    h' = ap (λ (k : ℕ). not (leb 1 (long % 65536) && leb k most)) same ∙ h
-
-    pub field_in : long % 65536 ≤ length s
-    field_in = rw en' (run_le print_us_ascii s)
-
-    module _ (t : Bool) (et : t ≡ is_at s (long % 65536) 32) where
-      pub field_open : not t ≡ true → NoField ≡ field_at at (printable most s)
-      field_open k = not_closed s at most (long % 65536) en' h' t et k
-
-      pub field_fits : not t ≡ false → length s < 2 ^ 64 → Fits w64 (long % 65536 + 1)
-      field_fits k l = past_there s (long % 65536) 32 t et k (omega arith) l
-
-      pub field_is : not t ≡ false → (x : Place) → x ≡ place_of at (take (long % 65536) s) → IsField x (long % 65536 + 1) ≡ field_at at (printable most s)
-      field_is k x e = is_closed s at most (long % 65536) en' h' t et k x e
+pub field_fits : (s : List ℕ) (n : ℕ) → n ≡ run print_us_ascii s → (t : Bool) → t ≡ is_at s n 32 → not t ≡ false → length s < 2 ^ 64 → Fits w64 (n + 1)
+field_fits s n en t et k l = past_there s n 32 t et k (omega arith) l
 
 pub ruleset field_laws = (field_in, field_fits, field_size, field_open, field_is)
 

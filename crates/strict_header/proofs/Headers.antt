@@ -7,7 +7,7 @@ use native.Mathlib.Omega.{arith}
 use lib.ListN.{length, drop, length-append, length-drop}
 use Rattle.grammar.specs.Abnf.{print_us_ascii, Repeat}
 use Rattle.grammar.specs.Line.{Timestamp, timestamp_then, PrivalOk, VersionOk, TimestampOk}
-use Rattle.grammar.specs.Parse.{Names, ◌next◌, pri_version, timestamp, names, header}
+use Rattle.grammar.specs.Parse.{Names, pri_version, timestamp, names, header}
 use Rattle.grammar.specs.Reading.{stamp_of}
 use Rattle.grammar.proofs.Readers.{Reads, Any, text_length, next_any}
 use Rattle.grammar.proofs.Header.{pri_reads, version_reads, full_reads, timestamp_reads, printable_reads}

@@ -1,7 +1,7 @@
 -- For private contracts alone: what the private readers of the header answer, as functions of what the parser of `grammar` finds: a number or a place for each text, and how many bytes were taken.
-use Rattle.std.specs.Prelude.{ℕ, ◌+◌, ◌-◌, ◌*◌, ◌≡◌, Bool, true, not, ◌&&◌, List, leb, length, get_or}
+use Rattle.std.specs.Prelude.{ℕ, ◌+◌, ◌-◌, ◌*◌, Bool, not, ◌&&◌, List, leb, length}
 use Rattle.std.proofs.Math.Option.{Option}
-use Rattle.digits.specs.Digits.{is_digit, decimal}
+use Rattle.digits.specs.Digits.{decimal}
 use Rattle.digits.specs.declared.Number.{Number}
 use Rattle.digits.specs.declared.Number.TheVariants.{Nothing, Value}
 use Rattle.grammar.specs.Line.{Offset, Timestamp, zero_led}
@@ -28,13 +28,6 @@ use Rattle.strict_header.specs.declared.IdsAt.{IdsAt}
 use Rattle.strict_header.specs.declared.IdsAt.TheVariants.{NoIds, AreIds}
 use Rattle.strict_header.specs.declared.NamesAt.{NamesAt}
 use Rattle.strict_header.specs.declared.NamesAt.TheVariants.{NoNames, AreNames}
-
--- the first two bytes are digits that write `v`, the first of them not zero
-pub record Tens (s : List ℕ) (v : ℕ) : Type 0 where
-  pub first : is_digit (get_or s 0 0) ≡ true
-  pub second : is_digit (get_or s 1 0) ≡ true
-  pub not_zero : get_or s 0 0 ≡ 48 → ⊥
-  pub value : v ≡ (get_or s 0 0 - 48) * 10 + (get_or s 1 0 - 48)
 
 -- a number of at most `max`, with no zero in front of other digits
 abbrev pub plain_to : ℕ → List ℕ → Bool

@@ -1,7 +1,7 @@
 // The header of a strict line: priority, version, timestamp and the four names, each read from the part of the line that starts at it.
 #![tactic(auto)]
 
-ghost use Rattle.std.specs.Prelude.{◌≡◌, true, ◌+◌, ◌-◌, ◌^◌, ◌≤◌, ◌<◌, pos, neg_ℤ, length, get_or, take};
+ghost use Rattle.std.specs.Prelude.{◌≡◌, true, ◌+◌, ◌^◌, ◌≤◌, ◌<◌, pos, neg_ℤ, length, take};
 ghost use Rattle.std.proofs.Math.Option.{some};
 ghost use Rattle.base.specs.Choose.{if◌then◌else◌};
 ghost use Rattle.base.specs.Runs.{run};
@@ -11,7 +11,7 @@ ghost use Rattle.digits.specs.Digits.{decimal};
 ghost use Rattle.grammar.specs.Abnf.{is_digit, print_us_ascii};
 ghost use Rattle.grammar.specs.Parse as parse;
 ghost use Rattle.grammar.specs.Reading.{place_of, nanos_of};
-ghost use Rattle.strict_header.specs.Pieces.{Tens, plain_to, value_of, minutes_of, pair_of, triple_of, offset_at, ending_at, stamp_at, text_at, field_at, ids_at, names_at};
+ghost use Rattle.strict_header.specs.Pieces.{plain_to, value_of, minutes_of, pair_of, triple_of, offset_at, ending_at, stamp_at, text_at, field_at, ids_at, names_at};
 ghost use Rattle.strict_header.specs.Header.{heading};
 
 use base::{is_at, past};
@@ -88,67 +88,18 @@ enum NamesAt {
     AreNames(Place, Place, Place, Place, usize),
 }
 
-// The byte at a place, or 0 past the end.
-fn byte_at(s: &[u8], i: usize) -> u8
-    ensures { result ≡ get_or s.now i 0 }
-{
-    if i < s.len() { s[i] } else { 0 }
-}
-
-// What a digit writes.
-fn digit_value(b: u8) -> u32
-    requires { is_digit b ≡ true }
-    ensures value { result ≡ b - 48 }
-    ensures upper_bound { result ≤ 9 }
-{
-    (b - b'0') as u32
-}
-
-// A number of at most `max` that has two digits or three. The first is not zero, and with the second it writes `tens`.
-fn longer(s: &[u8], max: u32, tens: u32) -> Number
-    requires le_max { 99 ≤ max }
-    requires tens { Tens s.now tens }
-    ensures { result ≡ value_of decimal (parse.only (plain_to max) (parse.repeat 3 is_digit) s.now) }
-{
-    let c = byte_at(s, 2);
-    if !((b'0' <= c) & (c <= b'9')) {
-        return Number::Value {
-            value: tens,
-            len: 2,
-        };
-    }
-    let d = byte_at(s, 3);
-    if (b'0' <= d) & (d <= b'9') {
-        return Number::Nothing;
-    }
-    let value = tens * 10 + digit_value(c);
-    if max < value {
-        return Number::Nothing;
-    }
-    Number::Value { value, len: 3 }
-}
-
-// A number of at most `max`, with no zero in front of other digits, of which there are at most three.
+// A number of at most `max`, with no zero in front of other digits.
 fn number(s: &[u8], max: u32) -> Number
-    requires { 99 ≤ max }
+    requires { max ≤ 999 }
     ensures { result ≡ value_of decimal (parse.only (plain_to max) (parse.repeat 3 is_digit) s.now) }
 {
-    let a = byte_at(s, 0);
-    if !((b'0' <= a) & (a <= b'9')) {
+    let Number::Value { value, len } = digits::digits(s, max) else {
+        return Number::Nothing;
+    };
+    if is_at(s, 0, b'0') & (1 < len) {
         return Number::Nothing;
     }
-    let b = byte_at(s, 1);
-    if !((b'0' <= b) & (b <= b'9')) {
-        return Number::Value {
-            value: digit_value(a),
-            len: 1,
-        };
-    }
-    if a == b'0' {
-        return Number::Nothing;
-    }
-    let tens = digit_value(a) * 10 + digit_value(b);
-    longer(s, max, tens)
+    Number::Value { value, len }
 }
 
 // `<`, the priority and `>`.
@@ -451,15 +402,12 @@ fn place_of(s: &[u8], at: usize, len: usize) -> Place
     record::place_at(at, len)
 }
 
-// A field of at most `most` bytes, which starts at `at` of the line, and its space. `n` is `long` where it is used. Without the remainder the compiler keeps
-// each place that is reckoned from it in a counter of the loop.
+// A field of at most `most` bytes, which starts at `at` of the line, and its space.
 fn field(s: &[u8], at: usize, most: usize) -> FieldAt
-    requires { most < 65536 }
     ensures { result ≡ field_at at (parse.printable most s.now) }
 {
-    let long = print_run(s);
-    let n = long % 65536;
-    if !((1 <= n) & (long <= most)) {
+    let n = print_run(s);
+    if !((1 <= n) & (n <= most)) {
         return FieldAt::NoField;
     }
     if !is_at(s, n, b' ') {

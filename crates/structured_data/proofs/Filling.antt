@@ -101,17 +101,17 @@ module _ (rules : Rules) (s : List ℕ) (at e p : ℕ) (e₀ p₀ : List (List �
               sym (ap (sets e₁ i) n)
               ∙ c.elements_left
               ∙ ap (sets e₀ 0) (sym l.elements)
-              ∙ sets_filled (rows_or at (data_from rules s at)).elements e₀ (omega (arith, room.elements_are, room.elements-fit));
+              ∙ sets_filled (rows_or at (data_from rules s at)).elements e₀ (omega (arith, room.elements_are, room.elements_fit_lem));
           params =
               sym (ap (sets p₁ j) m)
               ∙ c.params_left
               ∙ ap (sets p₀ 0) (sym l.params)
-              ∙ sets_filled (rows_or at (data_from rules s at)).params p₀ (omega (arith, room.params_are, room.params_fit));
+              ∙ sets_filled (rows_or at (data_from rules s at)).params p₀ (omega (arith, room.params_are, room.params_fit_lem));
         }
 
     module _ (h : i < e) where
       pub index_within : i < length e₁
-      index_within = omega (arith, c.elements_same, room.elements-fit)
+      index_within = omega (arith, c.elements_same, room.elements_fit_lem)
 
       some_left : 1 ≤ length (left rules s i start).elements
       some_left = omega (arith, c.elements_are)
@@ -129,7 +129,7 @@ module _ (rules : Rules) (s : List ℕ) (at e p : ℕ) (e₀ p₀ : List (List �
 
       module _ (o : Open) (eo : o ≡ open_from s start) where
         start_within : o.start ≤ length s
-        start_within = rw eo (opens s start).start-within
+        start_within = rw eo (opens s start).start_within
 
         rows_are : (params_from i o.start (drop o.start s)).rows ≡ param_rows s i start
         rows_are = ap (λ (o : Open). (params_from i o.start (drop o.start s)).rows) eo
@@ -174,7 +174,7 @@ module _ (rules : Rules) (s : List ℕ) (at e p : ℕ) (e₀ p₀ : List (List �
             record {
               stops = stops_there s start dead stop a t o eo;
               in_order = omega (arith, c.params_are);
-              end_within = omega (arith, c.params_same, room.params_fit);
+              end_within = omega (arith, c.params_same, room.params_fit_lem);
               past_end = λ m. by_test (λ b. is_at s (walk_from s o.start).next 93 ≡ b → b ≡ false) (is_at s (walk_from s o.start).next 93)
                   (λ _ q. absurd (too_many m q))
                   (λ _ q. refl)

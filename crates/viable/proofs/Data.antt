@@ -1,14 +1,13 @@
 -- The readers of the structured data with R-5 and what they read; how far these and the message's reader reach.
-use Prim.Native.Nat.{ℕ, zero, suc, ◌≤◌}
-use mathlib.Core.Path.{◌≡◌, refl, sym, ap, ◌∙◌, subst}
-use mathlib.Core.Bool.{Bool, true, false, not, ◌||◌}
+use Prim.Native.Nat.{ℕ, zero, suc}
+use mathlib.Core.Path.{◌≡◌, refl, sym, ap, subst}
+use mathlib.Core.Bool.{true, false, not, ◌||◌}
 use mathlib.Core.List.{List, [], ◌∷◌, ◌++◌}
-use mathlib.Core.Option.{Option, none, some}
+use mathlib.Core.Option.{some}
 use mathlib.Core.Logic.{◌⊎◌, inl, inr, ⊎_elim}
 use native.Mathlib.Omega.{arith}
-use lib.ListN.{length, drop}
+use lib.ListN.{drop}
 use lib.Dec.{eqb}
-use borrow.Author.Tests.{not-true}
 use Rattle.base.specs.Choose.{if◌then◌else◌, is_at}
 use Rattle.base.specs.Texts.{same_text, is_in, Distinct}
 use Rattle.base.proofs.Texts.{different_sound, different_complete}
@@ -16,20 +15,20 @@ use Rattle.base.specs.Runs.{run}
 use Rattle.base.proofs.Tests.{clash, both, by_test}
 use Rattle.base.proofs.Runs.{run_no}
 use Rattle.grammar.specs.Abnf.{sd_name_byte, Repeat}
-use Rattle.grammar.specs.Line.{Param, Element, each_then, param_then, element_then, data_then, message_text, ParamOk, Each, ElementOk, ids_of, MessageOk}
-use Rattle.grammar.specs.Parse.{Reader, always, choose, behind, closed, into, on_found, item_and, many_from, many, ◌next◌, sd_name, value, param_of, param, element_of, ids_differ, message}
+use Rattle.grammar.specs.Line.{Param, Element, each_then, param_then, element_then, data_then, ParamOk, Each, ElementOk, ids_of, MessageOk}
+use Rattle.grammar.specs.Parse.{Reader, closed, into, on_found, item_and, many_from, many, ◌next◌, sd_name, param_of, param, element_of, ids_differ, message}
 use Rattle.grammar.specs.Parse.Parsed.{failed, found}
 use Rattle.grammar.proofs.Readers.{Reads, Any, Made, restate, retext, closed_reads, behind_reads, next_reads, into_reads, fields_reads, always_reads, choose_reads, many_reads}
 use Rattle.grammar.proofs.Bytes.{repeat_reads}
 use Rattle.grammar.proofs.Data.{value_reads, param_reads, message_then}
-use Rattle.viable.specs.Far.{Far, each_from, each_far, follow}
+use Rattle.viable.specs.Far.{each_from}
 use Rattle.viable.specs.Ids.{is_used, is_unused, room, id_of, id_far}
 use Rattle.viable.specs.Reach.{param_far, params_far, element_in, element_far, used_and, cons_of, elements, elements_far, structured_in, structured_far, end_far}
 use Rattle.viable.proofs.Reaches.{Reaches, restate_reaches, retext_reaches, follow_reads, follow_reaches, next_reaches, closed_reaches, into_reaches, always_reaches, choose_reaches, behind_reaches, same_reaches}
 use Rattle.viable.proofs.Items.{EachFrom, each_reads, each_reaches}
 use Rattle.viable.proofs.Leaves.{repeat_reaches}
 use Rattle.viable.proofs.Texts.{value_reaches, text_reaches, end_reaches}
-use Rattle.viable.proofs.Ids.{IdOk, id_reads, id_full, id_reaches}
+use Rattle.viable.proofs.Ids.{id_reads, id_full, id_reaches}
 
 -- ---- SD-PARAM
 

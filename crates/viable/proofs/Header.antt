@@ -1,30 +1,29 @@
 -- How far the header's readers reach.
-use Prim.Native.Nat.{ℕ, zero, suc, ◌-◌, ◌≤◌}
-use mathlib.Core.Path.{◌≡◌, refl, sym, ap, ◌∙◌, subst}
+use Prim.Native.Nat.{ℕ, suc, ◌-◌, ◌≤◌}
+use mathlib.Core.Path.{◌≡◌, refl, sym, subst}
 use mathlib.Core.Bool.{Bool, true, false, not, ◌&&◌}
 use mathlib.Core.List.{List, [], ◌∷◌, ◌++◌}
-use mathlib.Core.Option.{Option, none, some}
-use mathlib.Core.Logic.{◌⊎◌, inl, inr, ⊎_elim}
+use mathlib.Core.Option.{none, some}
+use mathlib.Core.Logic.{inl, inr, ⊎_elim}
 use native.Mathlib.Omega.{arith}
 use lib.ListN.{get_or, drop}
 use lib.Dec.{leb, ltb}
 use borrow.Author.Tests.{le-leb, leb-true, lt-ltb, ltb-true, not-true}
-use Rattle.base.specs.Choose.{if◌then◌else◌, within, is_at}
+use Rattle.base.specs.Choose.{within, is_at}
 use Rattle.base.specs.Runs.{run}
-use Rattle.base.proofs.Tests.{both, by_test}
+use Rattle.base.proofs.Tests.{both}
 use Rattle.base.proofs.Ranges.{inside, orders}
 use Rattle.base.proofs.Runs.{run_no, all_at}
 use Rattle.digits.specs.Digits.{decimal}
 use Rattle.calendar.specs.Calendar.{leap, months, row, month_days, valid_date, valid_time}
 use Rattle.grammar.specs.Abnf.{is_digit, print_us_ascii, Repeat}
-use Rattle.grammar.specs.Line.{Offset, Timestamp, secfrac_then, offset_then, date_then, time_then, timestamp_then, zero_led, PrivalOk, VersionOk, SecfracOk, NumOffsetOk, OffsetOk, FullOk, TimestampOk}
-use Rattle.grammar.specs.Parse.{Header, Reader, always, choose, into, only, repeat, fixed, pri, version, pri_version, Three, is_prival, is_version, is_date, is_time, is_zone, date, clock, secfrac, zone, east_of, west_of, offset, timestamp_of, full, timestamp, printable, names, header}
+use Rattle.grammar.specs.Line.{Offset, secfrac_then, offset_then, date_then, time_then, timestamp_then, zero_led, PrivalOk, VersionOk, SecfracOk, NumOffsetOk, OffsetOk, FullOk, TimestampOk}
+use Rattle.grammar.specs.Parse.{always, choose, into, only, repeat, pri, version, pri_version, Three, is_prival, is_version, is_date, is_time, date, clock, secfrac, zone, east_of, west_of, offset, timestamp_of, full, timestamp, printable, names, header}
 use Rattle.grammar.proofs.Readers.{Reads, Any, Made, sides, joined, restate, closed_reads, only_reads, behind_reads, next_any, next_reads, into_reads, always_reads, choose_reads}
 use Rattle.grammar.proofs.Bytes.{itself, begins, repeat_reads, fixed_reads}
-use Rattle.grammar.proofs.Header.{NoFraction, pri_reads, version_reads, date_reads, clock_reads, secfrac_reads, zone_reads, offset_reads, full_reads, timestamp_reads, printable_reads, header_then, HeaderOk, header_reads}
+use Rattle.grammar.proofs.Header.{NoFraction, pri_reads, version_reads, date_reads, clock_reads, secfrac_reads, zone_reads, offset_reads, full_reads, timestamp_reads, printable_reads, header_then, HeaderOk}
 use Rattle.viable.specs.Viable.{is_byte}
-use Rattle.viable.specs.Far.{Far, none_far, choose_far, next_far, follow}
-use Rattle.viable.specs.Leaves.{repeat_far, ranged, ranged_far}
+use Rattle.viable.specs.Far.{none_far, choose_far}
 use Rattle.viable.specs.Reach.{pri_far, version_sp_far, two_in, two_in_far, date_by, date_far, clock_by, clock_far, zone_by, zone_far, secfrac_far, offset_far, full_far, timestamp_far, printable_far, names_far, header_far}
 use Rattle.viable.proofs.Reaches.{Reaches, restate_reaches, retext_reaches, follow_reads, follow_reaches, next_reaches, closed_reaches, into_reaches, always_reaches, choose_reaches, behind_reaches, agree, same_reaches}
 use Rattle.viable.proofs.Leaves.{repeat_reaches, fixed_reaches, RangeOk, ranged_reads, ranged_reaches, prival_reaches, version_reaches}

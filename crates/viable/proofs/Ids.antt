@@ -1,29 +1,25 @@
 -- How far an SD-ID reaches that has to differ from those before it.
-use Prim.Native.Nat.{ℕ, zero, suc, ◌+◌, ◌-◌, ◌*◌, ◌≤◌, ◌<◌}
-use mathlib.Core.Path.{◌≡◌, refl, sym, ap, ap₂, ◌∙◌, subst}
-use mathlib.Core.Bool.{Bool, true, false, not, ◌&&◌, ◌||◌}
+use Prim.Native.Nat.{ℕ, zero, suc, ◌≤◌, ◌<◌}
+use mathlib.Core.Path.{◌≡◌, refl, sym, ap, ◌∙◌, subst}
+use mathlib.Core.Bool.{Bool, true, false, ◌&&◌}
 use mathlib.Core.List.{List, [], ◌∷◌, ◌++◌, append_assoc, append-nil}
 use native.Mathlib.Omega.{arith}
-use lib.ListN.{length, take, drop, length-append}
-use lib.Seq.{length-take-le}
+use lib.ListN.{length, take}
 use lib.Dec.{leb, eqb}
-use borrow.Author.Tests.{le-leb, lt-leb, leb-true, leb-false, eqb-true, eqb-false, eq-eqb, not-true}
+use borrow.Author.Tests.{le-leb, leb-true, eqb-true, eqb-false}
 use Rattle.base.specs.Choose.{if◌then◌else◌, within}
-use Rattle.base.specs.Texts.{same_text}
 use Rattle.base.specs.Runs.{run, All}
 use Rattle.base.proofs.Tests.{clash, both, by_test}
-use Rattle.base.proofs.Ranges.{inside, orders}
-use Rattle.base.proofs.Runs.{run_le, run_all}
+use Rattle.base.proofs.Ranges.{orders}
 use Rattle.grammar.specs.Abnf.{sd_name_byte, print_us_ascii, Repeat}
-use Rattle.grammar.specs.Parse.{Reader, only, repeat}
+use Rattle.grammar.specs.Parse.{only, repeat}
 use Rattle.grammar.specs.Parse.Parsed.{failed, found}
 use Rattle.grammar.proofs.Readers.{Reads, not_found, if_found, through, only_reads}
 use Rattle.grammar.proofs.Bytes.{itself, repeat_reads}
 use Rattle.viable.specs.Viable.{is_byte}
 use Rattle.viable.proofs.Alls.{all_weaken, all_behind}
-use Rattle.viable.specs.Far.{Far}
-use Rattle.viable.specs.Ids.{is_used, is_unused, is_free, any_below, alive, room, id_of, id_far_from, id_far}
-use Rattle.viable.proofs.Reaches.{Open, Reaches, by_parsed}
+use Rattle.viable.specs.Ids.{is_unused, is_free, any_below, alive, room, id_of, id_far_from, id_far}
+use Rattle.viable.proofs.Reaches.{Reaches, by_parsed}
 use Rattle.viable.proofs.Leaves.{run_local, take_left, only_local, repeat_local, tested_yes}
 
 -- ---- tests

@@ -1,22 +1,21 @@
 -- Items that go by a state: what is read, and how far.
 use Prim.Native.Nat.{ℕ, zero, suc, ◌+◌, ◌≤◌, ◌<◌}
-use mathlib.Core.Path.{◌≡◌, refl, sym, ap, ap₂, ◌∙◌, subst}
+use mathlib.Core.Path.{◌≡◌, refl, sym, ap, ap₂, ◌∙◌}
 use mathlib.Core.Bool.{Bool, true, false, ◌&&◌}
 use mathlib.Core.List.{List, [], ◌∷◌, ◌++◌, append_assoc}
 use native.Mathlib.Omega.{arith}
-use native.Mathlib.Numerals.{add-one}
-use lib.ListN.{length, take, drop, length-append}
+use lib.ListN.{length, take, drop}
 use lib.Seq.{drop-drop, take-add}
 use lib.Dec.{eqb}
 use borrow.Author.Tests.{eq-eqb, eqb-true}
 use Rattle.base.specs.Choose.{if◌then◌else◌, is_at}
-use Rattle.base.proofs.Tests.{clash, by_test}
+use Rattle.base.proofs.Tests.{by_test}
 use Rattle.grammar.specs.Line.{each_then}
 use Rattle.grammar.specs.Parse.{Parsed, Reader, on_found, item_and}
 use Rattle.grammar.specs.Parse.Parsed.{failed, found}
-use Rattle.grammar.proofs.Readers.{Front, Reads, Any, not_found, same_front, through, text_over, text_length, found_within}
+use Rattle.grammar.proofs.Readers.{Front, Reads, Any, not_found, same_front, through, text_over, text_length}
 use Rattle.viable.specs.Far.{Far, reached, each_from, each_far}
-use Rattle.viable.proofs.Reaches.{Open, Reaches, by_parsed, unfound, found_text, take_one}
+use Rattle.viable.proofs.Reaches.{Open, Reaches, by_parsed, found_text, take_one}
 
 -- each item is Ok in the state that those before have left
 abbrev pub EachFrom : {A S : Type 0} → (S → A → Type 0) → (S → A → S) → S → List A → Type 0

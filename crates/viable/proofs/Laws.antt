@@ -1,16 +1,15 @@
 -- What holds of the longest beginning, proved.
-use Prim.Native.Nat.{ℕ, ◌≤◌, ◌<◌}
-use mathlib.Core.Path.{◌≡◌, refl, sym, ap, ◌∙◌, subst}
+use Prim.Native.Nat.{ℕ, ◌<◌}
+use mathlib.Core.Path.{◌≡◌, refl, sym, ◌∙◌, subst}
 use mathlib.Core.List.{List, [], append-nil}
 use native.Mathlib.Omega.{arith}
-use lib.ListN.{length, take}
+use lib.ListN.{length}
 use lib.Seq.{take-length}
 use lib.Dec.{leb}
 use borrow.Author.Tests.{leb-true, leb-false}
 use Rattle.base.proofs.Tests.{by_test}
 use Rattle.grammar.specs.Line.{Division, Derives}
-use Rattle.grammar.specs.Parse.Parsed.{failed, found}
-use Rattle.viable.specs.Viable.{Viable, Longest, Reports}
+use Rattle.viable.specs.Viable.{Viable, Longest}
 use Rattle.viable.specs.Viable.Reports.{too_long, derived, underivable}
 use Rattle.viable.specs.Laws.{LongestIs, LongestOne, ShorterToo, CutShort, UnderWhereBroken, ReportsOne}
 use Rattle.viable.specs.Reach.{parse_in, reach}

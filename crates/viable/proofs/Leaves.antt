@@ -1,31 +1,30 @@
 -- How far the readers of bytes reach.
 use Prim.Native.Nat.{ℕ, zero, suc, ◌+◌, ◌-◌, ◌*◌, ◌≤◌, ◌<◌}
-use mathlib.Core.Path.{◌≡◌, refl, sym, ap, ap₂, ◌∙◌, subst}
+use mathlib.Core.Path.{◌≡◌, refl, sym, ap, ap₂, ◌∙◌}
 use mathlib.Core.Bool.{Bool, true, false, not, ◌&&◌, ◌||◌}
-use mathlib.Core.List.{List, [], ◌∷◌, ◌++◌, append_assoc, append-nil}
+use mathlib.Core.List.{List, [], ◌∷◌, ◌++◌, append-nil}
 use native.Mathlib.Omega.{arith}
-use lib.ListN.{length, get_or, take, drop, length-append, length-drop, take-append-drop, replicate, length-replicate}
+use lib.ListN.{length, take, length-append, replicate, length-replicate}
 use lib.Seq.{take-append-le, length-take-le, get_or-take}
-use lib.Dec.{leb, eqb, ltb}
-use borrow.Author.Tests.{le-leb, lt-leb, leb-true, leb-false, eqb-true, eqb-false, ne_eqb, eq-eqb, not-true, lt-ltb}
+use lib.Dec.{leb, eqb}
+use borrow.Author.Tests.{le-leb, lt-leb, leb-true, leb-false, eqb-true, eqb-false, lt-ltb}
 use Rattle.base.specs.Choose.{if◌then◌else◌, within, is_at}
 use Rattle.base.specs.Runs.{run, All}
 use Rattle.base.proofs.Tests.{clash, both, by_test}
 use Rattle.base.proofs.Ranges.{inside, above, below, orders}
-use Rattle.base.proofs.Parts.{at_cons, at_below}
+use Rattle.base.proofs.Parts.{at_cons}
 use Rattle.base.proofs.Runs.{run_le, run_front}
 use Rattle.digits.specs.Digits.{decimal, decimal_from}
 use Rattle.grammar.specs.Abnf.{is_digit, Repeat}
 use Rattle.grammar.specs.Line.{zero_led, PrivalOk, VersionOk}
-use Rattle.grammar.specs.Parse.{Parsed, Reader, on_found, only, repeat, fixed, is_prival, is_version}
+use Rattle.grammar.specs.Parse.{Reader, on_found, only, repeat, fixed, is_prival, is_version}
 use Rattle.grammar.specs.Parse.Parsed.{failed, found}
 use Rattle.grammar.proofs.Readers.{Front, Reads, Any, not_found, if_found, same_front, through}
 use Rattle.grammar.proofs.Bytes.{itself}
 use Rattle.viable.specs.Viable.{is_byte}
 use Rattle.viable.proofs.Alls.{all_append, all_weaken}
-use Rattle.viable.specs.Far.{Far}
 use Rattle.viable.specs.Leaves.{repeat_far, fixed_far, prival_far, version_far, ranged, is_tens, ranged_far}
-use Rattle.viable.proofs.Reaches.{Open, Reaches, by_parsed, if_failed, at_left}
+use Rattle.viable.proofs.Reaches.{Open, Reaches, if_failed, at_left}
 
 -- ---- runs and what stands behind them
 

@@ -1,5 +1,5 @@
 -- The reader of a line with R-5 finds the strict divisions and no others; and where it fails, `reach` is the longest beginning that is viable.
-use Prim.Native.Nat.{ℕ, ◌≤◌, ◌<◌}
+use Prim.Native.Nat.{ℕ, ◌<◌}
 use mathlib.Core.Path.{◌≡◌, refl, sym, ap, ◌∙◌, subst}
 use mathlib.Core.Bool.{false}
 use mathlib.Core.List.{List, [], ◌++◌, append-nil}
@@ -8,13 +8,13 @@ use lib.ListN.{length, take, drop, take-append-drop}
 use lib.Seq.{length-take-le}
 use Rattle.base.specs.Choose.{is_at}
 use Rattle.grammar.specs.Line.{Element, Division, data_then, line_text, message_text, MessageOk, Derives}
-use Rattle.grammar.specs.Parse.{Header, division_of, header, message}
+use Rattle.grammar.specs.Parse.{Header, division_of, header}
 use Rattle.grammar.specs.Parse.Parsed.{failed, found}
 use Rattle.grammar.proofs.Readers.{Reads, ToEnd, not_found, fields_reads, next_reads, next_any, next_to_end, into_to_end}
 use Rattle.grammar.proofs.Header.{header_then, HeaderOk, header_reads}
 use Rattle.grammar.proofs.Data.{message_then, message_reads, message_to_end}
 use Rattle.grammar.proofs.Lines.{header_of, line_then}
-use Rattle.viable.specs.Viable.{Viable, Longest}
+use Rattle.viable.specs.Viable.{Longest}
 use Rattle.viable.specs.Reach.{structured_in, parse_in, reach}
 use Rattle.viable.proofs.Reaches.{Reaches, by_parsed, next_reaches, into_reaches}
 use Rattle.viable.proofs.Header.{header_reaches}

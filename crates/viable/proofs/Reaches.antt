@@ -1,19 +1,19 @@
 -- How far readers reach: a law for each way to make a reader.
-use Prim.Native.Nat.{ℕ, zero, suc, ◌+◌, ◌≤◌, ◌<◌}
-use mathlib.Core.Path.{◌≡◌, refl, sym, ap, ap₂, ◌∙◌, subst}
+use Prim.Native.Nat.{ℕ, suc, ◌+◌, ◌≤◌, ◌<◌}
+use mathlib.Core.Path.{◌≡◌, refl, sym, ap, ap₂, ◌∙◌}
 use mathlib.Core.Bool.{Bool, true, false}
-use mathlib.Core.List.{List, [], ◌∷◌, ◌++◌, append_assoc, append-nil}
+use mathlib.Core.List.{List, [], ◌∷◌, ◌++◌, append_assoc}
 use native.Mathlib.Omega.{arith}
-use lib.ListN.{length, get_or, take, drop, length-append, length-drop, take-append-drop, get_or-append}
+use lib.ListN.{length, take, drop, length-drop, get_or-append}
 use native.Mathlib.Numerals.{add-one}
-use lib.Seq.{take-nil, drop-drop, drop-append-le, take-append_seam, take_at, take-add, length-take-le}
+use lib.Seq.{take-nil, drop-drop, drop-append-le, take_at, take-add}
 use lib.Dec.{eqb}
 use Rattle.base.specs.Choose.{if◌then◌else◌, is_at}
-use Rattle.base.proofs.Tests.{clash, by_test}
+use Rattle.base.proofs.Tests.{by_test}
 use Rattle.base.proofs.Parts.{at_below, at_cons}
-use Rattle.grammar.specs.Parse.{Parsed, Reader, on_found, always, never, choose, behind, closed, only, ◌next◌, into}
+use Rattle.grammar.specs.Parse.{Parsed, Reader, on_found, always, choose, behind, closed, ◌next◌, into}
 use Rattle.grammar.specs.Parse.Parsed.{failed, found}
-use Rattle.grammar.proofs.Readers.{Front, Reads, Any, not_found, if_found, same_front, through, text_over, text_length, found_within}
+use Rattle.grammar.proofs.Readers.{Reads, Any, not_found, if_found, same_front, through, text_over, text_length, found_within}
 use Rattle.base.specs.Runs.{All}
 use Rattle.viable.specs.Viable.{is_byte}
 use Rattle.viable.proofs.Alls.{all_append}

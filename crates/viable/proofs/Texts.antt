@@ -1,37 +1,37 @@
 -- How far UTF-8, a value and a message reach.
-use Prim.Native.Nat.{ℕ, zero, suc, ◌+◌, ◌-◌, ◌*◌, ◌≤◌, ◌<◌}
-use mathlib.Core.Path.{◌≡◌, refl, sym, ap, ap₂, ◌∙◌, subst}
-use mathlib.Core.Bool.{Bool, true, false, not, ◌&&◌, ◌||◌}
+use Prim.Native.Nat.{ℕ, zero, suc, ◌+◌, ◌-◌, ◌≤◌, ◌<◌}
+use mathlib.Core.Path.{◌≡◌, refl, sym, ap, ◌∙◌, subst}
+use mathlib.Core.Bool.{Bool, true, false, ◌&&◌}
 use mathlib.Core.List.{List, [], ◌∷◌, ◌++◌, append_assoc, append-nil}
-use mathlib.Core.Option.{Option, none, some}
+use mathlib.Core.Option.{none, some}
 use native.Mathlib.Omega.{arith}
-use lib.ListN.{length, get_or, take, drop, length-append, length-drop, take-append-drop, replicate, length-replicate}
-use lib.Seq.{take-append-le, drop-append-le, take_all, take-take, length-take-le, take-add}
-use lib.Dec.{leb, eqb, ltb}
-use borrow.Author.Tests.{le-leb, lt-leb, leb-true, leb-false, eqb-true, eqb-false, ne_eqb, eq-eqb}
+use lib.ListN.{length, take, drop, length-append, length-drop, take-append-drop, replicate}
+use lib.Seq.{take-append-le, drop-append-le, take-take, length-take-le, take-add}
+use lib.Dec.{leb, eqb}
+use borrow.Author.Tests.{le-leb, leb-true, leb-false, eqb-true, ne_eqb}
 use Rattle.base.specs.Choose.{if◌then◌else◌, within, is_at}
 use Rattle.base.proofs.Tests.{clash, both, by_test, by_if}
 use Rattle.base.proofs.Ranges.{inside, orders}
-use Rattle.base.proofs.Parts.{at_cons, at_below}
+use Rattle.base.proofs.Parts.{at_cons}
 use Rattle.utf8.specs.Rfc3629.{Utf8}
-use Rattle.utf8.specs.Lead.{asks, lead_of, utf8_from, is_utf8}
+use Rattle.utf8.specs.Lead.{lead_of, utf8_from, is_utf8}
 use Rattle.utf8.specs.declared.Lead.{Lead}
 use Rattle.utf8.proofs.Leads.{lead_1}
 use Rattle.utf8.proofs.Asked.{lead_bounds}
 use Rattle.utf8.proofs.Texts.{utf8_sound}
-use Rattle.grammar.specs.Line.{bare, Escaped, message_text, MessageOk}
+use Rattle.grammar.specs.Line.{bare, Escaped, MessageOk}
 use Rattle.grammar.specs.Line.Escaped.{nothing, plain, pair}
-use Rattle.grammar.specs.Parse.{Parsed, Reader, on_found, only, stop, until_quote, all_left, at_end, value, is_message}
+use Rattle.grammar.specs.Parse.{on_found, only, stop, until_quote, all_left, at_end, value, is_message}
 use Rattle.grammar.specs.Parse.Parsed.{failed, found}
-use Rattle.grammar.proofs.Readers.{not_found, if_found, through}
+use Rattle.grammar.proofs.Readers.{not_found, if_found}
 use Rattle.grammar.proofs.Bytes.{stop_le, itself}
 use Rattle.grammar.proofs.Data.{message_then}
 use Rattle.base.specs.Runs.{All}
 use Rattle.viable.specs.Viable.{is_byte}
 use Rattle.viable.proofs.Alls.{all_append}
-use Rattle.viable.specs.Far.{Far, none_far}
+use Rattle.viable.specs.Far.{none_far}
 use Rattle.viable.specs.Leaves.{utf8_far_from, utf8_far, value_far, message_far}
-use Rattle.viable.proofs.Reaches.{Open, Reaches, by_parsed, if_failed, at_left}
+use Rattle.viable.proofs.Reaches.{Open, Reaches, if_failed, at_left}
 use Rattle.viable.proofs.Leaves.{Local, only_local, take_left}
 
 -- ---- UTF-8

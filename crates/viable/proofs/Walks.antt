@@ -10,14 +10,14 @@ use lib.ListN.{length, drop}
 use lib.Seq.{drop-drop, get_or-drop}
 use lib.Dec.{eqb}
 use borrow.Author.Tests.{le-leb, not-true, not-false}
-use Rattle.base.specs.Choose.{if◌then◌else◌, is_at}
+use Rattle.base.specs.Choose.{is_at}
 use Rattle.base.proofs.Tests.{clash}
 use Rattle.base.specs.Runs.{run}
 use Rattle.base.proofs.Parts.{at_below}
 use Rattle.base.proofs.Ranges.{inside, above}
 use Rattle.grammar.specs.Parse.{Parsed, Reader, on_found, ◌next◌, closed, choose, behind, never, into, repeat}
 use Rattle.grammar.specs.Parse.Parsed.{failed, found}
-use Rattle.viable.specs.Far.{Far, reached, next_far, follow, closed_far, choose_far, behind_far, none_far}
+use Rattle.viable.specs.Far.{Far, next_far, follow, closed_far, choose_far, behind_far, none_far}
 use Rattle.viable.specs.Leaves.{repeat_far}
 use Rattle.viable.specs.Walks.{went_of, onward_of, went_at}
 use Rattle.viable.specs.declared.Went.{Went}

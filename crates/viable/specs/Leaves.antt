@@ -1,11 +1,11 @@
 -- For private contracts alone: how far the readers of bytes reach, where they fail.
-use Rattle.std.specs.Prelude.{ℕ, zero, suc, ◌+◌, ◌-◌, ◌*◌, Bool, true, false, ◌&&◌, ◌||◌, List, [], ◌∷◌, length, get_or, take, drop, leb, eqb}
+use Rattle.std.specs.Prelude.{ℕ, zero, suc, ◌+◌, ◌-◌, ◌*◌, Bool, false, ◌&&◌, ◌||◌, List, [], ◌∷◌, get_or, take, drop, leb, eqb}
 use Rattle.base.specs.Choose.{if◌then◌else◌, within, is_at}
 use Rattle.base.specs.Runs.{run}
 use Rattle.utf8.specs.Lead.{lead_of}
 use Rattle.digits.specs.Digits.{decimal}
 use Rattle.grammar.specs.Abnf.{is_digit}
-use Rattle.grammar.specs.Parse.{Parsed, Reader, stop}
+use Rattle.grammar.specs.Parse.{Reader, stop}
 use Rattle.grammar.specs.Parse.Parsed.{failed, found}
 use Rattle.viable.specs.Far.{Far}
 

@@ -1,11 +1,11 @@
 -- For private contracts alone: how far the readers of a line reach, and the reader of a line with R-5.
-use Rattle.std.specs.Prelude.{ℕ, Bool, true, List, [], ◌∷◌}
-use Rattle.std.proofs.Math.Option.{Option, none, some}
+use Rattle.std.specs.Prelude.{ℕ, true, List, [], ◌∷◌}
+use Rattle.std.proofs.Math.Option.{none, some}
 use Rattle.digits.specs.Digits.{decimal}
 use Rattle.calendar.specs.Calendar.{month_days}
 use Rattle.grammar.specs.Abnf.{is_digit, print_us_ascii, sd_name_byte}
-use Rattle.grammar.specs.Line.{Element, Param, Division}
-use Rattle.grammar.specs.Parse.{Reader, Three, Header, always, choose, behind, closed, only, many, into, ◌next◌, repeat, fixed, is_prival, is_version, pri, version, pri_version, date, clock, secfrac, zone, full, timestamp, printable, names, header, sd_name, param, element_of, message, division_of}
+use Rattle.grammar.specs.Line.{Element, Division}
+use Rattle.grammar.specs.Parse.{Reader, Three, always, choose, behind, closed, only, many, into, ◌next◌, repeat, fixed, is_prival, is_version, pri, pri_version, date, clock, secfrac, full, timestamp, printable, header, sd_name, param, element_of, message, division_of}
 use Rattle.viable.specs.Far.{Far, none_far, choose_far, behind_far, closed_far, next_far, follow, each_from, each_far}
 use Rattle.viable.specs.Leaves.{repeat_far, fixed_far, prival_far, version_far, ranged, ranged_far, value_far, message_far}
 use Rattle.viable.specs.Ids.{room, id_of, id_far}

@@ -5,9 +5,6 @@ use Rattle.claim_header.proofs.head.Goals as goal
 pub enum_known-facility : goal.enum_known-facility
 enum_known-facility c = search (head_laws, rules)
 
-pub enum_told-1 : goal.enum_told-1
-enum_told-1 c = search (head_laws, rules)
-
 pub returns-in_default : goal.returns-in_default
 returns-in_default c = search (head_laws, rules)
 

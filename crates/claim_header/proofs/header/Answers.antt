@@ -8,9 +8,6 @@ head-requires c = search (header_laws, rules)
 pub enum_known-a : goal.enum_known-a
 enum_known-a c = search (header_laws, rules)
 
-pub enum_told-1 : goal.enum_told-1
-enum_told-1 c = search (header_laws, rules)
-
 pub returns-in_default : goal.returns-in_default
 returns-in_default c = search (header_laws, rules)
 

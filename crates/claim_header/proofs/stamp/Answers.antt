@@ -5,9 +5,6 @@ use Rattle.claim_header.proofs.stamp.Goals as goal
 pub enum_known-stamp : goal.enum_known-stamp
 enum_known-stamp c = search (stamp_next_laws, rules)
 
-pub enum_told-1 : goal.enum_told-1
-enum_told-1 c = search (stamp_next_laws, rules)
-
 pub no_stamp-requires : goal.no_stamp-requires
 no_stamp-requires c = search (stamp_next_laws, rules)
 

@@ -8,9 +8,6 @@ shown_at-requires c = search (stands_laws, rules)
 pub enum_known-clock : goal.enum_known-clock
 enum_known-clock c = search (stands_laws, rules)
 
-pub enum_told-1 : goal.enum_told-1
-enum_told-1 c = search (stands_laws, rules)
-
 pub returns-in_default : goal.returns-in_default
 returns-in_default c = search (stands_laws, rules)
 

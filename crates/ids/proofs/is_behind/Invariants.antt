@@ -1,4 +1,4 @@
-use Rattle.std.proofs.Common.{◌+◌, ◌-◌, ◌≡◌, length, get_or, drop}
+use Rattle.std.proofs.Common.{◌+◌, ◌-◌, ◌≡◌, [], length, get_or, drop}
 use Rattle.base.specs.Texts.{is_in}
 use Rattle.ids.specs.Ids.{id_in, ids_in}
 use Rattle.ids.proofs.is_behind.Given as goal

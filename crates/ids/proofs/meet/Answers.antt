@@ -24,13 +24,13 @@ pub returns-then-not-bare_differ : goal.returns-then-not-bare_differ
 returns-then-not-bare_differ c = let g = c.gather-both in
     let d = c.bare_differ in
     let first = c.gather-first.result in
-    meet_not c.args.text.now c.args.rows.now c.args.a c.loop-both.line c.requires.rows_value_2 first.next first.end c.loop-both.b (search rules) g.result g.new.0 g.ensures d.result d.ensures (search rules)
+    meet_not c.args.text.now c.args.rows.now c.args.a c.loop-both.line c.requires.rows_value_2 first.next first.end c.loop-both.b (search rules) g.result g.new.out g.ensures d.result d.ensures (search rules)
 
 pub returns-then-rows-b : goal.returns-then-rows-b
 returns-then-rows-b c = let g = c.gather-both in
     let d = c.bare_differ in
     let first = c.gather-first.result in
-    meet_all c.args.text.now c.args.rows.now c.args.a c.loop-both.line c.requires.rows_value_2 first.next first.end c.loop-both.b (search rules) g.result g.new.0 g.ensures d.result d.ensures (search rules) (search rules)
+    meet_all c.args.text.now c.args.rows.now c.args.a c.loop-both.line c.requires.rows_value_2 first.next first.end c.loop-both.b (search rules) g.result g.new.out g.ensures d.result d.ensures (search rules) (search rules)
 
 pub loop-both-smaller : goal.loop-both-smaller
 loop-both-smaller c = search (meet_less, rules)

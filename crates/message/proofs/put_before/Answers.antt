@@ -6,8 +6,9 @@ pub put_front-a-requires-clause-fits : goal.put_front-a-requires-clause-fits
 put_front-a-requires-clause-fits c = search (first_fits, starts)
 
 pub put_first-requires : goal.put_first-requires
-put_first-requires c = rw c.counted.ensures (search (next_fits, starts), search rules)
+put_first-requires c = rw c.counted.ensures (record { fits = search (next_fits, starts); ids_value = search rules })
 
 pub returns : goal.returns
-returns c = let w = rw c.counted.ensures at c.put_first.ensures in
+returns c =
+    let w = rw c.counted.ensures at c.put_first.ensures in
     search two_are

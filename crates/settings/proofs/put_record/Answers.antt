@@ -21,4 +21,4 @@ pub put_end-requires : goal.put_end-requires
 put_end-requires c = search (record_laws, version_byte, rules)
 
 pub returns : goal.returns
-returns c = search (record_laws, version_byte, rules)
+returns c = search (record_laws, rules)

@@ -12,9 +12,6 @@ returns-in_default c = search (data_laws, rules)
 pub returns-then-elements-eq0 : goal.returns-then-elements-eq0
 returns-then-elements-eq0 c = search (data_laws, rules)
 
-pub returns-then-elements-eq1 : goal.returns-then-elements-eq1
-returns-then-elements-eq1 c = search (data_laws, rules)
-
 pub ids_differ-requires-clause-among : goal.ids_differ-requires-clause-among
 ids_differ-requires-clause-among c = search (among_all, rules)
 

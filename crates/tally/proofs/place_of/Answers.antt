@@ -2,9 +2,6 @@ use Rattle.std.proofs.Common.{rules}
 use Rattle.tally.proofs.Calls.{level_laws}
 use Rattle.tally.proofs.place_of.Goals as goal
 
-pub enum_told-1 : goal.enum_told-1
-enum_told-1 c = search (level_laws, rules)
-
 pub enum_known-level : goal.enum_known-level
 enum_known-level c = search (level_laws, rules)
 

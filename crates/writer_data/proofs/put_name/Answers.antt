@@ -7,7 +7,7 @@ pub put_text-b-requires : goal.put_text-b-requires
 put_text-b-requires c = search (first_fits, next_fits, starts, name_starts, rules)
 
 pub put_text-requires : goal.put_text-requires
-put_text-requires c = last_fits c.requires.ranges c.put-a.ensures c.put_text-b.ensures (search (starts_named, name_is))
+put_text-requires c = last_fits c.requires.fits c.put-a.ensures c.put_text-b.ensures (search (starts_named, name_is))
 
 pub returns : goal.returns
-returns c = three_are c.requires.ranges c.put-a.ensures c.put_text-b.ensures c.put_text.ensures (search name_is)
+returns c = three_are c.requires.fits c.put-a.ensures c.put_text-b.ensures c.put_text.ensures (search name_is)

@@ -10,7 +10,7 @@ pub put_escaped-b-requires : goal.put_escaped-b-requires
 put_escaped-b-requires c = search (first_fits, next_fits, value_starts, param_starts, rules)
 
 pub put-requires : goal.put-requires
-put-requires c = last_fits c.requires.ranges c.put_name-a.ensures c.put_escaped-b.ensures (search (starts_named, value_is))
+put-requires c = last_fits c.requires.fits c.put_name-a.ensures c.put_escaped-b.ensures (search (starts_named, value_is))
 
 pub returns : goal.returns
-returns c = three_are c.requires.ranges c.put_name-a.ensures c.put_escaped-b.ensures c.put.ensures (search value_is)
+returns c = three_are c.requires.fits c.put_name-a.ensures c.put_escaped-b.ensures c.put.ensures (search value_is)

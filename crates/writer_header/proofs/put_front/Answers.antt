@@ -22,7 +22,7 @@ put_pair-b-requires-clause-len_in_bounds_2 c = search places_in
 
 pub put_pair-requires-clause-fits : goal.put_pair-requires-clause-fits
 unfolding front_text
-put_pair-requires-clause-fits c = last_fits c.requires.ranges c.put_stamped-a.ensures c.put_pair-b.ensures (search starts)
+put_pair-requires-clause-fits c = last_fits c.requires.fits c.put_stamped-a.ensures c.put_pair-b.ensures (search starts)
 
 pub put_pair-requires-clause-len_in_bounds : goal.put_pair-requires-clause-len_in_bounds
 unfolding front_text
@@ -34,4 +34,4 @@ put_pair-requires-clause-len_in_bounds_2 c = search places_in
 
 pub returns : goal.returns
 unfolding front_text
-returns c = three_are c.requires.ranges c.put_stamped-a.ensures c.put_pair-b.ensures c.put_pair.ensures refl
+returns c = three_are c.requires.fits c.put_stamped-a.ensures c.put_pair-b.ensures c.put_pair.ensures refl

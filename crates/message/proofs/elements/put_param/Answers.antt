@@ -13,8 +13,8 @@ put_part-b-requires-clause-fits c = search (next_fits, starts)
 
 pub put-requires : goal.put-requires
 unfolding param_text
-put-requires c = last_fits c.requires.ranges c.put_name-a.ensures c.put_part-b.ensures (search starts)
+put-requires c = last_fits c.requires.fits c.put_name-a.ensures c.put_part-b.ensures (search starts)
 
 pub returns : goal.returns
 unfolding param_text
-returns c = three_are c.requires.ranges c.put_name-a.ensures c.put_part-b.ensures c.put.ensures refl
+returns c = three_are c.requires.fits c.put_name-a.ensures c.put_part-b.ensures c.put.ensures refl

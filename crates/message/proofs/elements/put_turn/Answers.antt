@@ -4,14 +4,22 @@ use Rattle.message.proofs.Walks.{turn_laws}
 use Rattle.message.proofs.elements.put_turn.Goals as goal
 
 pub put_opens-a-requires : goal.put_opens-a-requires
-put_opens-a-requires c = rw c.counted-ids.ensures (search (first_fits, starts), (search turn_laws, (search turn_laws, search rules)))
+put_opens-a-requires c =
+    rw c.counted-ids.ensures (record {
+      fits = search (first_fits, starts);
+      last_in_bounds = search turn_laws;
+      k_le_last = search turn_laws;
+      ids_value = search rules;
+    })
 
 pub put_param-requires : goal.put_param-requires
-put_param-requires c = let w = rw c.counted-ids.ensures at c.put_opens-a.ensures in
-    (search (next_fits, starts), (search turn_laws, search turn_laws))
+put_param-requires c =
+    let w = rw c.counted-ids.ensures at c.put_opens-a.ensures in
+    record { fits = search (next_fits, starts); name_len_in_bounds = search turn_laws; value_len_in_bounds = search turn_laws }
 
 pub returns-then-k-p : goal.returns-then-k-p
-returns-then-k-p c = let w = rw c.counted-ids.ensures at c.put_opens-a.ensures in
+returns-then-k-p c =
+    let w = rw c.counted-ids.ensures at c.put_opens-a.ensures in
     search two_are
 
 pub put_param-requires-2-clause-fits : goal.put_param-requires-2-clause-fits

@@ -14,7 +14,7 @@ put-b-requires c = search (next_fits, starts)
 
 pub put_field-requires-clause-fits : goal.put_field-requires-clause-fits
 unfolding head_text
-put_field-requires-clause-fits c = last_fits c.requires.ranges c.put_stamped-a.ensures c.put-b.ensures (search starts)
+put_field-requires-clause-fits c = last_fits c.requires.fits c.put_stamped-a.ensures c.put-b.ensures (search starts)
 
 pub put_field-requires-clause-len_in_bounds : goal.put_field-requires-clause-len_in_bounds
 unfolding head_text
@@ -22,4 +22,4 @@ put_field-requires-clause-len_in_bounds c = search places_in
 
 pub returns : goal.returns
 unfolding head_text
-returns c = three_are c.requires.ranges c.put_stamped-a.ensures c.put-b.ensures c.put_field.ensures refl
+returns c = three_are c.requires.fits c.put_stamped-a.ensures c.put-b.ensures c.put_field.ensures refl

@@ -16,10 +16,10 @@ pub put_field-b-requires-clause-len_in_bounds : goal.put_field-b-requires-clause
 put_field-b-requires-clause-len_in_bounds c = search places_in
 
 pub put_field-requires-clause-fits : goal.put_field-requires-clause-fits
-put_field-requires-clause-fits c = last_fits c.requires.ranges c.put_field-a.ensures c.put_field-b.ensures (search starts)
+put_field-requires-clause-fits c = last_fits c.requires.fits c.put_field-a.ensures c.put_field-b.ensures (search starts)
 
 pub put_field-requires-clause-len_in_bounds : goal.put_field-requires-clause-len_in_bounds
 put_field-requires-clause-len_in_bounds c = search places_in
 
 pub returns : goal.returns
-returns c = three_are c.requires.ranges c.put_field-a.ensures c.put_field-b.ensures c.put_field.ensures refl
+returns c = three_are c.requires.fits c.put_field-a.ensures c.put_field-b.ensures c.put_field.ensures refl

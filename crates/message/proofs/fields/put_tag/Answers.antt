@@ -12,13 +12,13 @@ pub put_place-a-requires-clause-fits : goal.put_place-a-requires-clause-fits
 put_place-a-requires-clause-fits c = search (first_fits, tag_starts)
 
 pub put_text-requires-then-not-procid : goal.put_text-requires-then-not-procid
-put_text-requires-then-not-procid c = next_fits c.requires.ranges c.put_place-a.ensures (search (starts_named, tag_app))
+put_text-requires-then-not-procid c = next_fits c.requires.fits c.put_place-a.ensures (search (starts_named, tag_app))
 
 pub returns-then-not-procid : goal.returns-then-not-procid
 returns-then-not-procid c = search (two_are, tag_app)
 
 pub put_pid-requires-clause-fits : goal.put_pid-requires-clause-fits
-put_pid-requires-clause-fits c = next_fits c.requires.ranges c.put_place-a.ensures (search (starts_named, tag_pid))
+put_pid-requires-clause-fits c = next_fits c.requires.fits c.put_place-a.ensures (search (starts_named, tag_pid))
 
 pub returns : goal.returns
 returns c = search (two_are, tag_pid)
