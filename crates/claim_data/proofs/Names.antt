@@ -1,8 +1,8 @@
 -- Names and values where they are claimed to stand, test by test.
-use Prim.Native.Nat.{ℕ, ◌+◌, ◌-◌, ◌^◌, ◌≤◌, ◌<◌}
+use Prim.Native.Nat.{ℕ, ◌+◌, ◌-◌, ◌≤◌, ◌<◌}
 use mathlib.Core.Path.{◌≡◌, refl, sym, ap, ◌∙◌}
 use mathlib.Core.Bool.{Bool, true, false, not, ◌&&◌}
-use mathlib.Core.List.{List, [], ◌∷◌}
+use mathlib.Core.List.{List, ◌∷◌}
 use native.Mathlib.Omega.{arith}
 use lib.Dec.{leb, eqb}
 use lib.ListN.{length, get_or, take, drop}
@@ -12,7 +12,6 @@ use Rattle.base.specs.Texts.{text_at}
 use Rattle.base.proofs.Parts.{step, ended}
 use Rattle.base.proofs.Texts.{part_text_lem}
 use Rattle.utf8.specs.Lead.{is_utf8}
-use Rattle.record.specs.Limits.{line_limit}
 use Rattle.grammar.specs.Abnf.{sd_name_byte}
 use Rattle.grammar.specs.Line.{bare}
 use Rattle.claims.specs.Holds.{every, class_at, well_escaped, name_holds, value_holds}

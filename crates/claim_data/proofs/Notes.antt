@@ -1,5 +1,5 @@
 -- The places of ids, as they are noted, and what they tell.
-use Prim.Native.Nat.{ℕ, zero, suc, ◌+◌, ◌-◌, ◌*◌, ◌^◌, ◌≤◌, ◌<◌}
+use Prim.Native.Nat.{ℕ, zero, suc, ◌+◌, ◌*◌, ◌^◌, ◌≤◌, ◌<◌}
 use mathlib.Core.Path.{◌≡◌, refl, sym, ap, ap₂, ◌∙◌}
 use mathlib.Core.Bool.{Bool, true, false, not, ◌||◌}
 use mathlib.Core.List.{List, [], ◌∷◌, ◌++◌}
@@ -11,9 +11,8 @@ use lib.Seq.{get_or-set_same, get_or-set_other, get_or-take, length-take-le}
 use borrow.Author.Tests.{not-true}
 use Rattle.base.specs.Texts.{text_at, same_text, is_in, all_different}
 use Rattle.base.proofs.Tests.{clash, both, by_test}
-use Rattle.record.specs.Limits.{line_limit}
 use Rattle.distinct.specs.Distinct.{id_of, Rows, FirstRepeat}
-use Rattle.distinct.specs.Tree.{Room, Asked}
+use Rattle.distinct.specs.Tree.{Asked}
 use Rattle.distinct.proofs.Repeats.{first_tells}
 use Rattle.claims.specs.Holds.{ids_at}
 use Rattle.claim_data.specs.Ids.{Ids, Notable, Noted, Spacious}

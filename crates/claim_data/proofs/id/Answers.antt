@@ -36,4 +36,4 @@ pub overflow_add-result-2 : goal.overflow_add-result-2
 overflow_add-result-2 c = search (id_laws, rules)
 
 pub returns : goal.returns
-returns c = id_all _ _ c.args.t3 _ c.is_at.ensures (ap not c.if-not-is_at.false) c.if-row-at.false _ c.name_at.ensures (ap not c.if-not-name_at.false)
+returns c = id_all _ _ c.args.row _ c.is_at.ensures (ap not c.if-not-is_at.false) c.if-row-at.false _ c.name_at.ensures (ap not c.if-not-name_at.false)

@@ -8,9 +8,6 @@ byte_next-requires c = search (open_laws, rules)
 pub enum_known-b : goal.enum_known-b
 enum_known-b c = search (open_laws, rules)
 
-pub enum_told-1 : goal.enum_told-1
-enum_told-1 c = search (open_laws, rules)
-
 pub returns-in_default : goal.returns-in_default
 returns-in_default c = search (open_laws, rules)
 
