@@ -45,22 +45,22 @@ module _ {line memory : List ℕ} {elements params : List (List ℕ)} (called : 
       print_answers =
           let text = text_of line memory elements params in
           by_service (λ a. Answered (print_answer text (length old)) text old a new) _ _ h λ w k.
-          let q = record_served.print-answers k in
+          let q = record_served.print_answers k in
           record { answer = ap output_answer_of q; output = k.output ∙ ap (λ (w : Written). output_after w text old) q }
 
       print_not_7 : a.number ≡ 7 → ⊥
-      print_not_7 = by_service (λ a. a.number ≡ 7 → ⊥) _ _ h (λ w k. record_served.print-not-7 k)
+      print_not_7 = by_service (λ a. a.number ≡ 7 → ⊥) _ _ h (λ w k. record_served.print_not_7 k)
 
     module _ {id name : List ℕ} {kind : ℕ} (h : ServesLookup line memory elements params id name kind old a new) where
       lookup_answers : let f = found_in line memory elements params id name in Answered (lookup_answer kind f (length old)) (value_text (eqb kind 0) f) old a new
       lookup_answers =
           let f = found_in line memory elements params id name in
           by_service (λ a. Answered (lookup_answer kind f (length old)) (value_text (eqb kind 0) f) old a new) _ _ h λ w k.
-          let q = record_served.lookup-answers k in
+          let q = record_served.lookup_answers k in
           record { answer = ap output_answer_of q; output = k.output ∙ ap (λ (w : Written). output_after w (value_text (eqb kind 0) f) old) q }
 
       lookup_not_7 : a.number ≡ 7 → ⊥
-      lookup_not_7 = by_service (λ a. a.number ≡ 7 → ⊥) _ _ h (λ w k. record_served.lookup-not-7 k)
+      lookup_not_7 = by_service (λ a. a.number ≡ 7 → ⊥) _ _ h (λ w k. record_served.lookup_not_7 k)
 
 pub called_served : CalledIsServed
 called_served line memory elements params called =

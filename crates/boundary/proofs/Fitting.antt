@@ -64,7 +64,7 @@ stamp_in_lem : (s : Stamp) → stamp_suits s ≡ true → StampIn s
 stamp_in_lem Unstamped h = tt
 stamp_in_lem (Stamped t) h =
     let i = suited.stamp_in_lem t h in
-    let f = offset_in t.offset i.offset-in in
+    let f = offset_in t.offset i.offset_in in
     (seconds_in t.seconds t.offset i.clock f i.shows, omega (arith, i.nanos_in), omega (arith, i.digits_in), f)
 
 -- ---- the whole

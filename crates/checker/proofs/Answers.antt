@@ -1,7 +1,7 @@
 -- The answers of the service, by its tests.
 use Prim.Native.Nat.{ℕ, ◌≤◌}
 use mathlib.Core.Path.{◌≡◌, refl, sym, ap, ◌∙◌, subst}
-use mathlib.Core.Bool.{Bool, true, false, ◌&&◌, and-false}
+use mathlib.Core.Bool.{Bool, true, false}
 use mathlib.Core.List.{List}
 use lib.ListN.{length}
 use Rattle.record.specs.Limits.{line_limit}
@@ -9,7 +9,7 @@ use Rattle.record.specs.declared.Record.{Record}
 use Rattle.record.specs.declared.StrictRecord.{StrictRecord}
 use Rattle.record.specs.declared.Refusal.TheVariants.{Unsuitable}
 use Rattle.suits.specs.Suits.{place_suits, suits}
-use Rattle.claims.specs.Claims.{claim_in, claim_suits, Checks}
+use Rattle.claims.specs.Claims.{claim_in, Checks}
 use Rattle.claims.specs.Holds.{holds}
 use Rattle.claims.specs.declared.Checked.{Checked}
 use Rattle.claims.specs.declared.Checked.TheVariants.{Refused}

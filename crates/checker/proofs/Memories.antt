@@ -1,6 +1,6 @@
 -- A strict record that comes in as bytes, and the numbers of the answers.
 use Prim.Native.Nat.{ℕ, ◌+◌, ◌-◌, ◌*◌, ◌≤◌, ◌<◌}
-use mathlib.Core.Path.{◌≡◌, refl, sym, ap, ◌∙◌, subst}
+use mathlib.Core.Path.{◌≡◌, sym, ap, ◌∙◌}
 use mathlib.Core.Bool.{Bool, true, false, not, ◌&&◌}
 use mathlib.Core.List.{List}
 use native.Mathlib.Omega.{arith}
@@ -12,11 +12,10 @@ use Rattle.base.proofs.Tests.{clash, both}
 use Rattle.record.specs.Limits.{line_limit}
 use Rattle.record.specs.Refusals.{refusal_number}
 use Rattle.record.specs.declared.Record.{Record}
-use Rattle.record.specs.declared.Place.{Place}
 use Rattle.record.specs.declared.StrictRecord.{StrictRecord}
 use Rattle.record.specs.declared.Refusal.{Refusal}
 use Rattle.layout.specs.Layout.{word_count, strict_word_count, record_size, strict_size}
-use Rattle.layout.specs.Incoming.{number, word_at, holds_record, place_at, record_at, element_count_at, param_count_at}
+use Rattle.layout.specs.Incoming.{number, word_at, holds_record, record_at, element_count_at, param_count_at}
 use Rattle.claims.specs.Claims.{Checks, checked_number}
 use Rattle.claims.specs.declared.Checked.{Checked}
 use Rattle.claims.specs.declared.Checked.TheVariants.{Yes, Refused}

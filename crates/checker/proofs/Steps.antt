@@ -1,11 +1,11 @@
 -- The steps of the check: what is asked at each call, and what each return says.
 use Prim.Native.Nat.{ℕ, ◌+◌, ◌-◌, ◌^◌, ◌≤◌, ◌<◌}
-use mathlib.Core.Path.{◌≡◌, refl, sym, ap, ◌∙◌}
-use mathlib.Core.Bool.{Bool, true, false, not, ◌&&◌}
+use mathlib.Core.Path.{◌≡◌, refl, sym, ◌∙◌}
+use mathlib.Core.Bool.{Bool, true, false, not}
 use mathlib.Core.List.{List}
 use native.Mathlib.Omega.{arith}
 use lib.Dec.{leb}
-use lib.ListN.{length, get_or, take, drop}
+use lib.ListN.{length, take, drop}
 use lib.Seq.{length-take-le}
 use borrow.Author.Tests.{le-leb, lt-leb, leb-true, leb-false, ltb-true, not-true, not-false}
 use Rattle.base.specs.Texts.{all_different}
@@ -14,15 +14,15 @@ use Rattle.record.specs.Limits.{line_limit}
 use Rattle.record.specs.declared.Param.{Param}
 use Rattle.record.specs.declared.StrictRecord.{StrictRecord}
 use Rattle.record.specs.Params.{row_of}
-use Rattle.suits.specs.Suits.{place_suits, record_suits, elements_suit, param_suits}
-use Rattle.claims.specs.Holds.{on_next, header_next, ids_at, message_holds}
+use Rattle.suits.specs.Suits.{place_suits, record_suits, elements_suit}
+use Rattle.claims.specs.Holds.{header_next, ids_at, message_holds}
 use Rattle.claims.specs.declared.Checked.{Checked}
 use Rattle.claims.specs.declared.Checked.TheVariants.{Yes}
 use Rattle.claims.specs.declared.Next.{Next}
 use Rattle.claims.specs.declared.Next.TheVariants.{Off, At}
 use Rattle.claim_data.specs.Walks.{first_next, turn_next, last_next}
 use Rattle.claim_data.specs.Ids.{Ids}
-use Rattle.checker.specs.Steps.{walk_at, start_of, end_of, rest_holds, verdict, Counted, Starting, Turning, Finishing}
+use Rattle.checker.specs.Steps.{walk_at, start_of, end_of, rest_holds, verdict, Starting, Turning, Finishing}
 use Rattle.checker.specs.declared.Walk.{Walk}
 
 pub counted_is : (rows : List (List ℕ)) (n : ℕ) → take (n - 0) (drop 0 rows) ≡ take n rows

@@ -1,8 +1,8 @@
 -- The check in one walk over the parameters.
 use Prim.Native.Nat.{ℕ, zero, suc, ◌+◌, ◌-◌, ◌*◌, ◌≤◌, ◌<◌}
 use mathlib.Core.Path.{◌≡◌, refl, sym, ap, ◌∙◌}
-use mathlib.Core.Bool.{Bool, true, false, not, ◌&&◌}
-use mathlib.Core.List.{List, [], ◌∷◌, map}
+use mathlib.Core.Bool.{Bool, true, false, ◌&&◌}
+use mathlib.Core.List.{List, [], ◌∷◌}
 use native.Mathlib.Omega.{arith}
 use lib.Dec.{leb}
 use lib.ListN.{length, get_or, take, drop, length-map}
@@ -14,22 +14,22 @@ use Rattle.record.specs.Limits.{line_limit}
 use Rattle.record.specs.declared.Param.{Param}
 use Rattle.record.specs.declared.StrictRecord.{StrictRecord}
 use Rattle.record.specs.Params.{row_of}
-use Rattle.grammar.specs.Line.{Element, Each, ElementOk, each_then, element_then, param_then, data_then}
+use Rattle.grammar.specs.Line.{Element, Each, ElementOk, each_then, element_then, data_then}
 use Rattle.grammar.specs.Reading.{element_rows}
 use Rattle.grammar.proofs.Data.{listed_reads}
 use Rattle.suits.specs.Suits.{place_suits, record_suits, elements_suit, param_suits, params_suit, tables_suit, suits}
 use Rattle.suits.proofs.Rows.{row_step, rows_ended}
-use Rattle.suits.proofs.Suited.{RecordIn, record_in_lem}
-use Rattle.claims.specs.Claims.{pair_of, pairs, claim_in, claim_suits}
+use Rattle.suits.proofs.Suited.{record_in_lem}
+use Rattle.claims.specs.Claims.{pair_of, pairs, claim_in}
 use Rattle.claims.specs.Holds.{on_next, header_next, data_next, ids_at, message_holds, end_holds, holds}
 use Rattle.claims.specs.declared.Checked.{Checked}
 use Rattle.claims.specs.declared.Next.{Next}
 use Rattle.claims.specs.declared.Next.TheVariants.{Off, At}
-use Rattle.claims.proofs.Places.{Here, here_as}
-use Rattle.claims.proofs.Tests.{never, same_at, on_next_lem, here_fits}
-use Rattle.claims.proofs.Rows.{DataHere, data_step, element_size_lem}
+use Rattle.claims.proofs.Places.{here_as}
+use Rattle.claims.proofs.Tests.{on_next_lem, here_fits}
+use Rattle.claims.proofs.Rows.{data_step, element_size_lem}
 use Rattle.claims.proofs.Told.{told_elements}
-use Rattle.claim_data.specs.Walks.{first_next, turn_next, last_next}
+use Rattle.claim_data.specs.Walks.{first_next, turn_next}
 use Rattle.claim_data.specs.Ids.{Ids}
 use Rattle.claim_data.proofs.Walks.{id_in_lem}
 use Rattle.checker.specs.Steps.{walk_at, start_of, end_of, rest_holds, verdict, Counted, Starting, Turning, Finishing, Comparing, compared}

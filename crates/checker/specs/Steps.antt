@@ -14,7 +14,7 @@ use Rattle.claims.specs.declared.Checked.{Checked}
 use Rattle.claims.specs.declared.Checked.TheVariants.{Yes, Refused}
 use Rattle.claims.specs.declared.Next.{Next}
 use Rattle.claims.specs.declared.Next.TheVariants.{Off, At}
-use Rattle.claim_data.specs.Walks.{first_next, turn_next, last_next}
+use Rattle.claim_data.specs.Walks.{first_next, last_next}
 use Rattle.claim_data.specs.Ids.{Ids}
 use Rattle.checker.specs.declared.Walk.{Walk}
 

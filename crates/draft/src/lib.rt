@@ -1,4 +1,6 @@
 // What a reader of whole lines answers before the tables are filled.
+#![tactic(auto)]
+
 use record::Record;
 use structured_data::Rules;
 

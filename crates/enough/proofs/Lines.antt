@@ -147,9 +147,9 @@ module _ (line s : List ℕ) (inside : length s ≤ length line) (start : ℕ) w
             let within_line = rfc3164_within s from _ t a refl year offset q in
             let header = rfc3164.header_from s a in
             let b = rfc3164.tag_end s header.next in
-            let b-in = end_within s header.next (header_within s a within-line _ refl) b refl in
+            let b_in = end_within s header.next (header_within s a within_line _ refl) b refl in
             let rows = rows_or b (data_from Rfc3164Rules s b) in
-            let takes = data_takes Rfc3164Rules s b b-in in
+            let takes = data_takes Rfc3164Rules s b b_in in
             let message = blanks_within s rows.next _ refl takes.inside in
             let stamp = stamp_size 11 from a t (omega arith) (stamp_suits_lem t (rfc3164_stamp s from _ t a refl year offset q range)) f in
             record {

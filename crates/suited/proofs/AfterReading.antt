@@ -6,14 +6,11 @@ use mathlib.Core.Bool.{Bool, true, false}
 use lib.Dec.{ltb, eqb}
 use lib.ListN.{length, take}
 use borrow.Author.Tests.{eqb-false}
-use Rattle.base.specs.Choose.{if◌then◌else◌}
 use Rattle.base.proofs.Tests.{by_if}
 use Rattle.record.specs.Limits.{line_limit}
 use Rattle.record.specs.Answers.{output_answer_of}
 use Rattle.record.specs.declared.Record.{Record}
 use Rattle.record.specs.declared.Written.{Written}
-use Rattle.record.specs.declared.Written.TheVariants.{Done, Refused}
-use Rattle.record.specs.declared.Refusal.TheVariants.{BadSetting, OutputShort}
 use Rattle.suits.specs.Suits.{suits}
 use Rattle.lookup.specs.Unescape.{unescaped}
 use Rattle.lookup.specs.Lookup.{Found, found, value_answer, Looks}

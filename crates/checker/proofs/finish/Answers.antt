@@ -17,9 +17,6 @@ last-requires c = search (finish_laws, rules)
 pub enum_known-b : goal.enum_known-b
 enum_known-b c = search (finish_laws, rules)
 
-pub enum_told-1 : goal.enum_told-1
-enum_told-1 c = search (finish_laws, rules)
-
 pub wrong-requires-in_default : goal.wrong-requires-in_default
 wrong-requires-in_default c = search (finish_laws, rules)
 

@@ -8,9 +8,6 @@ header-requires c = search (start_laws, rules)
 pub enum_known-a : goal.enum_known-a
 enum_known-a c = search (start_laws, rules)
 
-pub enum_told-1 : goal.enum_told-1
-enum_told-1 c = search (start_laws, rules)
-
 pub walk_at-requires : goal.walk_at-requires
 walk_at-requires c = search (start_laws, rules)
 

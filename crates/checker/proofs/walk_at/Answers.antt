@@ -5,9 +5,6 @@ use Rattle.checker.proofs.walk_at.Goals as goal
 pub enum_known-n : goal.enum_known-n
 enum_known-n c = search (walk_laws, rules)
 
-pub enum_told-1 : goal.enum_told-1
-enum_told-1 c = search (walk_laws, rules)
-
 pub returns-in_default : goal.returns-in_default
 returns-in_default c = search (walk_laws, rules)
 
