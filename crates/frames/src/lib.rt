@@ -1,6 +1,8 @@
 // The frames of standard input, one after the other, for the programs that do something with each: what a frame is says the splitter of `stream`, a line, or
 // with `--counted` what a count stands before. A program does with a frame, and with one that is refused, as it likes; what both say of their input and their
 // output is said here under the name that they give.
+#![tactic(auto)]
+
 ghost use Rattle.std.specs.Prelude.{◌≡◌, ◌+◌, ◌≤◌, ◌<◌, length};
 ghost use Rattle.output.specs.Output.{Wrote};
 ghost use Rattle.frames.specs.Words.{count_text};
