@@ -1,6 +1,8 @@
 // Where a line breaks, for people: the line up to there and a little further, a caret under the first byte that is wrong, and in words what would have been
 // right in its place. It is given the beginning that is right and what stands behind it, and tells from the beginning which part of a line it ends in. Nothing
 // is promised of what is written: no answer goes by it.
+#![tactic(auto)]
+
 ghost use Rattle.std.specs.Prelude.{◌≤◌, length};
 
 use digits::Number;
