@@ -69,20 +69,26 @@ fn archive() -> Result<PathBuf, String> {
         };
     }
     let host = PathBuf::from(env::var_os("CARGO_MANIFEST_DIR").expect("cargo gives CARGO_MANIFEST_DIR"));
-    let repository = host.parent().filter(|above| above.join("crates/exports").is_dir());
+    let repository = host.parent().filter(|above| above.join("crates/khamdoriem").is_dir());
     let repository = repository.ok_or_else(|| {
         format!(
-            "There is no crate 'exports' beside {} to make the archive from: set {VARIABLE} to its file.",
+            "There is no crate 'khamdoriem' beside {} to make the archive from: set {VARIABLE} to its file.",
             host.display()
         )
     })?;
-    for source in ["crates", "crates.txt", "tools/archive"] {
-        let source = repository.join(source);
-        if source.exists() {
-            println!("cargo:rerun-if-changed={}", source.display());
-        }
-    }
+    watch(repository);
     make(repository)
+}
+
+/// Names the sources to cargo, and not what checks keep in out/ beside them.
+fn watch(repository: &Path) {
+    let mut sources = vec![repository.join("crates.txt"), repository.join("tools/archive")];
+    for crate_folder in fs::read_dir(repository.join("crates")).into_iter().flatten().flatten() {
+        sources.extend(["src", "specs", "proofs"].map(|part| crate_folder.path().join(part)));
+    }
+    for source in sources.iter().filter(|source| source.exists()) {
+        println!("cargo:rerun-if-changed={}", source.display());
+    }
 }
 
 /// Has the archive made of the sources as they are. What is proved already is not proved again.
