@@ -1,7 +1,7 @@
 -- Worked examples, computed from the definitions.
 use Prim.Native.Nat.{ℕ}
 use mathlib.Core.Path.{◌≡◌, refl}
-use mathlib.Core.List.{List, [], ◌∷◌, map}
+use mathlib.Core.List.{[], ◌∷◌, map}
 use lib.IntN.{ℤ, pos, negsuc}
 use Rattle.base.specs.Bytes.{bytes}
 use Rattle.digits.specs.Digits.{number_at, decimal_from}

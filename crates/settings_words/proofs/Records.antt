@@ -1,11 +1,11 @@
 -- What is shown of a record: its gate, whether it counts, and that its host is within it.
 use Prim.Native.Nat.{ℕ, ◌+◌, ◌*◌, ◌≤◌, ◌<◌}
-use mathlib.Core.Path.{◌≡◌, refl, sym, ap, ◌∙◌}
-use mathlib.Core.Bool.{Bool, true, false}
+use mathlib.Core.Path.{◌≡◌, refl, sym}
+use mathlib.Core.Bool.{true, false}
 use mathlib.Core.List.{List}
 use native.Mathlib.Omega.{arith}
 use lib.Dec.{eqb}
-use lib.ListN.{length, get_or}
+use lib.ListN.{get_or}
 use Rattle.base.proofs.Tests.{clash}
 use Rattle.settings.specs.declared.SettingsAnswer.{SettingsAnswer}
 use Rattle.settings.specs.declared.SettingsRead.{SettingsRead}

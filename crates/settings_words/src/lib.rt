@@ -1,4 +1,6 @@
 // A site's settings file for a person: each record shown as a line, and a record written from words.
+#![tactic(auto)]
+
 ghost use Rattle.std.specs.Prelude.{◌≡◌, ◌+◌, ◌-◌, ◌≤◌, ◌<◌, ◌^◌, length, take};
 ghost use Rattle.std.proofs.Math.IntN.{sub_ℕ};
 ghost use Rattle.settings.specs.Record.{record_size, host_room};
