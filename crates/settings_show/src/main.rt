@@ -1,4 +1,6 @@
 // Shows a site's settings file as text.
+#![tactic(auto)]
+
 use program::Process;
 use std::process::ExitCode;
 

@@ -1,4 +1,6 @@
 // Writes a record of a site's settings file from words.
+#![tactic(auto)]
+
 use program::Process;
 use std::process::ExitCode;
 
