@@ -1,5 +1,5 @@
 -- Two lines that were judged: what is asked of each, and what the call leaves.
-use Prim.Native.Nat.{ℕ, ◌+◌, ◌-◌, ◌*◌, ◌≤◌, ◌<◌}
+use Prim.Native.Nat.{ℕ, ◌+◌, ◌*◌, ◌≤◌, ◌<◌}
 use mathlib.Core.Path.{◌≡◌, refl, sym, ap, ap₂, ◌∙◌, subst}
 use mathlib.Core.Bool.{true, false, ◌&&◌}
 use mathlib.Core.List.{List, [], ◌∷◌}
@@ -205,9 +205,9 @@ module _ (line : List ℕ) (variant year : ℕ) (o : ℤ) (f : SFits w32 o) (e�
 -- ---- two lines
 
 read_table : (x : Reading) → is_read x ≡ true → (rows old : List (List ℕ)) → table_read x rows old ≡ filled rows old
-read_table (loose.Read r n m) q rows old = refl
-read_table (loose.Whole r) q rows old = clash (sym q)
-read_table (loose.Refused g) q rows old = clash (sym q)
+read_table (loose.Read r n m) q xs old = refl
+read_table (loose.Whole r) q xs old = clash (sym q)
+read_table (loose.Refused g) q xs old = clash (sym q)
 
 both_done : (x y : Reading) (d : Differences) → is_read x ≡ true → is_read y ≡ true → Done d ≡ compared_of x y d
 both_done (loose.Read r n m) (loose.Read s k l) d p q = refl
