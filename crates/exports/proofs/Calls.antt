@@ -13,19 +13,16 @@ use mir.ValLaws.{to_z-of_z}
 use Rattle.base.specs.Choose.{if◌then◌else◌}
 use Rattle.base.specs.Fills.{filled}
 use Rattle.base.proofs.Tests.{clash, by_test}
-use Rattle.record.specs.Answers.{answer_of, strict_answer_of, read_answer_of, strict_read_answer_of}
-use Rattle.record.specs.declared.Answer.{Answer}
-use Rattle.record.specs.declared.StrictAnswer.{StrictAnswer}
+use Rattle.record.specs.Answers.{read_answer_of, strict_read_answer_of}
 use Rattle.record.specs.declared.ReadAnswer.{ReadAnswer}
 use Rattle.record.specs.Refusals.{refusal_number}
-use Rattle.record.specs.declared.Record.{Record}
 use Rattle.record.specs.declared.Refusal.{Refusal}
 use Rattle.record.specs.declared.Reading.{Reading}
 use Rattle.record.specs.declared.Reading.TheVariants.{Read, Whole, Refused}
 use Rattle.record.specs.declared.StrictRecord.{StrictRecord}
 use Rattle.record.specs.declared.StrictReading.{StrictReading}
 use Rattle.record.specs.declared.StrictReading.TheVariants as strict
-use Rattle.layout.specs.Layout.{record_size, strict_size, record_bytes, strict_bytes}
+use Rattle.layout.specs.Layout.{record_size, strict_size, strict_bytes}
 use Rattle.grammar.specs.Reading.{StrictReads}
 use Rattle.grammar.specs.Reading.StrictReads.{too_long, underivable, elements_over, params_over, accepted}
 use Rattle.loose.specs.Loose.{outcome_of, answered, table_after, rows_of, Reads}

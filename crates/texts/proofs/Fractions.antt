@@ -1,7 +1,7 @@
 -- A fraction is printed as it was read.
-use Prim.Native.Nat.{ℕ, zero, suc, ◌+◌, ◌-◌, ◌*◌, ◌/◌, ◌%◌, ◌^◌, ◌≤◌, ◌<◌}
+use Prim.Native.Nat.{ℕ, zero, suc, ◌+◌, ◌-◌, ◌*◌, ◌/◌, ◌%◌, ◌^◌, ◌≤◌}
 use mathlib.Core.Path.{◌≡◌, refl, sym, ap, ◌∙◌}
-use mathlib.Core.Bool.{true, false, ◌&&◌}
+use mathlib.Core.Bool.{true, ◌&&◌}
 use mathlib.Core.List.{List, [], ◌∷◌, ◌++◌, append-nil}
 use mathlib.Core.Option.{Option, none, some}
 use native.Mathlib.Nat.{one-le-pow, mul-div_cancel}
@@ -24,7 +24,6 @@ use Rattle.digits.proofs.Fractions.{IsFraction, fraction_is, fraction_text_lem}
 use Rattle.calendar.specs.Calendar.{valid}
 use Rattle.calendar.specs.Instant.{seconds_of, shown, is_shown}
 use Rattle.calendar.specs.declared.DateTime.{DateTime}
-use Rattle.record.specs.declared.Record.{Record}
 use Rattle.record.specs.declared.Stamp.{Stamp}
 use Rattle.record.specs.declared.Stamp.TheVariants.{Unstamped, Stamped}
 use Rattle.record.specs.declared.Timestamp.{Timestamp}
@@ -44,7 +43,7 @@ use Rattle.timestamp.specs.declared.Stamping.{Stamping}
 use Rattle.timestamp.specs.declared.Stamping.TheVariants.{NoStamp, IsStamp}
 use Rattle.timestamp.proofs.Onward.{on_num_lem, on_pos_lem, on_clock_lem, on_day_lem}
 use Rattle.timestamp.proofs.Widths.{Fractioned, FractionOf, rfc3339_of}
-use Rattle.structured_data.specs.Data.{Rows, data_from}
+use Rattle.structured_data.specs.Data.{data_from}
 use Rattle.structured_data.specs.declared.Rules.TheVariants.{Rfc5424Rules}
 use Rattle.draft.specs.Outcome.{Outcome}
 use Rattle.draft.specs.Outcome.Outcome.{no_reading, is_reading}

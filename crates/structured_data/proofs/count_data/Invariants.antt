@@ -1,4 +1,4 @@
-use Rattle.std.proofs.Common.{rules, ◌-◌, length}
+use Rattle.std.proofs.Common.{◌-◌, length}
 use Rattle.structured_data.proofs.Counting.{Counted}
 use Rattle.structured_data.specs.Steps.{Dead}
 use Rattle.structured_data.proofs.count_data.Given as goal

@@ -1,6 +1,6 @@
 use Rattle.std.proofs.Common.{rules}
 use Rattle.structured_data.proofs.Turning.{dead_none}
-use Rattle.structured_data.proofs.Filling.{filling_none, filled_all, index_within, start_fits, holds, fill_less, filling_on, elements_fit_lem, params_fit_lem}
+use Rattle.structured_data.proofs.Filling.{filling_none, filled_all, start_fits, holds, fill_less, filling_on, elements_fit_lem, params_fit_lem}
 use Rattle.structured_data.proofs.fill_data.Goals as goal
 
 pub loop-i-init : goal.loop-i-init

@@ -1,8 +1,8 @@
-use Rattle.std.proofs.Common.{ℕ, ◌≡◌, ◌+◌, ◌<◌, not, List, length, set, sym, ap, subst, ◌∙◌, arith, rules}
+use Rattle.std.proofs.Common.{ℕ, ◌≡◌, ◌+◌, not, List, set, ap, ◌∙◌, arith, rules}
 use Rattle.record.specs.Params.{row_of, rows}
 use Rattle.record.specs.declared.Param.{Param}
 use Rattle.record.proofs.Params.{rows_length, rows_set}
-use Rattle.structured_data.proofs.Entries.{storing_none, stored_all, index_fits, stored_given_up, index_within, count_fits, stored_last, next_fits, walk_less, storing_on}
+use Rattle.structured_data.proofs.Entries.{storing_none, stored_all, stored_given_up, index_within, count_fits, stored_last, walk_less, storing_on}
 use Rattle.structured_data.proofs.fill_params.Goals as goal
 
 -- the table behind a store, as rows
