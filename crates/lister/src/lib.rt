@@ -1,5 +1,7 @@
 // The listing of standard input by the strict reader: a line for each frame of it, `accept` with the counts of elements and of parameters, or `refuse` with
 // the number of the refusal. Where reading or writing fails, or a counted stream breaks off, that is said on standard error, and nothing more is listed.
+#![tactic(auto)]
+
 ghost use Rattle.std.specs.Prelude.{◌≤◌, ◌<◌, length};
 ghost use Rattle.frames.specs.Tasks.{to_read};
 ghost use Rattle.frames.specs.States.{Keeps};
