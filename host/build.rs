@@ -82,7 +82,8 @@ fn archive() -> Result<PathBuf, String> {
 
 /// Names the sources to cargo, and not what checks keep in out/ beside them.
 fn watch(repository: &Path) {
-    let mut sources = vec![repository.join("crates.txt"), repository.join("tools/archive")];
+    let mut sources = vec![];
+    sources.extend(["crates.txt", "tools/archive", "tools/building.sh"].map(|file| repository.join(file)));
     for crate_folder in fs::read_dir(repository.join("crates")).into_iter().flatten().flatten() {
         sources.extend(["src", "specs", "proofs"].map(|part| crate_folder.path().join(part)));
     }

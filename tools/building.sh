@@ -1,5 +1,5 @@
-# What tools/archive and tools/program share, read with '.': a thing that rt builds is built again only where something that it is made of has changed.
-# The script that reads it sets `root`, the repository, and `name`, by which messages begin. rt's line for each crate that it proves goes to standard error.
+# What tools/archive, tools/program and install share, read with '.': a thing that rt builds is built again only where something that it is made of has changed.
+# The script that reads it sets `root`, the repository, and `name`, by which messages begin. A line for each crate that is proved goes to standard error.
 
 say() { echo "$name: $*" >&2; }
 die() { say "$*"; exit 2; }
@@ -7,7 +7,7 @@ die() { say "$*"; exit 2; }
 # The crates below a crate and the crate itself, by the list of crates.
 below() {
     awk -v want="$1" '
-        { sub(/#.*/, ""); at = index($0, ":"); if (!at) next; crate = substr($0, 1, at - 1); needs[crate] = substr($0, at + 1) }
+        { sub(/#.*/, ""); at = index($0, ":"); if (!at) next; split(substr($0, 1, at - 1), words, " "); needs[words[1]] = substr($0, at + 1) }
         function visit(crate,    words, i, n) {
             if (!(crate in needs) || crate in seen) return
             seen[crate] = 1
@@ -22,11 +22,10 @@ below() {
 sources_of() {
     (
         cd "$root"
-        rt version
-        uname -m
+        rt version </dev/null
         for crate in $(below "$1" | sort); do
-            grep "^$crate:" crates.txt
-            (cd "crates/$crate" && find src specs proofs stdin stdout args data -type f -exec sha256sum {} + 2>/dev/null | sort)
+            grep "^$crate[ :]" crates.txt
+            (cd "crates/$crate" && find src specs proofs -type f -exec sha256sum {} + 2>/dev/null | sort)
         done
     ) | sha256sum | cut -d' ' -f1
 }
@@ -38,29 +37,52 @@ is_fresh() { # FOLDER FILE
     [ -r "$1/$2" ] && [ "$(cat "$1/$2.from" 2>/dev/null)" = "$sources $(sum_of "$1/$2")" ]
 }
 
-# Shows the lines of rt that tell of a proof, as they come.
+# Shows a line for each crate that rt tells is proved, as they come.
 shown() {
     while IFS= read -r line; do
-        case $line in *'(unchanged since it was last proved)') ;; 'rt: '*) printf '%s: %s\n' "$name" "$line" >&2 ;; esac
+        case $line in
+        'crate '*': modules '*) proved=${line#crate } proved=${proved%%:*} ;;
+        'logic=proved '*) printf '%s: %s proved\n' "$name" "$proved" >&2 ;;
+        esac
+    done
+}
+
+# Whether rt can write beside the sources of a crate and of those below it.
+can_write() { # CRATE
+    for each in $(below "$1"); do
+        folder=$root/crates/$each
+        [ -w "$folder/out" ] || { [ ! -e "$folder/out" ] && [ -w "$folder" ]; } || return 1
+    done
+}
+
+# Copies the sources to `place`. What was proved and built there stays.
+copy_sources() {
+    mkdir -p "$place/crates" && cp "$root/crates.txt" "$place/" || return 1
+    for folder in "$root"/crates/*; do
+        copy=$place/crates/${folder##*/}
+        mkdir -p "$copy" || return 1
+        for part in src specs proofs; do
+            rm -rf "${copy:?}/$part" || return 1
+            [ ! -d "$folder/$part" ] || { cp -R "$folder/$part" "$copy/" && chmod -R u+w "$copy/$part"; } || return 1
+        done
     done
 }
 
 # Where rt can write: the repository, or a copy of its sources in the user's cache.
-place_to_write() {
-    if [ -w "$root/target" ] || { [ ! -e "$root/target" ] && [ -w "$root" ]; }; then
-        place=$root
-        return
-    fi
+place_to_write() { # CRATE FILE
+    ! can_write "$1" || return 0
     cache=${XDG_CACHE_HOME:-${HOME:+$HOME/.cache}}
     [ -n "$cache" ] || die "$root cannot be written, and neither XDG_CACHE_HOME nor HOME names a folder to build in"
     place=$cache/khamdoriem
     ! is_fresh "$place" "$2" || return 0
     say "$root cannot be written: building from a copy in $place"
-    mkdir -p "$place" && rm -rf "$place/crates" && cp -R "$root/crates" "$root/crates.txt" "$place/" || die "$place cannot be written"
+    copy_sources || die "$place cannot be written"
 }
 
-# Builds by 'rt WORDS' from CRATE what then stands at FILE below the folder `place`. Where that is there already, nothing is run or said.
+# Builds by 'rt WORDS' in the folder of CRATE what then stands at FILE below the folder `place`. Where that is there already, nothing is run or said.
 build() { # CRATE FILE WORDS..
+    [ "$(uname -m)" = x86_64 ] || die "the Rattle toolchain, which proves and builds, runs on x86-64 alone, and this machine is another: what was built on x86-64 \
+runs here under Debian's emulator, as installed by './install --prefix DIR --no-build', and by 'host/on-arm'"
     command -v rt >/dev/null 2>&1 || die "no 'rt' on the PATH: the Rattle toolchain is needed to prove and build"
     crate=$1 file=$2
     shift 2
@@ -70,16 +92,27 @@ build() { # CRATE FILE WORDS..
     place_to_write "$crate" "$file"
     ! is_fresh "$place" "$file" || return 0
     say "building $file; what is not proved yet is proved first (from nothing that takes some minutes), with a line for each crate"
-    log=$place/target/log/build.$crate
-    mkdir -p "$place/target/log"
-    status=$({ { cd "$place" && rt "$@" </dev/null 2>&1; echo $? >&3; } | tee "$log" | shown; } 3>&1)
+    log=$place/crates/$crate/out/build.log
+    mkdir -p "$place/crates/$crate/out"
+    status=$({ { cd "$place/crates/$crate" && rt "$@" </dev/null 2>&1; echo $? >&3; } | tee "$log" | shown; } 3>&1)
     if [ "$status" != 0 ] || ! [ -f "$place/$file" ]; then
-        grep -m 5 error "$log" | cut -c1-400 >&2 || :
-        say "'rt $*' failed; $log has all that it said"
+        grep -E '^rt: |error|: not proved|: no proof' "$log" | grep -v -E '^rt: (chose|.*: begins with) ' | head -5 | cut -c1-400 >&2 || :
+        say "'rt $1' failed; $log has all that it said"
         exit 1
     fi
-    keep "$file"
+    echo "$sources $(sum_of "$place/$file")" >"$place/$file.from"
 }
 
-# Notes what FILE was built from.
-keep() { echo "$sources $(sum_of "$place/$1")" >"$place/$1.from"; }
+# A program, which then stands at `program`. (rt builds a program where it is to run one.)
+build_program() { # CRATE
+    program=crates/$1/out/$1
+    build "$1" "$program" run -- --version
+    program=$place/$program
+}
+
+# The archive, which then stands at `archive`.
+build_archive() {
+    archive=crates/khamdoriem/out/libkhamdoriem.a
+    build khamdoriem "$archive" lib
+    archive=$place/$archive
+}
