@@ -1,4 +1,5 @@
 -- Texts compared: what the tests say, the walk that compares, and what is lent of a line.
+use Rattle.std.specs.Prelude.{if◌then◌else◌}
 use Prim.Native.Nat.compare
 use Prim.Native.Nat.{ℕ, zero, suc, ◌+◌, ◌-◌, ◌≤◌, ◌<◌}
 use mathlib.Core.Path.{◌≡◌, refl, sym, ap, ◌∙◌}
@@ -8,7 +9,6 @@ use native.Mathlib.Omega.{arith}
 use lib.Dec.{eqb}
 use lib.ListN.{length, get_or, take, drop}
 use borrow.Author.Tests.{eq-eqb, ne_eqb, eqb-true, not-true}
-use Rattle.base.specs.Choose.{if◌then◌else◌}
 use Rattle.base.specs.Texts.{text_at, same_text, common_len, Distinct, is_in, all_different}
 use Rattle.base.proofs.Tests.{both, clash, by_test}
 use Rattle.base.proofs.Parts.{step, ended}

@@ -1,4 +1,5 @@
 -- In which span a day falls: the one that starts at the day or before it and ends after it.
+use Rattle.std.specs.Prelude.{if◌then◌else◌}
 use Prim.Native.Nat.{ℕ, zero, suc, ◌+◌, ◌-◌, ◌≤◌, ◌<◌}
 use mathlib.Core.Path.{◌≡◌, ap}
 use native.Mathlib.Decide.{dec_le}
@@ -6,7 +7,6 @@ use native.Mathlib.Nat.{add-zero, zero-add}
 use native.Mathlib.Omega.{arith}
 use lib.Dec.{ltb}
 use borrow.Author.Tests.{lt-ltb, le-ltb}
-use Rattle.base.specs.Choose.{if◌then◌else◌}
 use Rattle.calendar.specs.Instant.{span_from}
 
 -- Day `n` falls in span `k`, one of the first `f`, where `sum` counts the days of the spans before one

@@ -1,4 +1,5 @@
 -- A valid date and clock are what their instant shows; what an instant shows is valid and names that instant; and instants grow with dates.
+use Rattle.std.specs.Prelude.{if◌then◌else◌}
 use Prim.Native.Nat.{ℕ, suc, ◌+◌, ◌-◌, ◌≤◌, ◌<◌}
 use mathlib.Core.Path.{◌≡◌, refl, sym, ap, ◌∙◌}
 use mathlib.Core.Bool.{Bool, true}
@@ -8,7 +9,6 @@ use lib.Dec.{ltb, eqb}
 use lib.IntN.{ℤ, pos, negsuc, sub_ℕ, ◌+ℤ◌, ◌-ℤ◌, ◌*ℤ◌, +ℤ-neg_ℤ_cancel, -ℤ-+ℤ_cancel}
 use lib.Signed.{lt_z}
 use borrow.Author.Tests.{lt-ltb, ltb-true, eqb-true}
-use Rattle.base.specs.Choose.{if◌then◌else◌}
 use Rattle.base.specs.Diff.{down}
 use Rattle.base.proofs.Tests.{clash, by_test}
 use Rattle.base.proofs.Diffs.{sub_ge, sub_lt}

@@ -1,4 +1,5 @@
 -- The days of the years before a year, in closed form.
+use Rattle.std.specs.Prelude.{if◌then◌else◌}
 use Prim.Native.Nat.{ℕ, zero, suc, ◌+◌, ◌-◌, ◌*◌, ◌/◌, ◌%◌, ◌<◌}
 use mathlib.Core.Path.{◌≡◌, refl}
 use mathlib.Core.Bool.{Bool, true, false, ◌&&◌, ◌||◌, not}
@@ -6,7 +7,6 @@ use native.Mathlib.Omega.{arith}
 use native.Mathlib.Nat.{div-add-mod', mul-add-div_right, add-div_right, div-eq_of_lt, mod-lt, zero-add}
 use lib.Dec.{eqb}
 use borrow.Author.Tests.{eqb-true, eqb-false, ne_eqb}
-use Rattle.base.specs.Choose.{if◌then◌else◌}
 use Rattle.calendar.specs.Calendar.{leap, row, year_days, days_before_year}
 
 -- of the numbers below `y`, one more is a multiple of `suc k` where `y` is

@@ -1,6 +1,6 @@
 -- The Gregorian calendar, from the year 0 on: dates, clocks and days.
-use Rattle.std.specs.Prelude.{ℕ, zero, suc, ◌+◌, ◌-◌, ◌%◌, List, [], ◌∷◌, Bool, ◌&&◌, ◌||◌, not, leb, ltb, eqb, ℤ, nat_abs, get_or}
-use Rattle.base.specs.Choose.{if◌then◌else◌, within}
+use Rattle.std.specs.Prelude.{ℕ, zero, suc, ◌+◌, ◌-◌, ◌%◌, List, [], ◌∷◌, Bool, ◌&&◌, ◌||◌, not, leb, ltb, eqb, ℤ, nat_abs, get_or, if◌then◌else◌}
+use Rattle.base.specs.Choose.{within}
 use Rattle.calendar.specs.declared.DateTime.{DateTime}
 
 -- the last year of the calendar

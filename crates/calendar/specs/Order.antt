@@ -1,6 +1,5 @@
 -- For private contracts alone: the order of dates and clocks, by the numbers of a timestamp as it is read.
-use Rattle.std.specs.Prelude.{ℕ, List, [], ◌∷◌, Bool, false, ltb, eqb}
-use Rattle.base.specs.Choose.{if◌then◌else◌}
+use Rattle.std.specs.Prelude.{ℕ, List, [], ◌∷◌, Bool, false, ltb, eqb, if◌then◌else◌}
 use Rattle.calendar.specs.declared.DateTime.{DateTime}
 
 -- the first number that differs decides

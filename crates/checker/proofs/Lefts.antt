@@ -1,4 +1,5 @@
 -- What is left of the structured data, in a walk over the parameters.
+use Rattle.std.specs.Prelude.{if◌then◌else◌}
 use Prim.Native.Nat.{ℕ, zero, suc, ◌+◌, ◌-◌, ◌≤◌, ◌<◌}
 use mathlib.Core.Path.{◌≡◌, refl, sym, ap, ◌∙◌}
 use mathlib.Core.Bool.{false}
@@ -10,7 +11,6 @@ use lib.Dec.{eqb}
 use lib.ListN.{length, get_or, take, drop, drop_of_length-le}
 use lib.Seq.{drop-cons}
 use borrow.Author.Tests.{eq-eqb, ne_eqb}
-use Rattle.base.specs.Choose.{if◌then◌else◌}
 use Rattle.claims.specs.Claims.{pair_of, pairs}
 use Rattle.claims.specs.Holds.{on_next, byte_next, param_next, params_next, id_next, nothing_left, front, rest, elements_next, data_next}
 use Rattle.claims.specs.declared.Next.{Next}

@@ -1,7 +1,6 @@
 -- For private contracts alone: the entries of both tables in the order of the line. The numbers of the parameters' elements never fall, so one walk over the parameters
 -- opens each element in its turn. Rows are as the element table has them.
-use Rattle.std.specs.Prelude.{ℕ, ◌+◌, ◌-◌, List, [], ◌∷◌, eqb, length, get_or, take, drop}
-use Rattle.base.specs.Choose.{if◌then◌else◌}
+use Rattle.std.specs.Prelude.{ℕ, ◌+◌, ◌-◌, List, [], ◌∷◌, eqb, length, get_or, take, drop, if◌then◌else◌}
 use Rattle.claims.specs.Claims.{pair_of}
 use Rattle.claims.specs.Holds.{on_next, byte_next, id_next, param_next}
 use Rattle.claims.specs.declared.Next.{Next}

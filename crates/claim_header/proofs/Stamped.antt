@@ -1,4 +1,5 @@
 -- A claimed timestamp, test by test.
+use Rattle.std.specs.Prelude.{if◌then◌else◌}
 use Prim.Native.Nat.{ℕ, ◌+◌, ◌^◌, ◌≤◌, ◌<◌}
 use mathlib.Core.Path.{◌≡◌, refl, sym, ap, ◌∙◌}
 use mathlib.Core.Bool.{Bool, true, false, not, ◌&&◌}
@@ -11,7 +12,7 @@ use mir.Syntax.{w32, w64}
 use mir.Val.{SFits, to_z, of_z}
 use mir.ValLaws.{to_z-of_z}
 use borrow.Author.Tests.{lt-leb, le-leb, ne_eqb, eq-eqb, eqb-true, not-true, not-false}
-use Rattle.base.specs.Choose.{if◌then◌else◌, is_at}
+use Rattle.base.specs.Choose.{is_at}
 use Rattle.base.proofs.Tests.{clash, both, told}
 use Rattle.calendar.specs.Calendar.{offset_limit}
 use Rattle.calendar.specs.Instant.{shown}

@@ -1,4 +1,5 @@
 -- A claimed text, test by test, and the header.
+use Rattle.std.specs.Prelude.{if◌then◌else◌}
 use Prim.Native.Nat.{ℕ, ◌+◌, ◌-◌, ◌^◌, ◌≤◌, ◌<◌}
 use mathlib.Core.Path.{◌≡◌, ap, ◌∙◌}
 use mathlib.Core.Bool.{Bool, true, false, not, ◌&&◌}
@@ -7,7 +8,7 @@ use native.Mathlib.Omega.{arith}
 use lib.Dec.{leb, eqb}
 use lib.ListN.{length, take, drop}
 use borrow.Author.Tests.{le-leb, ne_eqb, eq-eqb, eqb-true, not-true, not-false}
-use Rattle.base.specs.Choose.{if◌then◌else◌, within, is_at}
+use Rattle.base.specs.Choose.{within, is_at}
 use Rattle.base.specs.Texts.{text_at}
 use Rattle.base.proofs.Tests.{both, by_test, told}
 use Rattle.base.proofs.Texts.{part_text_lem}

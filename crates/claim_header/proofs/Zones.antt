@@ -1,4 +1,5 @@
 -- The pieces of a timestamp's text, and the text whole.
+use Rattle.std.specs.Prelude.{if◌then◌else◌}
 use Prim.Native.Nat.{ℕ, zero, suc, ◌+◌, ◌-◌, ◌/◌, ◌%◌, ◌^◌, ◌≤◌, ◌<◌}
 use mathlib.Core.Path.{◌≡◌, refl, sym, ap, ◌∙◌}
 use mathlib.Core.Bool.{Bool, true, false, ◌&&◌, and-true}
@@ -12,7 +13,7 @@ use mir.Syntax.{w32, w64}
 use mir.Val.{SFits, to_z, of_z}
 use mir.ValLaws.{to_z-of_z}
 use borrow.Author.Tests.{eq-eqb, ne_eqb}
-use Rattle.base.specs.Choose.{if◌then◌else◌, is_at}
+use Rattle.base.specs.Choose.{is_at}
 use Rattle.base.specs.Diff.{up, down, diff_of}
 use Rattle.base.specs.declared.Diff.{Diff}
 use Rattle.base.proofs.Tests.{by_test}

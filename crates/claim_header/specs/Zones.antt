@@ -1,6 +1,6 @@
 -- For private contracts alone: the end of a timestamp's text.
-use Rattle.std.specs.Prelude.{ℕ, ◌+◌, ◌/◌, ◌%◌, ◌≤◌, ◌≡◌, Bool, true, ◌&&◌, List, [], ◌∷◌, ◌++◌, eqb, ℤ, nat_abs, length, get_or}
-use Rattle.base.specs.Choose.{if◌then◌else◌, is_at}
+use Rattle.std.specs.Prelude.{ℕ, ◌+◌, ◌/◌, ◌%◌, ◌≤◌, ◌≡◌, Bool, true, ◌&&◌, List, [], ◌∷◌, ◌++◌, eqb, ℤ, nat_abs, length, get_or, if◌then◌else◌}
+use Rattle.base.specs.Choose.{is_at}
 use Rattle.output.specs.Numerals.{fixed}
 use Rattle.record.specs.declared.Stamp.TheVariants.{Stamped}
 use Rattle.record.specs.declared.Timestamp.{Timestamp}

@@ -1,4 +1,5 @@
 -- The laws of the check: what the code follows is what the contract asks for, one answer, one claim, and a changed one refused.
+use Rattle.std.specs.Prelude.{if◌then◌else◌}
 use Prim.Native.Nat.{ℕ, ◌≤◌, ◌<◌}
 use mathlib.Core.Path.{◌≡◌, refl, sym, ap, ◌∙◌}
 use mathlib.Core.Bool.{Bool, true, false, not}
@@ -9,7 +10,6 @@ use lib.Dec.{ltb}
 use lib.ListN.{length, take, length-map}
 use lib.Seq.{length-take-le}
 use borrow.Author.Tests.{lt-ltb, le-ltb}
-use Rattle.base.specs.Choose.{if◌then◌else◌}
 use Rattle.base.proofs.Tests.{both, by_test, clash}
 use Rattle.record.specs.Limits.{line_limit}
 use Rattle.record.specs.declared.StrictRecord.{StrictRecord}

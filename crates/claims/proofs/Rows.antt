@@ -1,4 +1,5 @@
 -- The tables: the rows are those of elements that obey the grammar and stand there, and the rows of such elements tell them.
+use Rattle.std.specs.Prelude.{if◌then◌else◌}
 use Prim.Native.Nat.{ℕ, ◌+◌, ◌≤◌, ◌<◌}
 use mathlib.Core.Path.{◌≡◌, refl, sym, ap, ap₂, ◌∙◌, subst}
 use mathlib.Core.Bool.{true, false, ◌&&◌}
@@ -7,7 +8,7 @@ use native.Mathlib.Omega.{arith}
 use lib.Dec.{leb, eqb}
 use lib.ListN.{length, get_or, length-append}
 use borrow.Author.Tests.{le-leb, leb-true, eq-eqb, ne_eqb}
-use Rattle.base.specs.Choose.{if◌then◌else◌, is_at}
+use Rattle.base.specs.Choose.{is_at}
 use Rattle.base.specs.Texts.{text_at, same_text}
 use Rattle.base.proofs.Tests.{both, by_test}
 use Rattle.base.proofs.Texts.{same_is, same_self}

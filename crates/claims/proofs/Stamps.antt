@@ -1,4 +1,5 @@
 -- The test of the timestamp, both ways.
+use Rattle.std.specs.Prelude.{if◌then◌else◌}
 use Prim.Native.Nat.{ℕ, zero, suc, ◌+◌, ◌-◌, ◌*◌, ◌/◌, ◌%◌, ◌^◌, ◌≤◌}
 use mathlib.Core.Path.{◌≡◌, refl, sym, ap, ◌∙◌, subst}
 use mathlib.Core.Bool.{Bool, true, false, not, ◌&&◌}
@@ -9,7 +10,7 @@ use lib.Dec.{leb, eqb}
 use lib.IntN.{ℤ, pos, negsuc, neg_ℤ, nat_abs}
 use lib.ListN.{length, get_or}
 use borrow.Author.Tests.{le-leb, leb-true, eqb-true, eq-eqb, ne_eqb, not-true}
-use Rattle.base.specs.Choose.{if◌then◌else◌, is_at}
+use Rattle.base.specs.Choose.{is_at}
 use Rattle.base.proofs.Tests.{both, by_test}
 use Rattle.digits.specs.Digits.{is_digit, decimal}
 use Rattle.calendar.specs.Instant.{shown, is_shown}

@@ -1,4 +1,5 @@
 -- What the tests of a claim's pieces say, both ways.
+use Rattle.std.specs.Prelude.{if◌then◌else◌}
 use Prim.Native.Nat.{ℕ, suc, ◌+◌, ◌≤◌, ◌<◌}
 use mathlib.Core.Path.{◌≡◌, refl, sym, ap, ap₂, ◌∙◌, subst}
 use mathlib.Core.Bool.{Bool, true, false, not, ◌&&◌}
@@ -9,7 +10,7 @@ use lib.Dec.{eqb}
 use lib.ListN.{length, get_or, drop, length-drop, length-append, take-append-drop}
 use lib.Seq.{length-take-le, drop-drop, get_or-take, get_or-drop}
 use borrow.Author.Tests.{le-leb, leb-true, eqb-true, eq-eqb, not-true}
-use Rattle.base.specs.Choose.{if◌then◌else◌, is_at}
+use Rattle.base.specs.Choose.{is_at}
 use Rattle.base.specs.Runs.{All}
 use Rattle.base.specs.Texts.{text_at}
 use Rattle.base.proofs.Tests.{clash, both, by_test}

@@ -1,11 +1,11 @@
 -- The division that a claim stands for: the texts of the numbers and of the timestamp are written from the claimed numbers, the others are cut out of the line where
 -- they are claimed to stand.
+use Rattle.std.specs.Prelude.{if◌then◌else◌}
 use Prim.Native.Nat.{ℕ, ◌+◌}
 use mathlib.Core.Bool.{Bool}
 use mathlib.Core.List.{List, [], ◌∷◌}
 use mathlib.Core.Option.{Option, none, some}
 use lib.ListN.{get_or}
-use Rattle.base.specs.Choose.{if◌then◌else◌}
 use Rattle.base.specs.Texts.{text_at}
 use Rattle.output.specs.Numerals.{numeral}
 use Rattle.record.specs.declared.Place.{Place}

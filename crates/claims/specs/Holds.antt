@@ -1,7 +1,7 @@
 -- For private contracts alone: the check of a claim that the code follows, field after field: what is claimed is held against the bytes where it is claimed to stand.
 -- No contract of the service names it. proofs/ show that it holds of the claims of Claims.antt and of no others.
-use Rattle.std.specs.Prelude.{ℕ, zero, suc, ◌+◌, Bool, true, false, not, ◌&&◌, List, [], ◌∷◌, ◌++◌, leb, eqb, ℤ, pos, negsuc, length, get_or}
-use Rattle.base.specs.Choose.{if◌then◌else◌, within, is_at}
+use Rattle.std.specs.Prelude.{ℕ, zero, suc, ◌+◌, Bool, true, false, not, ◌&&◌, List, [], ◌∷◌, ◌++◌, leb, eqb, ℤ, pos, negsuc, length, get_or, if◌then◌else◌}
+use Rattle.base.specs.Choose.{within, is_at}
 use Rattle.base.specs.Texts.{text_at, same_text, all_different}
 use Rattle.utf8.specs.Lead.{is_utf8}
 use Rattle.output.specs.Numerals.{width, numeral}

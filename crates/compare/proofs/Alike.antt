@@ -1,4 +1,5 @@
 -- Two readings: nothing differs exactly where they are alike, and exchanging them changes neither the fields nor the position (specs/Laws.antt).
+use Rattle.std.specs.Prelude.{if◌then◌else◌}
 use Prim.Native.Nat.{ℕ, zero, suc, ◌≤◌, ◌<◌}
 use mathlib.Core.Path.{◌≡◌, refl, sym, ap, ap₂, ◌∙◌}
 use mathlib.Core.Bool.{Bool, true, false, not, ◌&&◌, ◌||◌}
@@ -9,7 +10,6 @@ use lib.Dec.{eqb, leb, ltb}
 use lib.ListN.{length, get_or}
 use lib.IntN.{ℤ, pos, negsuc}
 use borrow.Author.Tests.{eq-eqb, eqb-true, ltb-false, le-leb, leb-true, leb-false, not-false}
-use Rattle.base.specs.Choose.{if◌then◌else◌}
 use Rattle.base.specs.Texts.{same_text}
 use Rattle.base.proofs.Tests.{by_test, by_if, both, clash}
 use Rattle.base.proofs.Texts.{same_is, same_self}

@@ -1,6 +1,5 @@
 -- What the program writes of a pair of lines: each word and each number behind a blank (32). The first blank is not written.
-use Rattle.std.specs.Prelude.{ℕ, ◌/◌, ◌%◌, Bool, true, List, [], ◌∷◌, ◌++◌, eqb}
-use Rattle.base.specs.Choose.{if◌then◌else◌}
+use Rattle.std.specs.Prelude.{ℕ, ◌/◌, ◌%◌, Bool, true, List, [], ◌∷◌, ◌++◌, eqb, if◌then◌else◌}
 use Rattle.base.specs.Bytes.{bytes}
 use Rattle.record.specs.Refusals.{refusal_number}
 use Rattle.record.specs.declared.Refusal.{Refusal}

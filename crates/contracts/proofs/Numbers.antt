@@ -1,11 +1,11 @@
 -- Which numbers the services answer: each contract's refusals, gone through.
+use Rattle.std.specs.Prelude.{if◌then◌else◌}
 use Prim.Native.Nat.{ℕ}
 use mathlib.Core.Path.{◌≡◌, refl}
 use mathlib.Core.Bool.{Bool, true, false, not}
 use mathlib.Core.List.{List}
 use lib.Dec.{eqb, ltb}
 use lib.ListN.{length, take}
-use Rattle.base.specs.Choose.{if◌then◌else◌}
 use Rattle.utf8.specs.Lead.{is_utf8}
 use Rattle.record.specs.Limits.{line_limit}
 use Rattle.record.specs.Answers.{answer_of, strict_answer_of, output_answer_of}

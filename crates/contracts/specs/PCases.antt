@@ -1,8 +1,7 @@
 -- RULES Cases 1 to 9 as one table, and what each says of the definitions of loose reading, printing and the grammar.
-use Rattle.std.specs.Prelude.{ℕ, ◌≡◌, List, [], ◌∷◌, take, pos}
+use Rattle.std.specs.Prelude.{ℕ, ◌≡◌, List, [], ◌∷◌, take, pos, if◌then◌else◌}
 use Prim.Native.String.{String}
 use Rattle.std.proofs.Math.Option.{Option, none, some}
-use Rattle.base.specs.Choose.{if◌then◌else◌}
 use Rattle.base.specs.Bytes.{bytes}
 use Rattle.base.specs.Texts.{text_at}
 use Rattle.record.specs.declared.Level.{Level}

@@ -1,4 +1,5 @@
 -- The ids: the loop that compares them, and what it says of positions.
+use Rattle.std.specs.Prelude.{if◌then◌else◌}
 use Prim.Native.Nat.{ℕ, zero, suc, ◌+◌, ◌≤◌, ◌<◌}
 use mathlib.Core.Path.{◌≡◌, refl, sym, ap, ap₂, ◌∙◌}
 use mathlib.Core.Bool.{Bool, true, false, not}
@@ -7,7 +8,6 @@ use native.Mathlib.Omega.{arith}
 use lib.Dec.{leb}
 use lib.ListN.{length, get_or, take, drop}
 use borrow.Author.Tests.{not-true, not-false, leb-true, leb-false, le-leb, lt-leb}
-use Rattle.base.specs.Choose.{if◌then◌else◌}
 use Rattle.base.specs.Texts.{same_text}
 use Rattle.base.proofs.Tests.{by_test}
 use Rattle.suits.proofs.Rows.{row_step, rows_ended}

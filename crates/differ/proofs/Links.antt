@@ -1,4 +1,5 @@
 -- The texts of pairs are the same where the pairs are; so what is odd among the texts is odd among the pairs.
+use Rattle.std.specs.Prelude.{if◌then◌else◌}
 use Prim.Native.Nat.{ℕ, zero, suc, ◌+◌, ◌-◌, ◌/◌, ◌%◌, ◌≤◌, ◌<◌}
 use mathlib.Core.Path.{◌≡◌, refl, sym, ap, ap₂, ◌∙◌, subst}
 use mathlib.Core.Bool.{Bool, true, false, not, ◌&&◌}
@@ -8,7 +9,6 @@ use lib.Dec.{eqb}
 use lib.ListN.{length, get_or, take, drop, length-map, length-drop}
 use lib.Seq.{take_at, drop_at, length-take-le}
 use borrow.Author.Tests.{eq-eqb, eqb-true}
-use Rattle.base.specs.Choose.{if◌then◌else◌}
 use Rattle.base.specs.Texts.{text_at, same_text}
 use Rattle.base.proofs.Tests.{by_test, both, clash}
 use Rattle.base.proofs.Texts.{same_is, same_self}

@@ -1,4 +1,5 @@
 -- The comparison as a whole.
+use Rattle.std.specs.Prelude.{if◌then◌else◌}
 use Prim.Native.Nat.{ℕ, ◌+◌, ◌*◌, ◌≤◌}
 use mathlib.Core.Path.{◌≡◌, refl, sym, ap, ap₂, ◌∙◌, subst}
 use mathlib.Core.Bool.{Bool, true, false, not}
@@ -9,7 +10,6 @@ use lib.ListN.{length, take, length-map}
 use lib.Seq.{length-take-le}
 use mir.Syntax.{w64}
 use mir.Val as val
-use Rattle.base.specs.Choose.{if◌then◌else◌}
 use Rattle.base.specs.Texts.{same_text}
 use Rattle.base.proofs.Tests.{by_test}
 use Rattle.pairs.specs.declared.Odd.{Odd}

@@ -1,7 +1,6 @@
 -- What differs between two readings, in the order of the request: protocol and version, facility, severity, timestamp, host, app, process id, message id, elements,
 -- message.
-use Rattle.std.specs.Prelude.{ℕ, zero, suc, ◌+◌, ◌*◌, List, [], ◌∷◌, Bool, true, false, not, ◌&&◌, ◌||◌, eqb, leb, ltb, length, ℤ, pos, negsuc}
-use Rattle.base.specs.Choose.{if◌then◌else◌}
+use Rattle.std.specs.Prelude.{ℕ, zero, suc, ◌+◌, ◌*◌, List, [], ◌∷◌, Bool, true, false, not, ◌&&◌, ◌||◌, eqb, leb, ltb, length, ℤ, pos, negsuc, if◌then◌else◌}
 use Rattle.base.specs.Texts.{same_text}
 use Rattle.record.specs.declared.Protocol.{Protocol}
 use Rattle.record.specs.declared.Protocol.TheVariants.{Rfc3164, Rfc5424}

@@ -1,6 +1,5 @@
 -- A reading as a user sees it: numbers and bytes. No place, no digit count and no escape is in it.
-use Rattle.std.specs.Prelude.{ℕ, List, map, true, get_or, ℤ}
-use Rattle.base.specs.Choose.{if◌then◌else◌}
+use Rattle.std.specs.Prelude.{ℕ, List, map, true, get_or, ℤ, if◌then◌else◌}
 use Rattle.base.specs.Texts.{text_at}
 use Rattle.record.specs.declared.Place.{Place}
 use Rattle.record.specs.declared.Protocol.{Protocol}

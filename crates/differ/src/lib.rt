@@ -1,8 +1,7 @@
 // What differs between two readings.
 #![tactic(auto)]
 
-ghost use Rattle.std.specs.Prelude.{◌≡◌, [], map, leb, ◌+◌, ◌≤◌, ◌<◌, length, get_or, take};
-ghost use Rattle.base.specs.Choose.{if◌then◌else◌};
+ghost use Rattle.std.specs.Prelude.{◌≡◌, [], map, leb, ◌+◌, ◌≤◌, ◌<◌, length, get_or, take, if◌then◌else◌};
 ghost use Rattle.keyed.specs.Notes.{Listed};
 ghost use Rattle.base.specs.Texts.{text_at, same_text};
 ghost use Rattle.record.specs.declared.Protocol.TheVariants.{Rfc3164, Rfc5424};

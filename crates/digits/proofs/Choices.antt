@@ -1,9 +1,9 @@
 -- A number that is answered by a test.
+use Rattle.std.specs.Prelude.{if◌then◌else◌}
 use Prim.Native.Nat.{ℕ}
 use mathlib.Core.Path.{◌≡◌, refl}
 use mathlib.Core.Bool.{Bool, true, false}
 use native.Mathlib.Omega.{arith}
-use Rattle.base.specs.Choose.{if◌then◌else◌}
 use Rattle.digits.specs.declared.Number.TheVariants.{Nothing, Value}
 
 pub record Chosen (t : Bool) (a m v n : ℕ) : Type 0 where

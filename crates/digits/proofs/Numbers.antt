@@ -1,4 +1,5 @@
 -- `number_at`: what it answers, on which text, and the loop that reads it.
+use Rattle.std.specs.Prelude.{if◌then◌else◌}
 use Prim.Native.Nat.{ℕ, ◌+◌, ◌-◌, ◌*◌, ◌≤◌, ◌<◌}
 use mathlib.Core.Path.{◌≡◌, refl, sym, ap, ◌∙◌}
 use mathlib.Core.Bool.{Bool, true, false, not, and-true, and-false}
@@ -9,7 +10,6 @@ use lib.Dec.{leb}
 use lib.ListN.{length, get_or, take}
 use lib.Seq.{take-suc}
 use borrow.Author.Tests.{le-leb, lt-leb, leb-true}
-use Rattle.base.specs.Choose.{if◌then◌else◌}
 use Rattle.base.proofs.Tests.{both, told}
 use Rattle.base.proofs.Runs.{run_le, Runs, runs_start, runs_out, runs_on, runs_off}
 use Rattle.digits.specs.Digits.{is_digit, digit_run, decimal_from, decimal, number_at}

@@ -1,8 +1,7 @@
 // ASCII digits as numbers.
 #![tactic(auto)]
 
-ghost use Rattle.std.specs.Prelude.{◌≡◌, true, ◌-◌, ◌*◌, ◌^◌, ◌≤◌, ◌<◌, leb};
-ghost use Rattle.base.specs.Choose.{if◌then◌else◌};
+ghost use Rattle.std.specs.Prelude.{◌≡◌, true, ◌-◌, ◌*◌, ◌^◌, ◌≤◌, ◌<◌, leb, if◌then◌else◌};
 ghost use Rattle.digits.specs.Digits.{is_digit, number_at, fixed_at, fraction_at};
 
 // A number, and how many digits were read for it.

@@ -1,7 +1,6 @@
 -- For private contracts alone: the tree of the elements, in which an id finds its own. It is kept as slots, 128 where walks begin and three for each element; a slot
 -- holds the number of its element and one more, or 0. Where a walk turns is of no account to what it finds: the same ids walk alike.
-use Rattle.std.specs.Prelude.{ℕ, ◌+◌, ◌*◌, ◌/◌, ◌%◌, ◌^◌, ◌≤◌, ◌<◌, ◌≡◌, Bool, true, false, List, eqb, length, get_or}
-use Rattle.base.specs.Choose.{if◌then◌else◌}
+use Rattle.std.specs.Prelude.{ℕ, ◌+◌, ◌*◌, ◌/◌, ◌%◌, ◌^◌, ◌≤◌, ◌<◌, ◌≡◌, Bool, true, false, List, eqb, length, get_or, if◌then◌else◌}
 use Rattle.base.specs.Texts.{same_text, Differ}
 use Rattle.distinct.specs.Distinct.{id_of, Rows, Repeated}
 use Rattle.distinct.specs.declared.Turn.{Turn}

@@ -1,4 +1,5 @@
 -- What stands before the structured data: the priority, the timestamp and the names, in print and in the line.
+use Rattle.std.specs.Prelude.{if◌then◌else◌}
 use Prim.Native.Nat.{ℕ, zero, suc, ◌+◌, ◌*◌, ◌/◌, ◌%◌, ◌^◌, ◌≤◌, ◌<◌}
 use mathlib.Core.Path.{◌≡◌, refl}
 use mathlib.Core.List.{List, [], ◌∷◌}
@@ -8,7 +9,7 @@ use native.Mathlib.Omega.{arith}
 use lib.Dec.{leb, ltb}
 use lib.ListN.{length, drop, length-append, length-take}
 use borrow.Author.Tests.{leb-true, ltb-false}
-use Rattle.base.specs.Choose.{if◌then◌else◌, is_at}
+use Rattle.base.specs.Choose.{is_at}
 use Rattle.base.specs.Texts.{text_at}
 use Rattle.base.proofs.Tests.{by_if}
 use Rattle.digits.specs.Digits.{number_at}

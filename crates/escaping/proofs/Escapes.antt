@@ -1,4 +1,5 @@
 -- A value's escapes by runs of plain bytes: the length and the writes.
+use Rattle.std.specs.Prelude.{if◌then◌else◌}
 use Prim.Native.Nat.{ℕ, suc, ◌+◌, ◌-◌, ◌*◌, ◌≤◌, ◌<◌}
 use mathlib.Core.Path.{◌≡◌, refl, sym, ap, ◌∙◌}
 use mathlib.Core.Bool.{Bool, true, false, not, ◌&&◌}
@@ -9,7 +10,6 @@ use lib.Seq.{drop-drop, get_or-drop}
 use borrow.Author.Tests.{not-true, not-false}
 use mir.Syntax.{w64}
 use mir.Val as val
-use Rattle.base.specs.Choose.{if◌then◌else◌}
 use Rattle.base.specs.Runs.{run, eight}
 use Rattle.base.specs.Texts.{text_at}
 use Rattle.base.proofs.Tests.{by_test, both, told}

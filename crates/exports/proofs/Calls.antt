@@ -1,4 +1,5 @@
 -- The calls of the readers: what is left, from what was answered and read.
+use Rattle.std.specs.Prelude.{if◌then◌else◌}
 use Prim.Native.Nat.{ℕ, ◌≤◌, ◌<◌}
 use mathlib.Core.Path.{◌≡◌, refl, sym, ap, ◌∙◌}
 use mathlib.Core.Bool.{false}
@@ -10,7 +11,6 @@ use borrow.Author.Tests.{lt-ltb, le-ltb, ne_eqb}
 use mir.Syntax.{w32}
 use mir.Val.{SFits, to_z, of_z}
 use mir.ValLaws.{to_z-of_z}
-use Rattle.base.specs.Choose.{if◌then◌else◌}
 use Rattle.base.specs.Fills.{filled}
 use Rattle.base.proofs.Tests.{clash, by_test}
 use Rattle.record.specs.Answers.{read_answer_of, strict_read_answer_of}

@@ -1,6 +1,5 @@
 -- The functions of include/khamdoriem.h: what each answers, and what it leaves in what it was lent. Those of a stream are in crates/stream/specs/Numbers.antt.
-use Rattle.std.specs.Prelude.{ℕ, ◌≡◌, true, false, List, eqb, ltb, ℤ, length}
-use Rattle.base.specs.Choose.{if◌then◌else◌}
+use Rattle.std.specs.Prelude.{ℕ, ◌≡◌, true, false, List, eqb, ltb, ℤ, length, if◌then◌else◌}
 use Rattle.base.specs.Fills.{filled}
 use Rattle.record.specs.Limits.{line_limit}
 use Rattle.record.specs.Answers.{answer_of, strict_answer_of, read_answer_of, strict_read_answer_of, output_answer_of}

@@ -1,4 +1,5 @@
 -- What is to be done, by the ways to answer; a turn keeps inside its bytes and its buffer.
+use Rattle.std.specs.Prelude.{if◌then◌else◌}
 use Prim.Native.Nat.{ℕ, ◌-◌, ◌≤◌}
 use mathlib.Core.Path.{◌≡◌, refl, ap, ◌∙◌}
 use mathlib.Core.Bool.{Bool, true, false, ◌&&◌}
@@ -7,7 +8,6 @@ use lib.Dec.{eqb, leb}
 use lib.ListN.{length, take, drop, get_or, length-take}
 use native.Mathlib.Omega.{arith}
 use borrow.Author.Tests.{ne_eqb, leb-true}
-use Rattle.base.specs.Choose.{if◌then◌else◌}
 use Rattle.base.proofs.Tests.{by_if, both}
 use Rattle.record.specs.Limits.{line_limit}
 use Rattle.record.specs.Refusals.{refusal_number}

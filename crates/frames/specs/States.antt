@@ -1,6 +1,5 @@
 -- Where a program stands, and what a turn makes of it.
-use Rattle.std.specs.Prelude.{ℕ, ◌+◌, ◌-◌, ◌≤◌, ◌<◌, Bool, true, false, List, ◌≡◌, length, take, drop}
-use Rattle.base.specs.Choose.{if◌then◌else◌}
+use Rattle.std.specs.Prelude.{ℕ, ◌+◌, ◌-◌, ◌≤◌, ◌<◌, Bool, true, false, List, ◌≡◌, length, take, drop, if◌then◌else◌}
 use Rattle.frames.specs.declared.Options.{Options}
 use Rattle.frames.specs.declared.Task.{Task}
 use Rattle.frames.specs.declared.Task.TheVariants.{More, Failed}

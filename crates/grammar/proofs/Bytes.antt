@@ -1,4 +1,5 @@
 -- The readers of bytes and what they read.
+use Rattle.std.specs.Prelude.{if◌then◌else◌}
 use Prim.Native.Nat.{ℕ, zero, suc, ◌+◌, ◌≤◌}
 use mathlib.Core.Path.{◌≡◌, refl, sym, ap, ◌∙◌, subst}
 use mathlib.Core.Bool.{Bool, true, false}
@@ -8,7 +9,7 @@ use lib.ListN.{length, take, take-append-drop, length-append}
 use lib.Seq.{length-take-le, take-append_seam, take_at, drop-length}
 use lib.Dec.{leb, eqb}
 use borrow.Author.Tests.{le-leb, leb-true, eqb-true, ne_eqb}
-use Rattle.base.specs.Choose.{if◌then◌else◌, within, is_at}
+use Rattle.base.specs.Choose.{within, is_at}
 use Rattle.base.specs.Runs.{run, All}
 use Rattle.base.proofs.Tests.{clash, both, by_test}
 use Rattle.base.proofs.Ranges.{inside}

@@ -1,4 +1,5 @@
 -- Readers and what they read: a law for each way to make a reader.
+use Rattle.std.specs.Prelude.{if◌then◌else◌}
 use Prim.Native.Nat.{ℕ, zero, suc, ◌+◌, ◌≤◌}
 use mathlib.Core.Path.{◌≡◌, refl, sym, ap, ap₂, ◌∙◌, subst, subst₂}
 use mathlib.Core.Bool.{Bool, true, false}
@@ -11,7 +12,7 @@ use lib.ListN.{length, drop, length-append}
 use lib.Seq.{drop-append_seam, drop-drop}
 use lib.Dec.{eqb}
 use borrow.Author.Tests.{eq-eqb, eqb-true}
-use Rattle.base.specs.Choose.{if◌then◌else◌, is_at}
+use Rattle.base.specs.Choose.{is_at}
 use Rattle.base.proofs.Tests.{clash, by_test}
 use Rattle.base.proofs.Parts.{at_below, at_cons, at_seam}
 use Rattle.grammar.specs.Line.{each_then, Each}

@@ -1,11 +1,11 @@
 -- The strict reader's contract leaves nothing open: any two results that it allows are equal.
+use Rattle.std.specs.Prelude.{if◌then◌else◌}
 use Prim.Native.Nat.{ℕ}
 use mathlib.Core.Path.{◌≡◌, refl, sym, ap, ◌∙◌}
 use mathlib.Core.List.{List}
 use lib.ListN.{length}
 use lib.Dec.{leb}
 use borrow.Author.Tests.{le-leb, lt-leb}
-use Rattle.base.specs.Choose.{if◌then◌else◌}
 use Rattle.base.specs.Fills.{filled}
 use Rattle.record.specs.Limits.{line_limit}
 use Rattle.record.specs.declared.StrictReading.{StrictReading}

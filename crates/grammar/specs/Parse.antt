@@ -1,8 +1,8 @@
 -- For private contracts alone: the parser on lists that the code follows: each field is found from the front of what is left, with no second choice, in one pass.
 -- No contract of a service names it. proofs/ show that it finds the divisions of Line.antt and no others.
-use Rattle.std.specs.Prelude.{ℕ, zero, suc, ◌+◌, Bool, true, false, not, ◌&&◌, List, [], ◌∷◌, length, take, drop, leb, eqb}
+use Rattle.std.specs.Prelude.{ℕ, zero, suc, ◌+◌, Bool, true, false, not, ◌&&◌, List, [], ◌∷◌, length, take, drop, leb, eqb, if◌then◌else◌}
 use Rattle.std.proofs.Math.Option.{Option, none, some}
-use Rattle.base.specs.Choose.{if◌then◌else◌, within, is_at}
+use Rattle.base.specs.Choose.{within, is_at}
 use Rattle.base.specs.Runs.{run}
 use Rattle.base.specs.Texts.{all_different}
 use Rattle.utf8.specs.Lead.{is_utf8}

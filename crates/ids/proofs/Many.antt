@@ -1,4 +1,5 @@
 -- Ids by blocks: elements with their ids alone, which the strict reader reads where the ids differ.
+use Rattle.std.specs.Prelude.{if◌then◌else◌}
 use Prim.Native.Nat.{ℕ, zero, suc, ◌+◌, ◌-◌, ◌≤◌, ◌<◌}
 use mathlib.Core.Path.{◌≡◌, refl, sym, ap, ◌∙◌, subst}
 use mathlib.Core.Bool.{Bool, true, false, not, ◌&&◌, ◌||◌}
@@ -10,7 +11,7 @@ use lib.Seq.{take-suc, take_at, drop-drop, get_or-drop, length-take-le}
 use borrow.Author.Tests.{not-true, not-false}
 use mir.Syntax.{w64}
 use mir.Val as val
-use Rattle.base.specs.Choose.{if◌then◌else◌, within}
+use Rattle.base.specs.Choose.{within}
 use Rattle.base.specs.Texts.{same_text, is_in, all_different}
 use Rattle.base.proofs.Tests.{clash, both, by_test}
 use Rattle.record.specs.Limits.{line_limit}

@@ -1,4 +1,5 @@
 -- The answers: each refusal, and the value given.
+use Rattle.std.specs.Prelude.{if◌then◌else◌}
 use Prim.Native.Nat.{ℕ, ◌+◌, ◌-◌, ◌≤◌, ◌<◌}
 use mathlib.Core.Path.{◌≡◌, refl, sym, ap, ◌∙◌}
 use mathlib.Core.Bool.{Bool, true, false, not, ◌||◌}
@@ -6,7 +7,6 @@ use mathlib.Core.List.{List}
 use lib.Dec.{eqb, ltb}
 use lib.ListN.{length, take, drop}
 use borrow.Author.Tests.{lt-ltb, le-ltb, ltb-true, ltb-false, not-true, not-false}
-use Rattle.base.specs.Choose.{if◌then◌else◌}
 use Rattle.output.specs.Output.{Wrote}
 use Rattle.output.proofs.Writes.{written_front}
 use Rattle.base.proofs.Tests.{clash}

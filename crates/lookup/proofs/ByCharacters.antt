@@ -1,10 +1,10 @@
 -- Unescaping goes by characters, and leaves characters.
+use Rattle.std.specs.Prelude.{if◌then◌else◌}
 use Prim.Native.Nat.{ℕ}
 use mathlib.Core.Path.{◌≡◌, refl, ap, ◌∙◌}
 use mathlib.Core.List.{List, [], ◌∷◌, ◌++◌}
 use mathlib.Core.Bool.{Bool, true, false, ◌&&◌}
 use native.Mathlib.Omega.{arith}
-use Rattle.base.specs.Choose.{if◌then◌else◌}
 use Rattle.base.specs.Runs.{All}
 use Rattle.base.proofs.Tests.{by_if}
 use Rattle.utf8.specs.Rfc3629.{utf8_1, Characters, octets}

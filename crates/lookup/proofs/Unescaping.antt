@@ -1,4 +1,5 @@
 -- Unescaping, a byte at a time: what a byte adds, the length, and the writes.
+use Rattle.std.specs.Prelude.{if◌then◌else◌}
 use Prim.Native.Nat.{ℕ, ◌+◌, ◌^◌, ◌≤◌, ◌<◌}
 use mathlib.Core.Path.{◌≡◌, refl, sym, ap, ◌∙◌}
 use mathlib.Core.Bool.{Bool, true, false, not, ◌&&◌}
@@ -9,7 +10,6 @@ use lib.ListN.{length, get_or, drop, length-append}
 use mir.Syntax.{w64}
 use mir.Val as val
 use borrow.Author.Tests.{eq-eqb, ne_eqb, not-true, not-false}
-use Rattle.base.specs.Choose.{if◌then◌else◌}
 use Rattle.base.proofs.Tests.{by_test}
 use Rattle.base.proofs.Parts.{step, ended}
 use Rattle.output.specs.Fits.{Fits}

@@ -1,6 +1,5 @@
 -- Unescaping by the characters of a value: what the walk by bytes is to equal where the value is UTF-8.
-use Rattle.std.specs.Prelude.{ℕ, List, [], ◌∷◌, Bool, true, false, ◌||◌, ◌&&◌}
-use Rattle.base.specs.Choose.{if◌then◌else◌}
+use Rattle.std.specs.Prelude.{ℕ, List, [], ◌∷◌, Bool, true, false, ◌||◌, ◌&&◌, if◌then◌else◌}
 use Rattle.utf8.specs.Characters.{is_char}
 
 -- `"`, `\` and `]`

@@ -1,6 +1,5 @@
 -- Lookup: the unescaped value of the first parameter, in table order, with a given element id and name; refusals 1, 2, 7, 9, 8 in order.
-use Rattle.std.specs.Prelude.{ℕ, ◌≡◌, List, [], ◌∷◌, Bool, not, ◌&&◌, ltb, eqb, length, get_or, take}
-use Rattle.base.specs.Choose.{if◌then◌else◌}
+use Rattle.std.specs.Prelude.{ℕ, ◌≡◌, List, [], ◌∷◌, Bool, not, ◌&&◌, ltb, eqb, length, get_or, take, if◌then◌else◌}
 use Rattle.base.specs.Texts.{text_at, same_text}
 use Rattle.record.specs.Limits.{line_limit}
 use Rattle.record.specs.declared.Record.{Record}

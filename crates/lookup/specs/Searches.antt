@@ -1,6 +1,5 @@
 -- For private contracts alone: how far the search is, and what an entry makes of it.
-use Rattle.std.specs.Prelude.{ℕ, ◌+◌, ◌≤◌, ◌<◌, ◌≡◌, Bool, false, ◌&&◌, List, [], length, get_or}
-use Rattle.base.specs.Choose.{if◌then◌else◌}
+use Rattle.std.specs.Prelude.{ℕ, ◌+◌, ◌≤◌, ◌<◌, ◌≡◌, Bool, false, ◌&&◌, List, [], length, get_or, if◌then◌else◌}
 use Rattle.base.specs.Texts.{text_at, same_text}
 use Rattle.record.specs.Places.{absent, place}
 use Rattle.record.specs.declared.Param.{Param}

@@ -1,7 +1,6 @@
 -- Unescaping. Backslash before `"`, `\` or `]` goes. Loose: `\n` is a newline, any other pair stays, a lone last backslash goes.
 -- Strict: `\n` stays two characters, and a lone last backslash stays.
-use Rattle.std.specs.Prelude.{ℕ, List, [], ◌∷◌, Bool, true, false, ◌||◌, ◌&&◌, eqb}
-use Rattle.base.specs.Choose.{if◌then◌else◌}
+use Rattle.std.specs.Prelude.{ℕ, List, [], ◌∷◌, Bool, true, false, ◌||◌, ◌&&◌, eqb, if◌then◌else◌}
 
 -- `"`, `\` and `]`
 abbrev pub is_escaped : ℕ → Bool

@@ -1,8 +1,7 @@
 // Lookup: the unescaped value of the first parameter with a given element id and name.
 #![tactic(auto)]
 
-ghost use Rattle.std.specs.Prelude.{◌≡◌, true, ◌&&◌, ◌||◌, [], ◌+◌, ◌≤◌, ◌<◌, eqb, ltb, length, get_or, take};
-ghost use Rattle.base.specs.Choose.{if◌then◌else◌};
+ghost use Rattle.std.specs.Prelude.{◌≡◌, true, ◌&&◌, ◌||◌, [], ◌+◌, ◌≤◌, ◌<◌, eqb, ltb, length, get_or, take, if◌then◌else◌};
 ghost use Rattle.record.specs.Limits.{line_limit};
 ghost use Rattle.record.specs.Params.{rows};
 ghost use Rattle.record.specs.declared.Written.TheVariants.{Refused};

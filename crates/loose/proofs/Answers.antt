@@ -1,4 +1,5 @@
 -- What an answer that is no refusal says of the line: 1, 2 and 3 do not apply; and where it is the whole line, there is no reading.
+use Rattle.std.specs.Prelude.{if◌then◌else◌}
 use Prim.Native.Nat.{ℕ}
 use mathlib.Core.Path.{◌≡◌, refl, sym}
 use mathlib.Core.Bool.{Bool, true, false, not}
@@ -7,7 +8,6 @@ use lib.Dec.{ltb}
 use lib.ListN.{length}
 use lib.IntN.{ℤ}
 use borrow.Author.Tests.{not-false}
-use Rattle.base.specs.Choose.{if◌then◌else◌}
 use Rattle.base.proofs.Tests.{clash}
 use Rattle.utf8.specs.Lead.{is_utf8}
 use Rattle.record.specs.Limits.{line_limit}

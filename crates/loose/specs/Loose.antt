@@ -1,6 +1,5 @@
 -- lib.rs: the loose reader. Refusals 1, 2, 3, 5 and 6 in order, the record, the counts and the tables.
-use Rattle.std.specs.Prelude.{ℕ, ◌≡◌, List, Bool, not, ◌&&◌, leb, ltb, eqb, length, take, ℤ}
-use Rattle.base.specs.Choose.{if◌then◌else◌}
+use Rattle.std.specs.Prelude.{ℕ, ◌≡◌, List, Bool, not, ◌&&◌, leb, ltb, eqb, length, take, ℤ, if◌then◌else◌}
 use Rattle.base.specs.Fills.{filled}
 use Rattle.utf8.specs.Lead.{is_utf8}
 use Rattle.white.specs.Trim.{trimmed}

@@ -1,4 +1,5 @@
 -- The walk over both tables: the elements opened one after another, and the parameters in between.
+use Rattle.std.specs.Prelude.{if◌then◌else◌}
 use Prim.Native.Nat.{ℕ, zero, suc, ◌+◌, ◌-◌, ◌≤◌, ◌<◌}
 use mathlib.Core.Path.{◌≡◌, refl, sym, ap, ◌∙◌}
 use mathlib.Core.Bool.{true}
@@ -9,7 +10,6 @@ use lib.Dec.{eqb}
 use lib.ListN.{length, get_or, take, drop}
 use lib.Seq.{take-length, length-take-le}
 use borrow.Author.Tests.{le-leb, leb-true, ltb-true, eq-eqb, ne_eqb}
-use Rattle.base.specs.Choose.{if◌then◌else◌}
 use Rattle.base.proofs.Tests.{both}
 use Rattle.record.specs.declared.Param.{Param}
 use Rattle.record.specs.Params.{row_of}

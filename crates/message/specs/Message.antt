@@ -1,6 +1,5 @@
 -- message.rs: a record as text.
-use Rattle.std.specs.Prelude.{ℕ, ◌+◌, ◌*◌, List, [], ◌∷◌, ◌++◌, eqb, get_or}
-use Rattle.base.specs.Choose.{if◌then◌else◌}
+use Rattle.std.specs.Prelude.{ℕ, ◌+◌, ◌*◌, List, [], ◌∷◌, ◌++◌, eqb, get_or, if◌then◌else◌}
 use Rattle.base.specs.Bytes.{bytes}
 use Rattle.base.specs.Texts.{text_at}
 use Rattle.record.specs.declared.Level.{Level}

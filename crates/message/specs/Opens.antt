@@ -1,6 +1,5 @@
 -- For private contracts alone: the elements' text as it is written: what stands between two parameters, and after the last element.
-use Rattle.std.specs.Prelude.{ℕ, ◌+◌, ◌-◌, List, [], ◌∷◌, ◌++◌, eqb, length, get_or, take, drop}
-use Rattle.base.specs.Choose.{if◌then◌else◌}
+use Rattle.std.specs.Prelude.{ℕ, ◌+◌, ◌-◌, List, [], ◌∷◌, ◌++◌, eqb, length, get_or, take, drop, if◌then◌else◌}
 use Rattle.base.specs.Bytes.{bytes}
 use Rattle.base.specs.Texts.{text_at}
 use Rattle.record.specs.declared.Protocol.{Protocol}

@@ -1,6 +1,5 @@
 -- The contract of printing: refusals 1, 7 and 8, the length, and the output.
-use Rattle.std.specs.Prelude.{ℕ, ◌≡◌, List, not, ltb, length, take}
-use Rattle.base.specs.Choose.{if◌then◌else◌}
+use Rattle.std.specs.Prelude.{ℕ, ◌≡◌, List, not, ltb, length, take, if◌then◌else◌}
 use Rattle.record.specs.Limits.{line_limit}
 use Rattle.record.specs.declared.Record.{Record}
 use Rattle.record.specs.declared.Written.{Written}

@@ -1,6 +1,5 @@
 -- For private contracts alone: what measuring answers. The sizes of many rows may add up to more than any number holds, so each is taken from the room that is left.
-use Rattle.std.specs.Prelude.{ℕ, ◌+◌, ◌-◌, Bool, false, List, [], ◌∷◌, ◌++◌, leb, ltb, length, get_or}
-use Rattle.base.specs.Choose.{if◌then◌else◌}
+use Rattle.std.specs.Prelude.{ℕ, ◌+◌, ◌-◌, Bool, false, List, [], ◌∷◌, ◌++◌, leb, ltb, length, get_or, if◌then◌else◌}
 use Rattle.record.specs.declared.Record.{Record}
 use Rattle.message.specs.Message.{names_text, head_text}
 use Rattle.message.specs.Opens.{end_text}

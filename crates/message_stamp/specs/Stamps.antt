@@ -1,6 +1,5 @@
 -- message.rs, the timestamp: fraction of as many digits as it was read with, offset always as sign `hh:mm`, `+` for 0.
-use Rattle.std.specs.Prelude.{ℕ, ◌-◌, ◌/◌, ◌%◌, ◌^◌, List, [], ◌∷◌, ◌++◌, eqb, ℤ, pos, negsuc, nat_abs}
-use Rattle.base.specs.Choose.{if◌then◌else◌}
+use Rattle.std.specs.Prelude.{ℕ, ◌-◌, ◌/◌, ◌%◌, ◌^◌, List, [], ◌∷◌, ◌++◌, eqb, ℤ, pos, negsuc, nat_abs, if◌then◌else◌}
 use Rattle.calendar.specs.Instant.{shown}
 use Rattle.calendar.specs.declared.DateTime.{DateTime}
 use Rattle.calendar.specs.declared.Shown.{Shown}

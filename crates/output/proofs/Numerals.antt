@@ -1,4 +1,5 @@
 -- Digits: how many, and the number's width.
+use Rattle.std.specs.Prelude.{if◌then◌else◌}
 use Prim.Native.Nat.{ℕ, zero, suc, ◌+◌, ◌-◌, ◌/◌, ◌%◌, ◌^◌, ◌≤◌, ◌<◌}
 use mathlib.Core.Path.{◌≡◌, refl, sym, ap, ◌∙◌}
 use mathlib.Core.List.{List, [], ◌∷◌}
@@ -7,7 +8,6 @@ use lib.Dec.{ltb}
 use lib.ListN.{length, set, length-append}
 use native.Mathlib.Nat.{pow-suc}
 use borrow.Author.Tests.{lt-ltb, le-ltb}
-use Rattle.base.specs.Choose.{if◌then◌else◌}
 use Rattle.base.proofs.Tests.{by_test}
 use Rattle.output.specs.Output.{Wrote}
 use Rattle.output.specs.Fits.{Fits}

@@ -1,4 +1,5 @@
 -- The first text of the least element whose class has unlike counts; and that those are the texts that do not occur as often.
+use Rattle.std.specs.Prelude.{if◌then◌else◌}
 use Prim.Native.Nat.{ℕ, zero, suc, ◌+◌, ◌-◌, ◌*◌, ◌≤◌, ◌<◌}
 use mathlib.Core.Path.{◌≡◌, refl, sym, ap, ap₂, ◌∙◌, subst}
 use mathlib.Core.Bool.{Bool, true, false, not, ◌&&◌}
@@ -10,7 +11,6 @@ use lib.ListN.{length, get_or, replicate, length-replicate}
 use mir.Syntax.{w64}
 use mir.Val.{Fits}
 use borrow.Author.Tests.{eq-eqb, ne_eqb, ltb-true, ltb-false}
-use Rattle.base.specs.Choose.{if◌then◌else◌}
 use Rattle.base.specs.Texts.{same_text}
 use Rattle.base.proofs.Tests.{both, by_test, clash}
 use Rattle.base.proofs.Texts.{same_is, same_self, same_not}

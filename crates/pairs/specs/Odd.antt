@@ -1,6 +1,5 @@
 -- For private contracts alone: how often a text occurs among the first and among the others, and the first one that does not occur as often.
-use Rattle.std.specs.Prelude.{ℕ, zero, suc, ◌+◌, ◌-◌, ◌*◌, ◌≤◌, ◌<◌, ◌≡◌, List, Bool, true, false, not, ◌&&◌, eqb, ltb, length, get_or}
-use Rattle.base.specs.Choose.{if◌then◌else◌}
+use Rattle.std.specs.Prelude.{ℕ, zero, suc, ◌+◌, ◌-◌, ◌*◌, ◌≤◌, ◌<◌, ◌≡◌, List, Bool, true, false, not, ◌&&◌, eqb, ltb, length, get_or, if◌then◌else◌}
 use Rattle.base.specs.Texts.{same_text}
 use Rattle.pairs.specs.Keys.{key_of, Keys}
 use Rattle.pairs.specs.Tree.{Room}

@@ -1,7 +1,6 @@
 -- For private contracts alone: the tree of the texts, in which a text finds its class: the first that is the same. It is kept as slots, one where walks begin and three for
 -- each text; a slot holds the number of its text and one more, or 0. Where a walk turns is of no account to what it finds: the same texts walk alike.
-use Rattle.std.specs.Prelude.{ℕ, ◌+◌, ◌*◌, ◌/◌, ◌%◌, ◌^◌, ◌≤◌, ◌<◌, ◌≡◌, List, eqb, length, get_or, set}
-use Rattle.base.specs.Choose.{if◌then◌else◌}
+use Rattle.std.specs.Prelude.{ℕ, ◌+◌, ◌*◌, ◌/◌, ◌%◌, ◌^◌, ◌≤◌, ◌<◌, ◌≡◌, List, eqb, length, get_or, set, if◌then◌else◌}
 use Rattle.base.specs.Texts.{same_text}
 use Rattle.pairs.specs.Keys.{Keys}
 use Rattle.pairs.specs.declared.Turn.{Turn}

@@ -1,6 +1,6 @@
 -- parsers.rs: the fields of a header, each read from the rest of the line, which is the text `s` here.
-use Rattle.std.specs.Prelude.{ℕ, suc, ◌-◌, List, [], ◌∷◌, Bool, ◌&&◌, not, eqb}
-use Rattle.base.specs.Choose.{if◌then◌else◌, is_at}
+use Rattle.std.specs.Prelude.{ℕ, suc, ◌-◌, List, [], ◌∷◌, Bool, ◌&&◌, not, eqb, if◌then◌else◌}
+use Rattle.base.specs.Choose.{is_at}
 use Rattle.white.specs.White.{white_len}
 use Rattle.white.specs.Trim.{field_len}
 use Rattle.parsers.specs.declared.Text.{Text}

@@ -1,6 +1,6 @@
 -- Steps of a reader at a position of the line: what was read, and the position after it. `onX x r k` goes on with k, or answers r where x failed.
-use Rattle.std.specs.Prelude.{ℕ, ◌+◌, List, Bool, not, ◌||◌, eqb, get_or, drop}
-use Rattle.base.specs.Choose.{if◌then◌else◌, is_at}
+use Rattle.std.specs.Prelude.{ℕ, ◌+◌, List, Bool, not, ◌||◌, eqb, get_or, drop, if◌then◌else◌}
+use Rattle.base.specs.Choose.{is_at}
 use Rattle.base.specs.Runs.{run}
 use Rattle.digits.specs.declared.Number.{Number}
 use Rattle.digits.specs.declared.Number.TheVariants.{Nothing, Value}

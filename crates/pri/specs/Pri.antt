@@ -1,6 +1,6 @@
 -- pri.rs: `<`, digits, `>`, value 0 to 255, leading zeros allowed. Anything else, `<256>` too, consumes nothing and leaves both absent.
-use Rattle.std.specs.Prelude.{ℕ, ◌+◌, ◌/◌, ◌%◌, List, leb, drop}
-use Rattle.base.specs.Choose.{if◌then◌else◌, is_at}
+use Rattle.std.specs.Prelude.{ℕ, ◌+◌, ◌/◌, ◌%◌, List, leb, drop, if◌then◌else◌}
+use Rattle.base.specs.Choose.{is_at}
 use Rattle.digits.specs.declared.Number.{Number}
 use Rattle.digits.specs.declared.Number.TheVariants.{Nothing, Value}
 use Rattle.digits.specs.Digits.{number_at}

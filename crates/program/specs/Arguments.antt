@@ -1,7 +1,6 @@
 -- What an argument is, and what it adds to what the arguments before it ask for.
-use Rattle.std.specs.Prelude.{ℕ, Bool, true, false, List}
+use Rattle.std.specs.Prelude.{ℕ, Bool, true, false, List, if◌then◌else◌}
 use Rattle.base.specs.Bytes.{bytes}
-use Rattle.base.specs.Choose.{if◌then◌else◌}
 use Rattle.base.specs.Texts.{same_text}
 use Rattle.program.specs.declared.Word.{Word}
 use Rattle.program.specs.declared.Word.TheVariants as word

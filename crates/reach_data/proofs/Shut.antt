@@ -1,4 +1,5 @@
 -- Whether an id of 31 bytes is used, and all ids that are it and a byte more.
+use Rattle.std.specs.Prelude.{if◌then◌else◌}
 use Prim.Native.Nat.{ℕ, zero, suc, ◌+◌, ◌^◌, ◌≤◌, ◌<◌}
 use mathlib.Core.Path.{◌≡◌, refl, sym, ap, ap₂, ◌∙◌, subst}
 use mathlib.Core.Bool.{Bool, true, false, not, ◌&&◌, ◌||◌}
@@ -11,7 +12,6 @@ use lib.ListN.{length, get_or, set, take, drop, replicate, length-drop, length-a
 use lib.Seq.{take-add, take_all, length-take-le, get_or-set_same, get_or-set_other, get_or-append_seam, take-append_seam}
 use lib.Dec.{leb, eqb}
 use borrow.Author.Tests.{le-leb, lt-leb, leb-true, leb-false, eqb-true, eq-eqb, ne_eqb}
-use Rattle.base.specs.Choose.{if◌then◌else◌}
 use Rattle.base.specs.Texts.{same_text}
 use Rattle.base.proofs.Tests.{clash, both, by_test}
 use Rattle.base.proofs.Texts.{same_is, same_self}

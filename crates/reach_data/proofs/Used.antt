@@ -1,4 +1,5 @@
 -- Elements whose ids have to differ: how far they go, by the ids that are used.
+use Rattle.std.specs.Prelude.{if◌then◌else◌}
 use Prim.Native.Nat.{ℕ, ◌+◌, ◌≤◌, ◌<◌}
 use mathlib.Core.Path.{◌≡◌, refl, sym, ap, ◌∙◌}
 use mathlib.Core.Bool.{true, false, not, ◌&&◌}
@@ -8,7 +9,7 @@ use lib.ListN.{length, get_or, take, drop}
 use lib.Seq.{take-add, length-take-le}
 use lib.Dec.{leb}
 use borrow.Author.Tests.{le-leb, lt-leb, leb-true, leb-false}
-use Rattle.base.specs.Choose.{if◌then◌else◌, within}
+use Rattle.base.specs.Choose.{within}
 use Rattle.base.specs.Runs.{run}
 use Rattle.base.proofs.Tests.{clash, by_test}
 use Rattle.base.proofs.Ranges.{inside, orders}

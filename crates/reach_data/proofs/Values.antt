@@ -1,4 +1,5 @@
 -- The walk over a value answers how far the reader of values went.
+use Rattle.std.specs.Prelude.{if◌then◌else◌}
 use Prim.Native.Nat.{ℕ, zero, suc, ◌+◌, ◌-◌, ◌≤◌, ◌<◌}
 use mathlib.Core.Path.{◌≡◌, refl, sym, ap, ◌∙◌}
 use mathlib.Core.Bool.{Bool, true, false, not, ◌&&◌, ◌||◌}
@@ -7,7 +8,7 @@ use native.Mathlib.Omega.{arith}
 use lib.ListN.{length, get_or, take, drop}
 use lib.Dec.{leb, ltb, eqb, leb-suc-suc}
 use borrow.Author.Tests.{ltb-true, ltb-false, le-leb, ne_eqb, leb-true}
-use Rattle.base.specs.Choose.{if◌then◌else◌, within, is_at}
+use Rattle.base.specs.Choose.{within, is_at}
 use Rattle.base.proofs.Tests.{clash, by_test}
 use Rattle.base.proofs.Ranges.{orders, inside, above, below}
 use Rattle.base.proofs.Parts.{step, ended}

@@ -1,6 +1,6 @@
 -- For private contracts alone: what the walks over the pieces of the structured data and of the message answer.
-use Rattle.std.specs.Prelude.{ℕ, ◌+◌, Bool, ◌&&◌, List}
-use Rattle.base.specs.Choose.{if◌then◌else◌, is_at}
+use Rattle.std.specs.Prelude.{ℕ, ◌+◌, Bool, ◌&&◌, List, if◌then◌else◌}
+use Rattle.base.specs.Choose.{is_at}
 use Rattle.grammar.specs.Abnf.{sd_name_byte}
 use Rattle.grammar.specs.Parse.{◌next◌, closed, behind, many, only, all_left, is_message, sd_name, value, param, message}
 use Rattle.viable.specs.Far.{Far, next_far, closed_far, behind_far}

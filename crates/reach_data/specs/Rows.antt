@@ -1,6 +1,6 @@
 -- For private contracts alone: the ids of the elements that a walk notes, a row for each, and how far an id goes that is used.
-use Rattle.std.specs.Prelude.{ℕ, zero, suc, ◌+◌, ◌*◌, ◌≤◌, ◌<◌, ◌≡◌, Bool, true, false, not, ◌&&◌, ◌||◌, List, [], ◌∷◌, length, get_or, set, take, drop, leb, eqb}
-use Rattle.base.specs.Choose.{if◌then◌else◌, is_at}
+use Rattle.std.specs.Prelude.{ℕ, zero, suc, ◌+◌, ◌*◌, ◌≤◌, ◌<◌, ◌≡◌, Bool, true, false, not, ◌&&◌, ◌||◌, List, [], ◌∷◌, length, get_or, set, take, drop, leb, eqb, if◌then◌else◌}
+use Rattle.base.specs.Choose.{is_at}
 use Rattle.base.specs.Runs.{run}
 use Rattle.base.specs.Texts.{same_text}
 use Rattle.record.specs.Limits.{line_limit}

@@ -1,7 +1,7 @@
 -- For private contracts alone: a value and its quote, byte by byte, as the code walks. `paired`: the byte before is a backslash that begins a pair; `more`, `lo`, `hi`
 -- as in utf8_from.
-use Rattle.std.specs.Prelude.{ℕ, zero, suc, ◌-◌, Bool, false, not, ◌&&◌, List, [], ◌∷◌, drop, leb, eqb}
-use Rattle.base.specs.Choose.{if◌then◌else◌, within}
+use Rattle.std.specs.Prelude.{ℕ, zero, suc, ◌-◌, Bool, false, not, ◌&&◌, List, [], ◌∷◌, drop, leb, eqb, if◌then◌else◌}
+use Rattle.base.specs.Choose.{within}
 use Rattle.utf8.specs.Lead.{lead_of}
 use Rattle.viable.specs.Walks.{onward_of}
 use Rattle.viable.specs.declared.Went.{Went}

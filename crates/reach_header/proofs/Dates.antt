@@ -1,4 +1,5 @@
 -- Numbers of two digits in a range, and days of a month.
+use Rattle.std.specs.Prelude.{if◌then◌else◌}
 use Prim.Native.Nat.{ℕ, suc, ◌+◌, ◌-◌, ◌*◌, ◌^◌, ◌≤◌, ◌<◌}
 use mathlib.Core.Path.{◌≡◌, refl, sym, ap, ◌∙◌}
 use mathlib.Core.Bool.{Bool, true, false, not, ◌&&◌, ◌||◌}
@@ -10,7 +11,7 @@ use lib.ListN.{length, get_or, take, drop, length-append}
 use lib.Seq.{get_or-drop, drop-drop, take_at}
 use lib.Dec.{leb, ltb}
 use borrow.Author.Tests.{le-leb, lt-leb, leb-true, leb-false, ltb-true, ltb-false, not-true, not-false}
-use Rattle.base.specs.Choose.{if◌then◌else◌, within}
+use Rattle.base.specs.Choose.{within}
 use Rattle.base.specs.Runs.{run}
 use Rattle.base.proofs.Tests.{clash, by_test}
 use Rattle.base.proofs.Ranges.{inside, above, below, orders}

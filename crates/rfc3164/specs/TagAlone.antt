@@ -1,6 +1,6 @@
 -- A tag and no host: the Rust has a branch for it, with a note that it should not happen. It does not. (To be read: no contract rests on it.)
-use Rattle.std.specs.Prelude.{ℕ, ◌+◌, ◌≡◌, List, Bool, true, not, ◌||◌, drop}
-use Rattle.base.specs.Choose.{if◌then◌else◌, is_at}
+use Rattle.std.specs.Prelude.{ℕ, ◌+◌, ◌≡◌, List, Bool, true, not, ◌||◌, drop, if◌then◌else◌}
+use Rattle.base.specs.Choose.{is_at}
 use Rattle.parsers.specs.Unread.{is_unread}
 use Rattle.parsers.specs.declared.Field.{Field}
 use Rattle.parsers.specs.declared.Field.TheVariants.{NoField, IsField}

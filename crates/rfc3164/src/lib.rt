@@ -1,8 +1,7 @@
 // rfc3164.rs: a line by the rules of RFC 3164.
 #![tactic(auto)]
 
-ghost use Rattle.std.specs.Prelude.{◌≡◌, ◌+◌, ◌≤◌, length};
-ghost use Rattle.base.specs.Choose.{if◌then◌else◌};
+ghost use Rattle.std.specs.Prelude.{◌≡◌, ◌+◌, ◌≤◌, length, if◌then◌else◌};
 ghost use Rattle.base.specs.Runs.{run};
 ghost use Rattle.draft.specs.Drafts.{draft_of};
 ghost use Rattle.rfc3164.specs.Names.{is_app, split_at, split_of, no_names, with_tag, only_field, host_and_tag};

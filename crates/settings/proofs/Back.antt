@@ -1,4 +1,5 @@
 -- What is written is read back, settings that were read write their record, and the other records do not matter.
+use Rattle.std.specs.Prelude.{if◌then◌else◌}
 use Prim.Native.Nat.{ℕ, ◌+◌, ◌-◌, ◌*◌, ◌/◌, ◌≤◌, ◌<◌}
 use mathlib.Core.Path.{◌≡◌, refl, sym, ap, subst, ◌∙◌}
 use mathlib.Core.Bool.{Bool, true, false, not}
@@ -9,7 +10,6 @@ use lib.IntN.{pos}
 use lib.ListN.{length, take, drop, length-append, length-drop}
 use lib.Seq.{take_at, take-add, take-take, take_all, drop_at, drop-drop, drop-append-add, length-take-le}
 use borrow.Author.Tests.{le-ltb}
-use Rattle.base.specs.Choose.{if◌then◌else◌}
 use Rattle.base.specs.Fills.{filled}
 use Rattle.base.specs.Texts.{text_at}
 use Rattle.base.proofs.Tests.{clash, by_test}

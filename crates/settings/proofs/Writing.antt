@@ -1,4 +1,5 @@
 -- Writing a record: zeros, its pieces, and the refusals.
+use Rattle.std.specs.Prelude.{if◌then◌else◌}
 use Prim.Native.Nat.{ℕ, suc, ◌+◌, ◌-◌, ◌≤◌, ◌<◌}
 use mathlib.Core.Path.{◌≡◌, refl, sym, ◌∙◌}
 use mathlib.Core.Bool.{Bool, true, false, not}
@@ -11,7 +12,6 @@ use mir.Syntax.{w8, w32}
 use mir.Val as val
 use mir.ValLaws.{to_z-of_z}
 use borrow.Author.Tests.{lt-ltb, le-ltb, leb-true, not-true, not-false}
-use Rattle.base.specs.Choose.{if◌then◌else◌}
 use Rattle.base.specs.Fills.{filled}
 use Rattle.base.proofs.Ranges.{orders}
 use Rattle.base.proofs.Tests.{by_test}

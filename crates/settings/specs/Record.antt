@@ -1,6 +1,6 @@
 -- The settings of a gate, and the record of 32 bytes that holds them. Numbers are low byte first.
-use Rattle.std.specs.Prelude.{ℕ, ◌-◌, ◌/◌, ◌%◌, ◌≡◌, Bool, true, ◌&&◌, List, [], ◌∷◌, ◌++◌, eqb, leb, ℤ, pos, negsuc, length, replicate}
-use Rattle.base.specs.Choose.{if◌then◌else◌, within}
+use Rattle.std.specs.Prelude.{ℕ, ◌-◌, ◌/◌, ◌%◌, ◌≡◌, Bool, true, ◌&&◌, List, [], ◌∷◌, ◌++◌, eqb, leb, ℤ, pos, negsuc, length, replicate, if◌then◌else◌}
+use Rattle.base.specs.Choose.{within}
 use Rattle.base.specs.Runs.{run}
 use Rattle.calendar.specs.Calendar.{last_year, valid_offset}
 

@@ -1,6 +1,5 @@
 -- For private contracts alone: a record by its fields and by its pieces, and the steps of a reader.
-use Rattle.std.specs.Prelude.{ℕ, ◌+◌, ◌-◌, ◌*◌, ◌/◌, ◌%◌, ◌<◌, ◌≡◌, Bool, true, false, ◌&&◌, List, [], ◌∷◌, ◌++◌, ltb, ℤ, pos, negsuc, length, get_or, replicate}
-use Rattle.base.specs.Choose.{if◌then◌else◌}
+use Rattle.std.specs.Prelude.{ℕ, ◌+◌, ◌-◌, ◌*◌, ◌/◌, ◌%◌, ◌<◌, ◌≡◌, Bool, true, false, ◌&&◌, List, [], ◌∷◌, ◌++◌, ltb, ℤ, pos, negsuc, length, get_or, replicate, if◌then◌else◌}
 use Rattle.base.specs.Texts.{text_at}
 use Rattle.record.specs.declared.Refusal.TheVariants.{UnknownVersion, BadField}
 use Rattle.settings.specs.declared.Found.{Found}

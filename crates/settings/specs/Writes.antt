@@ -1,6 +1,5 @@
 -- Writing a record: 14, 15, 8 in this order, or 32 bytes at the front of the output.
-use Rattle.std.specs.Prelude.{ℕ, ◌≡◌, not, List, ltb, length}
-use Rattle.base.specs.Choose.{if◌then◌else◌}
+use Rattle.std.specs.Prelude.{ℕ, ◌≡◌, not, List, ltb, length, if◌then◌else◌}
 use Rattle.record.specs.declared.Refusal.TheVariants.{OutputShort, UnknownVersion, BadField}
 use Rattle.record.specs.declared.Written.{Written}
 use Rattle.record.specs.declared.Written.TheVariants.{Done, Refused}

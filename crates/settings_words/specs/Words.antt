@@ -1,7 +1,7 @@
 -- Which record of a file counts, what a word writes, and which word is wrong.
-use Rattle.std.specs.Prelude.{ℕ, ◌≡◌, Bool, true, not, List, eqb, ltb, ℤ, length, drop}
+use Rattle.std.specs.Prelude.{ℕ, ◌≡◌, Bool, true, not, List, eqb, ltb, ℤ, length, drop, if◌then◌else◌}
 use Rattle.std.proofs.Math.IntN.{sub_ℕ}
-use Rattle.base.specs.Choose.{if◌then◌else◌, is_at}
+use Rattle.base.specs.Choose.{is_at}
 use Rattle.calendar.specs.Calendar.{last_year, valid_offset}
 use Rattle.digits.specs.Digits.{number_at}
 use Rattle.digits.specs.declared.Number.{Number}

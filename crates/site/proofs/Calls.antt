@@ -1,4 +1,5 @@
 -- A call of the reading, and of C: what is left, from what was answered and read.
+use Rattle.std.specs.Prelude.{if◌then◌else◌}
 use Prim.Native.Nat.{ℕ, ◌≤◌, ◌<◌}
 use mathlib.Core.Path.{◌≡◌, refl, sym, ap, ◌∙◌}
 use mathlib.Core.Bool.{Bool, true, false}
@@ -10,7 +11,6 @@ use mir.Syntax.{w32}
 use mir.Val.{SFits, to_z, of_z}
 use mir.ValLaws.{to_z-of_z}
 use borrow.Author.Tests.{lt-ltb, le-ltb}
-use Rattle.base.specs.Choose.{if◌then◌else◌}
 use Rattle.base.proofs.Tests.{clash, by_test}
 use Rattle.record.specs.declared.Span.{Span}
 use Rattle.record.specs.declared.Reading.{Reading}

@@ -1,6 +1,5 @@
 -- What holds of readings with settings: the statements, to be read without their proofs, which are in proofs/.
-use Rattle.std.specs.Prelude.{ℕ, ◌≡◌, true, List}
-use Rattle.base.specs.Choose.{if◌then◌else◌}
+use Rattle.std.specs.Prelude.{ℕ, ◌≡◌, true, List, if◌then◌else◌}
 use Rattle.base.specs.Texts.{text_at}
 use Rattle.record.specs.declared.Record.{Record}
 use Rattle.record.specs.declared.Refusal.{Refusal}

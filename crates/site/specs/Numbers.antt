@@ -1,6 +1,5 @@
 -- The call of C: a number, the slice that holds the host and its place there, and the record in memory.
-use Rattle.std.specs.Prelude.{ℕ, ◌≡◌, List, [], eqb, ltb, length}
-use Rattle.base.specs.Choose.{if◌then◌else◌}
+use Rattle.std.specs.Prelude.{ℕ, ◌≡◌, List, [], eqb, ltb, length, if◌then◌else◌}
 use Rattle.base.specs.Fills.{filled}
 use Rattle.record.specs.Refusals.{refusal_number}
 use Rattle.layout.specs.Layout.{record_size, record_bytes}

@@ -1,6 +1,5 @@
 -- Loose reading with the settings of a gate, and whose host it is.
-use Rattle.std.specs.Prelude.{ℕ, ◌≡◌, List, [], eqb}
-use Rattle.base.specs.Choose.{if◌then◌else◌}
+use Rattle.std.specs.Prelude.{ℕ, ◌≡◌, List, [], eqb, if◌then◌else◌}
 use Rattle.base.specs.Texts.{text_at}
 use Rattle.record.specs.declared.Place.{Place}
 use Rattle.record.specs.declared.Span.{Span}

@@ -1,6 +1,5 @@
 -- What a call of the splitter answers, and what it leaves in the buffer.
-use Rattle.std.specs.Prelude.{ℕ, ◌≤◌, ◌<◌, ◌≡◌, List, [], length, take, leb}
-use Rattle.base.specs.Choose.{if◌then◌else◌}
+use Rattle.std.specs.Prelude.{ℕ, ◌≤◌, ◌<◌, ◌≡◌, List, [], length, take, leb, if◌then◌else◌}
 use Rattle.base.specs.Fills.{filled}
 use Rattle.record.specs.Limits.{line_limit}
 use Rattle.record.specs.declared.Refusal.TheVariants.{OutputShort, BadCount, FrameTooLong}

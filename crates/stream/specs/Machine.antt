@@ -1,6 +1,6 @@
 -- The machine that takes a stream a byte at a time: what it holds, what it says, and where it then stands.
-use Rattle.std.specs.Prelude.{ℕ, suc, ◌+◌, ◌-◌, ◌*◌, Bool, ◌&&◌, not, List, [], ◌∷◌, ◌++◌, eqb, leb, ltb, length}
-use Rattle.base.specs.Choose.{if◌then◌else◌, within}
+use Rattle.std.specs.Prelude.{ℕ, suc, ◌+◌, ◌-◌, ◌*◌, Bool, ◌&&◌, not, List, [], ◌∷◌, ◌++◌, eqb, leb, ltb, length, if◌then◌else◌}
+use Rattle.base.specs.Choose.{within}
 use Rattle.record.specs.Limits.{line_limit}
 use Rattle.record.specs.declared.Refusal.TheVariants.{BadSetting}
 use Rattle.stream.specs.declared.State.{State}

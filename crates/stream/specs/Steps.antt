@@ -1,6 +1,5 @@
 -- For private contracts alone: several content bytes at once, and the digits of a count.
-use Rattle.std.specs.Prelude.{ℕ, zero, suc, ◌≤◌, ◌<◌, eqb, leb, take, drop, get_or, length, ◌≡◌, Bool, false, not, List, [], ◌∷◌}
-use Rattle.base.specs.Choose.{if◌then◌else◌}
+use Rattle.std.specs.Prelude.{ℕ, zero, suc, ◌≤◌, ◌<◌, eqb, leb, take, drop, get_or, length, ◌≡◌, Bool, false, not, List, [], ◌∷◌, if◌then◌else◌}
 use Rattle.base.specs.Fills.{filled}
 use Rattle.record.specs.Limits.{line_limit}
 use Rattle.record.specs.declared.Refusal.TheVariants.{FrameTooLong}

@@ -1,7 +1,6 @@
 -- For private contracts alone: what the first pass keeps of a line that the parser of `grammar` divides: the record, where the structured data stands, and the counts;
 -- and what is answered before a table is touched.
-use Rattle.std.specs.Prelude.{ℕ, ◌/◌, ◌%◌, Bool, true, false, List, [], ltb, length}
-use Rattle.base.specs.Choose.{if◌then◌else◌}
+use Rattle.std.specs.Prelude.{ℕ, ◌/◌, ◌%◌, Bool, true, false, List, [], ltb, length, if◌then◌else◌}
 use Rattle.record.specs.Limits.{line_limit}
 use Rattle.grammar.specs.Line.{Division, data_then}
 use Rattle.grammar.specs.Parse.{Parsed, parse}

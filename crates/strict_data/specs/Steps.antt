@@ -1,6 +1,5 @@
 -- For private contracts alone: a step of the second pass, where `k` elements are open: what it is given, what it answers, and the element table after it.
-use Rattle.std.specs.Prelude.{ℕ, ◌+◌, ◌-◌, ◌≤◌, ◌<◌, ◌≡◌, true, false, List, [], ◌∷◌, length, set}
-use Rattle.base.specs.Choose.{if◌then◌else◌}
+use Rattle.std.specs.Prelude.{ℕ, ◌+◌, ◌-◌, ◌≤◌, ◌<◌, ◌≡◌, true, false, List, [], ◌∷◌, length, set, if◌then◌else◌}
 use Rattle.record.specs.declared.Param.{Param}
 use Rattle.record.specs.Params.{blank}
 use Rattle.strict_data.specs.declared.Entry.{Entry}

@@ -1,9 +1,8 @@
 // The header of a strict line: priority, version, timestamp and the four names, each read from the part of the line that starts at it.
 #![tactic(auto)]
 
-ghost use Rattle.std.specs.Prelude.{◌≡◌, true, ◌+◌, ◌^◌, ◌≤◌, ◌<◌, pos, neg_ℤ, length, take};
+ghost use Rattle.std.specs.Prelude.{◌≡◌, true, ◌+◌, ◌^◌, ◌≤◌, ◌<◌, pos, neg_ℤ, length, take, if◌then◌else◌};
 ghost use Rattle.std.proofs.Math.Option.{some};
-ghost use Rattle.base.specs.Choose.{if◌then◌else◌};
 ghost use Rattle.base.specs.Runs.{run};
 ghost use Rattle.calendar.specs.Calendar.{offset_limit, valid};
 ghost use Rattle.calendar.specs.Instant.{seconds_of};

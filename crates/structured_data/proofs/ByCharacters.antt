@@ -1,4 +1,5 @@
 -- Id, name and value go by characters, and the id ends between two of them. (Name and value end before `=` and `"`.)
+use Rattle.std.specs.Prelude.{if◌then◌else◌}
 use Prim.Native.Nat.{ℕ, suc, ◌+◌}
 use mathlib.Core.Path.{◌≡◌, refl, ap, ◌∙◌}
 use mathlib.Core.List.{List, [], ◌∷◌, ◌++◌}
@@ -6,7 +7,6 @@ use mathlib.Core.Bool.{Bool, true, false, ◌&&◌}
 use native.Mathlib.Omega.{arith}
 use lib.Dec.{eqb}
 use lib.ListN.{length, get_or, drop}
-use Rattle.base.specs.Choose.{if◌then◌else◌}
 use Rattle.base.specs.Runs.{run, All}
 use Rattle.utf8.specs.Rfc3629.{Characters, octets}
 use Rattle.utf8.specs.Lead.{is_utf8}

@@ -1,4 +1,5 @@
 -- The structured data, stored.
+use Rattle.std.specs.Prelude.{if◌then◌else◌}
 use Prim.Native.Nat.{ℕ, ◌+◌, ◌-◌, ◌^◌, ◌≤◌, ◌<◌}
 use mathlib.Core.Path.{◌≡◌, refl, sym, ap, ◌∙◌}
 use mathlib.Core.Bool.{true, false, ◌&&◌}
@@ -12,7 +13,7 @@ use lib.Seq.{sets, length-sets, take_all}
 use mir.Syntax.{w64}
 use mir.Val.{Fits}
 use borrow.Author.Tests.{eqb-true, ne_eqb}
-use Rattle.base.specs.Choose.{if◌then◌else◌, is_at}
+use Rattle.base.specs.Choose.{is_at}
 use Rattle.base.proofs.Tests.{by_test}
 use Rattle.structured_data.specs.Element.{params_from}
 use Rattle.structured_data.specs.Data.{Rows, end_at, hyphen_at, data_from, rows_or}

@@ -1,4 +1,5 @@
 -- The walk over an element's parameters: one step of it, its ends, how far it goes, and what a `]` that it passes says of its end.
+use Rattle.std.specs.Prelude.{if◌then◌else◌}
 use Prim.Native.Nat.{ℕ, zero, suc, ◌+◌, ◌-◌, ◌≤◌, ◌<◌}
 use mathlib.Core.Path.{◌≡◌, refl, sym, ap, ◌∙◌}
 use mathlib.Core.Bool.{Bool, true, false}
@@ -8,7 +9,7 @@ use native.Mathlib.Omega.{arith}
 use lib.Dec.{eqb}
 use lib.ListN.{length, drop, length-drop}
 use lib.Seq.{drop-drop}
-use Rattle.base.specs.Choose.{if◌then◌else◌, is_at}
+use Rattle.base.specs.Choose.{is_at}
 use Rattle.base.proofs.Tests.{by_test, clash, by_if}
 use Rattle.base.proofs.Parts.{step, ended, at_below, at_cons}
 use Rattle.structured_data.specs.Param.{quoted_len, param_at}

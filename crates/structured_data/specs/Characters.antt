@@ -1,6 +1,5 @@
 -- Id, name and value by the characters of a text: what the walks by bytes are to equal where the text is UTF-8.
-use Rattle.std.specs.Prelude.{ℕ, ◌+◌, List, [], ◌∷◌, Bool, true, false, not, ◌&&◌, ◌||◌, length}
-use Rattle.base.specs.Choose.{if◌then◌else◌}
+use Rattle.std.specs.Prelude.{ℕ, ◌+◌, List, [], ◌∷◌, Bool, true, false, not, ◌&&◌, ◌||◌, length, if◌then◌else◌}
 use Rattle.utf8.specs.Characters.{is_char, char_run}
 use Rattle.white.specs.Characters.{white_char}
 

@@ -1,6 +1,6 @@
 -- structured_data.rs: one or more elements, or in RFC 5424 `-`; by the rules of RFC 5424 lines, or of RFC 3164 lines.
-use Rattle.std.specs.Prelude.{ℕ, zero, suc, ◌+◌, ◌-◌, List, [], ◌∷◌, ◌++◌, Bool, false, ◌&&◌, leb, eqb, length, drop}
-use Rattle.base.specs.Choose.{if◌then◌else◌, is_at}
+use Rattle.std.specs.Prelude.{ℕ, zero, suc, ◌+◌, ◌-◌, List, [], ◌∷◌, ◌++◌, Bool, false, ◌&&◌, leb, eqb, length, drop, if◌then◌else◌}
+use Rattle.base.specs.Choose.{is_at}
 use Rattle.base.specs.Runs.{run}
 use Rattle.parsers.specs.Steps.{is_inside}
 use Rattle.structured_data.specs.Element.{Element, element_from}

@@ -1,6 +1,6 @@
 -- structured_data.rs, an element: `[`, id (one or more characters up to white space, `]` or `=`), blanks, parameters separated by one space, `]`.
-use Rattle.std.specs.Prelude.{ℕ, zero, suc, ◌+◌, ◌-◌, List, [], ◌∷◌, not, ◌&&◌, ◌||◌, leb, eqb, drop}
-use Rattle.base.specs.Choose.{if◌then◌else◌, is_at}
+use Rattle.std.specs.Prelude.{ℕ, zero, suc, ◌+◌, ◌-◌, List, [], ◌∷◌, not, ◌&&◌, ◌||◌, leb, eqb, drop, if◌then◌else◌}
+use Rattle.base.specs.Choose.{is_at}
 use Rattle.base.specs.Runs.{run}
 use Rattle.white.specs.White.{white_len}
 use Rattle.parsers.specs.Steps.{is_blank}

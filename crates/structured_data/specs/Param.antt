@@ -1,6 +1,6 @@
 -- structured_data.rs, a parameter: a name (one or more characters up to `]` or `=`, so spaces count), `=`, blanks, and a quoted value.
-use Rattle.std.specs.Prelude.{ℕ, suc, ◌+◌, List, [], ◌∷◌, Bool, true, false, not, ◌&&◌, ◌||◌, leb, eqb, drop}
-use Rattle.base.specs.Choose.{if◌then◌else◌, is_at}
+use Rattle.std.specs.Prelude.{ℕ, suc, ◌+◌, List, [], ◌∷◌, Bool, true, false, not, ◌&&◌, ◌||◌, leb, eqb, drop, if◌then◌else◌}
+use Rattle.base.specs.Choose.{is_at}
 use Rattle.base.specs.Runs.{run}
 use Rattle.parsers.specs.Steps.{is_blank}
 use Rattle.structured_data.specs.declared.Param.{Param}

@@ -1,8 +1,7 @@
 // structured_data.rs: elements and their parameters, counted first and then stored into lent tables.
 #![tactic(auto)]
 
-ghost use Rattle.std.specs.Prelude.{◌≡◌, false, [], ◌∷◌, ◌+◌, ◌^◌, ◌≤◌, ◌<◌, leb, eqb, length, drop, set};
-ghost use Rattle.base.specs.Choose.{if◌then◌else◌};
+ghost use Rattle.std.specs.Prelude.{◌≡◌, false, [], ◌∷◌, ◌+◌, ◌^◌, ◌≤◌, ◌<◌, leb, eqb, length, drop, set, if◌then◌else◌};
 ghost use Rattle.base.specs.Runs.{run, eight};
 ghost use Rattle.record.specs.Params.{rows};
 ghost use Rattle.structured_data.specs.Param.{is_named, quoted_len, param_at};

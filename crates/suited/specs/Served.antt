@@ -1,6 +1,5 @@
 -- What a reader left suits its line, and printing and lookup never refuse it with 7: a statement to be read without its proof, which is in proofs/AfterReading.antt.
-use Rattle.std.specs.Prelude.{ℕ, ◌≡◌, List, true, ltb, eqb, length, take, ℤ}
-use Rattle.base.specs.Choose.{if◌then◌else◌}
+use Rattle.std.specs.Prelude.{ℕ, ◌≡◌, List, true, ltb, eqb, length, take, ℤ, if◌then◌else◌}
 use Rattle.record.specs.Answers.{output_answer_of}
 use Rattle.record.specs.declared.Record.{Record}
 use Rattle.record.specs.declared.Reading.TheVariants as loose

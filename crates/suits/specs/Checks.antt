@@ -1,6 +1,5 @@
 -- For private contracts alone: how far the check of the parameters is.
-use Rattle.std.specs.Prelude.{ℕ, Bool, true, false, ◌&&◌, List, leb, length, take}
-use Rattle.base.specs.Choose.{if◌then◌else◌}
+use Rattle.std.specs.Prelude.{ℕ, Bool, true, false, ◌&&◌, List, leb, length, take, if◌then◌else◌}
 use Rattle.record.specs.declared.Record.{Record}
 use Rattle.suits.specs.Suits.{record_suits, elements_suit}
 use Rattle.suits.specs.declared.Check.{Check}

@@ -1,11 +1,11 @@
 -- What a frame does to a tally, and the statements of specs/Frames.antt.
+use Rattle.std.specs.Prelude.{if◌then◌else◌}
 use Prim.Native.Nat.{ℕ, suc, ◌≤◌}
 use mathlib.Core.Path.{◌≡◌, refl, sym, ap, ◌∙◌}
 use mathlib.Core.Bool.{true, false}
 use mathlib.Core.List.{List, [], ◌∷◌}
 use native.Mathlib.Omega.{arith}
 use lib.ListN.{length}
-use Rattle.base.specs.Choose.{if◌then◌else◌}
 use Rattle.base.proofs.Tests.{by_test, clash}
 use Rattle.record.specs.declared.Level.{Level}
 use Rattle.record.specs.declared.Refusal.{Refusal}

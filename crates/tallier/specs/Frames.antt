@@ -1,6 +1,5 @@
 -- Which cell a frame raises. The statements are to be read without their proofs, which are in proofs/Counted.antt.
-use Rattle.std.specs.Prelude.{ℕ, suc, ◌≡◌, Bool, true, false, List, [], ◌∷◌, length}
-use Rattle.base.specs.Choose.{if◌then◌else◌}
+use Rattle.std.specs.Prelude.{ℕ, suc, ◌≡◌, Bool, true, false, List, [], ◌∷◌, length, if◌then◌else◌}
 use Rattle.record.specs.declared.StrictReading.{StrictReading}
 use Rattle.record.specs.declared.StrictReading.TheVariants.{Read, Refused}
 use Rattle.grammar.specs.Reading.{StrictReads}

@@ -1,6 +1,5 @@
 -- What the program writes of a tally: a line for each cell that is not zero, in the order of rows.
-use Rattle.std.specs.Prelude.{ℕ, zero, suc, List, [], ◌++◌, eqb}
-use Rattle.base.specs.Choose.{if◌then◌else◌}
+use Rattle.std.specs.Prelude.{ℕ, zero, suc, List, [], ◌++◌, eqb, if◌then◌else◌}
 use Rattle.frames.specs.Words.{count_text}
 use Rattle.tally.specs.Tally.{Tally, row_count, column_count, cell}
 

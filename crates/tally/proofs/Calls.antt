@@ -1,4 +1,5 @@
 -- What the functions answer, return by return.
+use Rattle.std.specs.Prelude.{if◌then◌else◌}
 use Prim.Native.Nat.{ℕ, suc, ◌+◌, ◌*◌, ◌≤◌, ◌<◌}
 use mathlib.Core.Path.{◌≡◌, refl, sym, ap, subst, ◌∙◌}
 use mathlib.Core.Bool.{Bool, true, false, ◌&&◌}
@@ -8,7 +9,6 @@ use native.Mathlib.Omega.{arith}
 use lib.Dec.{eqb, leb}
 use lib.ListN.{length, get_or, set}
 use borrow.Author.Tests.{lt-ltb, le-ltb, le-leb, lt-leb, eq-eqb, ne_eqb}
-use Rattle.base.specs.Choose.{if◌then◌else◌}
 use Rattle.record.specs.Refusals.{refusal_number}
 use Rattle.record.specs.declared.Level.{Level}
 use Rattle.record.specs.declared.Level.TheVariants.{Unset, Set}

@@ -1,6 +1,5 @@
 -- Additions one behind the other, from the empty tally: the statements, to be read without their proofs, which are in proofs/Sums.antt.
-use Rattle.std.specs.Prelude.{ℕ, suc, ◌≤◌, ◌<◌, ◌≡◌, ◌&&◌, [], eqb, length, get_or}
-use Rattle.base.specs.Choose.{if◌then◌else◌}
+use Rattle.std.specs.Prelude.{ℕ, suc, ◌≤◌, ◌<◌, ◌≡◌, ◌&&◌, [], eqb, length, get_or, if◌then◌else◌}
 use Rattle.record.specs.declared.Level.{Level}
 use Rattle.record.specs.declared.Level.TheVariants.{Unset, Set}
 use Rattle.record.specs.declared.Refusal.{Refusal}

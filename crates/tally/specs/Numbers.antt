@@ -1,6 +1,5 @@
 -- Levels, answers and a tally of any number of rows, as a C caller has them.
-use Rattle.std.specs.Prelude.{ℕ, suc, ◌≡◌, Bool, ◌&&◌, eqb, ltb, length}
-use Rattle.base.specs.Choose.{if◌then◌else◌}
+use Rattle.std.specs.Prelude.{ℕ, suc, ◌≡◌, Bool, ◌&&◌, eqb, ltb, length, if◌then◌else◌}
 use Rattle.record.specs.Refusals.{refusal_number}
 use Rattle.record.specs.declared.Level.TheVariants.{Set}
 use Rattle.record.specs.declared.Refusal.TheVariants.{OutputShort}

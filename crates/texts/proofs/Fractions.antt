@@ -1,4 +1,5 @@
 -- A fraction is printed as it was read.
+use Rattle.std.specs.Prelude.{if◌then◌else◌}
 use Prim.Native.Nat.{ℕ, zero, suc, ◌+◌, ◌-◌, ◌*◌, ◌/◌, ◌%◌, ◌^◌, ◌≤◌}
 use mathlib.Core.Path.{◌≡◌, refl, sym, ap, ◌∙◌}
 use mathlib.Core.Bool.{true, ◌&&◌}
@@ -10,7 +11,7 @@ use lib.ListN.{length, get_or, take, drop}
 use lib.IntN.{ℤ, pos}
 use lib.Seq.{take-suc, take-append_seam}
 use borrow.Author.Tests.{eqb-true}
-use Rattle.base.specs.Choose.{if◌then◌else◌, is_at}
+use Rattle.base.specs.Choose.{is_at}
 use Rattle.base.specs.Texts.{text_at}
 use Rattle.base.proofs.Parts.{step}
 use Rattle.base.proofs.Runs.{run_le, run_none, run_in}

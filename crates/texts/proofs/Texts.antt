@@ -1,4 +1,5 @@
 -- Whole characters, as specs/Texts.antt says it: what the loose reader leaves, and what lookup gives and printing writes of it.
+use Rattle.std.specs.Prelude.{if◌then◌else◌}
 use Prim.Native.Nat.{ℕ}
 use mathlib.Core.Path.{◌≡◌, refl}
 use mathlib.Core.List.{List, [], ◌∷◌}
@@ -7,7 +8,6 @@ use lib.Dec.{ltb, eqb}
 use lib.ListN.{length, get_or, take, drop}
 use lib.IntN.{ℤ}
 use lib.Seq.{take-append_seam}
-use Rattle.base.specs.Choose.{if◌then◌else◌}
 use Rattle.base.specs.Fills.{filled}
 use Rattle.base.specs.Texts.{text_at, same_text}
 use Rattle.base.proofs.Tests.{clash, by_if}

@@ -1,7 +1,7 @@
 -- A fraction is printed as it was read: the point and every digit, zeros at its end too. A statement to be read without its proof, which is in proofs/Fractions.antt.
-use Rattle.std.specs.Prelude.{ℕ, suc, ◌+◌, ◌≡◌, List, [], take, drop, ℤ}
+use Rattle.std.specs.Prelude.{ℕ, suc, ◌+◌, ◌≡◌, List, [], take, drop, ℤ, if◌then◌else◌}
 use Rattle.std.proofs.Math.Option.{some}
-use Rattle.base.specs.Choose.{if◌then◌else◌, is_at}
+use Rattle.base.specs.Choose.{is_at}
 use Rattle.base.specs.Texts.{text_at}
 use Rattle.white.specs.Trim.{trimmed}
 use Rattle.digits.specs.Digits.{digit_run}

@@ -1,6 +1,6 @@
 -- A month's name: three letters in any case.
-use Rattle.std.specs.Prelude.{ℕ, ◌+◌, List, [], ◌∷◌, map, eqb, take, drop}
-use Rattle.base.specs.Choose.{if◌then◌else◌, within}
+use Rattle.std.specs.Prelude.{ℕ, ◌+◌, List, [], ◌∷◌, map, eqb, take, drop, if◌then◌else◌}
+use Rattle.base.specs.Choose.{within}
 use Rattle.base.specs.Texts.{same_text}
 use Rattle.base.specs.Bytes.{bytes}
 use Rattle.parsers.specs.declared.Num.{Num}

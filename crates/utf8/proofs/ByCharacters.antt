@@ -1,4 +1,5 @@
 -- Walks over a text of characters: one by bytes that goes on over the later bytes of each character is the walk by characters, and ends at a cut.
+use Rattle.std.specs.Prelude.{if◌then◌else◌}
 use Prim.Native.Nat.{ℕ, suc, ◌+◌, ◌≤◌, ◌<◌}
 use mathlib.Core.Path.{◌≡◌, refl, ap, ◌∙◌}
 use mathlib.Core.List.{List, [], ◌∷◌, ◌++◌}
@@ -9,7 +10,7 @@ use lib.Dec.{leb, eqb}
 use lib.ListN.{length, get_or, drop, length-append, get_or-append}
 use lib.Seq.{drop-append-add}
 use borrow.Author.Tests.{ne_eqb, le-leb, leb-true}
-use Rattle.base.specs.Choose.{if◌then◌else◌, within, is_at}
+use Rattle.base.specs.Choose.{within, is_at}
 use Rattle.base.specs.Runs.{run, All}
 use Rattle.base.proofs.Tests.{by_if}
 use Rattle.base.proofs.Ranges.{orders}

@@ -1,4 +1,5 @@
 -- The character at the front of a text: how long it is, what it is, and where none begins.
+use Rattle.std.specs.Prelude.{if◌then◌else◌}
 use Prim.Native.Nat.{ℕ, zero, suc, ◌-◌, ◌≤◌, ◌<◌}
 use mathlib.Core.Path.{◌≡◌, refl, ap}
 use mathlib.Core.List.{List, [], ◌∷◌, ◌++◌}
@@ -7,7 +8,7 @@ use native.Mathlib.Omega.{arith}
 use lib.Dec.{leb, ltb, leb-zero}
 use lib.ListN.{length, get_or, take}
 use borrow.Author.Tests.{leb-true, le-leb, le-ltb}
-use Rattle.base.specs.Choose.{if◌then◌else◌, within}
+use Rattle.base.specs.Choose.{within}
 use Rattle.base.specs.Runs.{All}
 use Rattle.base.proofs.Tests.{both, by_test}
 use Rattle.base.proofs.Ranges.{inside, orders}

@@ -1,6 +1,5 @@
 -- Texts by their characters: what a walk by bytes is to equal where the text is UTF-8.
-use Rattle.std.specs.Prelude.{ℕ, ◌+◌, Bool, false, List, [], ◌∷◌, eqb, length}
-use Rattle.base.specs.Choose.{if◌then◌else◌}
+use Rattle.std.specs.Prelude.{ℕ, ◌+◌, Bool, false, List, [], ◌∷◌, eqb, length, if◌then◌else◌}
 
 -- the character is the one byte `b`, which is ASCII
 abbrev pub is_char : ℕ → List ℕ → Bool

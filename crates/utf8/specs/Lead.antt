@@ -1,6 +1,6 @@
 -- What a lead byte asks for (RULES Strict 16); from it the character at the front of a text, and a text byte by byte.
-use Rattle.std.specs.Prelude.{ℕ, zero, suc, ◌-◌, List, [], ◌∷◌, Bool, ◌&&◌, ◌||◌, leb, ltb, eqb, length, get_or}
-use Rattle.base.specs.Choose.{if◌then◌else◌, within}
+use Rattle.std.specs.Prelude.{ℕ, zero, suc, ◌-◌, List, [], ◌∷◌, Bool, ◌&&◌, ◌||◌, leb, ltb, eqb, length, get_or, if◌then◌else◌}
+use Rattle.base.specs.Choose.{within}
 use Rattle.utf8.specs.Rfc3629.{is_tail}
 use Rattle.utf8.specs.declared.Lead.{Lead}
 

@@ -1,4 +1,5 @@
 -- The readers of the structured data with R-5 and what they read; how far these and the message's reader reach.
+use Rattle.std.specs.Prelude.{if◌then◌else◌}
 use Prim.Native.Nat.{ℕ, zero, suc}
 use mathlib.Core.Path.{◌≡◌, refl, sym, ap, subst}
 use mathlib.Core.Bool.{true, false, not, ◌||◌}
@@ -8,7 +9,7 @@ use mathlib.Core.Logic.{◌⊎◌, inl, inr, ⊎_elim}
 use native.Mathlib.Omega.{arith}
 use lib.ListN.{drop}
 use lib.Dec.{eqb}
-use Rattle.base.specs.Choose.{if◌then◌else◌, is_at}
+use Rattle.base.specs.Choose.{is_at}
 use Rattle.base.specs.Texts.{same_text, is_in, Distinct}
 use Rattle.base.proofs.Texts.{different_sound, different_complete}
 use Rattle.base.specs.Runs.{run}

@@ -1,10 +1,10 @@
 -- Worked examples of `reach`, each beside what the reference that was written from the RFC answers.
+use Rattle.std.specs.Prelude.{if◌then◌else◌}
 use Prim.Native.Nat.{ℕ, zero, suc}
 use mathlib.Core.Path.{◌≡◌, refl, sym, subst}
 use mathlib.Core.Bool.{Bool, true, false}
 use mathlib.Core.List.{List, [], ◌∷◌, ◌++◌, map}
 use lib.ListN.{length, replicate}
-use Rattle.base.specs.Choose.{if◌then◌else◌}
 use Rattle.base.proofs.Tests.{clash}
 use Rattle.grammar.specs.Abnf.{sd_name_byte}
 use Rattle.grammar.specs.Line.{Division}

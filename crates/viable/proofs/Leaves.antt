@@ -1,4 +1,5 @@
 -- How far the readers of bytes reach.
+use Rattle.std.specs.Prelude.{if◌then◌else◌}
 use Prim.Native.Nat.{ℕ, zero, suc, ◌+◌, ◌-◌, ◌*◌, ◌≤◌, ◌<◌}
 use mathlib.Core.Path.{◌≡◌, refl, sym, ap, ap₂, ◌∙◌}
 use mathlib.Core.Bool.{Bool, true, false, not, ◌&&◌, ◌||◌}
@@ -8,7 +9,7 @@ use lib.ListN.{length, take, length-append, replicate, length-replicate}
 use lib.Seq.{take-append-le, length-take-le, get_or-take}
 use lib.Dec.{leb, eqb}
 use borrow.Author.Tests.{le-leb, lt-leb, leb-true, leb-false, eqb-true, eqb-false, lt-ltb}
-use Rattle.base.specs.Choose.{if◌then◌else◌, within, is_at}
+use Rattle.base.specs.Choose.{within, is_at}
 use Rattle.base.specs.Runs.{run, All}
 use Rattle.base.proofs.Tests.{clash, both, by_test}
 use Rattle.base.proofs.Ranges.{inside, above, below, orders}

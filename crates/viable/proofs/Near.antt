@@ -1,4 +1,5 @@
 -- While fewer than 91 * 91 ids are used, what code asks of an id is how far it reaches: `idFar` is `idNear`.
+use Rattle.std.specs.Prelude.{if◌then◌else◌}
 use Prim.Native.Nat.{ℕ, zero, suc, ◌+◌, ◌/◌, ◌%◌, ◌≤◌, ◌<◌}
 use mathlib.Core.Path.{◌≡◌, refl, sym, ap, ◌∙◌}
 use mathlib.Core.Bool.{Bool, true, not, ◌&&◌, ◌||◌}
@@ -8,7 +9,6 @@ use lib.ListN.{length, take, drop, length-append}
 use lib.Seq.{drop-append_seam, take-add, length-take-le}
 use lib.Dec.{leb, leb-suc-suc}
 use borrow.Author.Tests.{le-leb, lt-leb, leb-true, leb-false}
-use Rattle.base.specs.Choose.{if◌then◌else◌}
 use Rattle.base.specs.Texts.{same_text}
 use Rattle.base.specs.Runs.{run}
 use Rattle.base.proofs.Tests.{clash, both, by_test}

@@ -1,4 +1,5 @@
 -- How far readers reach: a law for each way to make a reader.
+use Rattle.std.specs.Prelude.{if◌then◌else◌}
 use Prim.Native.Nat.{ℕ, suc, ◌+◌, ◌≤◌, ◌<◌}
 use mathlib.Core.Path.{◌≡◌, refl, sym, ap, ap₂, ◌∙◌}
 use mathlib.Core.Bool.{Bool, true, false}
@@ -8,7 +9,7 @@ use lib.ListN.{length, take, drop, length-drop, get_or-append}
 use native.Mathlib.Numerals.{add-one}
 use lib.Seq.{take-nil, drop-drop, drop-append-le, take_at, take-add}
 use lib.Dec.{eqb}
-use Rattle.base.specs.Choose.{if◌then◌else◌, is_at}
+use Rattle.base.specs.Choose.{is_at}
 use Rattle.base.proofs.Tests.{by_test}
 use Rattle.base.proofs.Parts.{at_below, at_cons}
 use Rattle.grammar.specs.Parse.{Parsed, Reader, on_found, always, choose, behind, closed, ◌next◌, into}

@@ -1,7 +1,7 @@
 -- For private contracts alone: how far a reader of a text came that it does not read: the length of the longest beginning of the text that could still be gone on with.
 -- For each way to make a reader p there is one to make its `far`, which counts where p fails.
-use Rattle.std.specs.Prelude.{ℕ, zero, suc, ◌+◌, Bool, ◌&&◌, List, [], ◌∷◌, drop, eqb}
-use Rattle.base.specs.Choose.{if◌then◌else◌, is_at}
+use Rattle.std.specs.Prelude.{ℕ, zero, suc, ◌+◌, Bool, ◌&&◌, List, [], ◌∷◌, drop, eqb, if◌then◌else◌}
+use Rattle.base.specs.Choose.{is_at}
 use Rattle.grammar.specs.Parse.{Parsed, Reader, on_found, item_and}
 use Rattle.grammar.specs.Parse.Parsed.{failed, found}
 

@@ -1,6 +1,5 @@
 -- For private contracts alone: SD-IDs that are used once in a line (R-5): how far one reaches that has to differ from those before it.
-use Rattle.std.specs.Prelude.{ℕ, zero, suc, Bool, true, false, not, ◌&&◌, ◌||◌, List, [], ◌∷◌, ◌++◌, length, take, leb}
-use Rattle.base.specs.Choose.{if◌then◌else◌}
+use Rattle.std.specs.Prelude.{ℕ, zero, suc, Bool, true, false, not, ◌&&◌, ◌||◌, List, [], ◌∷◌, ◌++◌, length, take, leb, if◌then◌else◌}
 use Rattle.base.specs.Runs.{run}
 use Rattle.base.specs.Texts.{same_text}
 use Rattle.grammar.specs.Abnf.{sd_name_byte}

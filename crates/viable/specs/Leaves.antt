@@ -1,6 +1,6 @@
 -- For private contracts alone: how far the readers of bytes reach, where they fail.
-use Rattle.std.specs.Prelude.{ℕ, zero, suc, ◌+◌, ◌-◌, ◌*◌, Bool, false, ◌&&◌, ◌||◌, List, [], ◌∷◌, get_or, take, drop, leb, eqb}
-use Rattle.base.specs.Choose.{if◌then◌else◌, within, is_at}
+use Rattle.std.specs.Prelude.{ℕ, zero, suc, ◌+◌, ◌-◌, ◌*◌, Bool, false, ◌&&◌, ◌||◌, List, [], ◌∷◌, get_or, take, drop, leb, eqb, if◌then◌else◌}
+use Rattle.base.specs.Choose.{within, is_at}
 use Rattle.base.specs.Runs.{run}
 use Rattle.utf8.specs.Lead.{lead_of}
 use Rattle.digits.specs.Digits.{decimal}

@@ -1,4 +1,5 @@
 -- In a text of characters the walks by bytes meet the characters' own white ones, and no others.
+use Rattle.std.specs.Prelude.{if◌then◌else◌}
 use Prim.Native.Nat.{ℕ, suc, ◌+◌, ◌≤◌, ◌<◌}
 use mathlib.Core.Path.{◌≡◌, refl, sym, ap, ◌∙◌}
 use mathlib.Core.Bool.{Bool, true, false, not, ◌&&◌}
@@ -9,7 +10,6 @@ use lib.Dec.{eqb}
 use lib.ListN.{length, drop, length-append}
 use lib.Seq.{drop-append_seam, drop-append-add}
 use borrow.Author.Tests.{ne_eqb}
-use Rattle.base.specs.Choose.{if◌then◌else◌}
 use Rattle.base.proofs.Tests.{both, clash, by_if}
 use Rattle.utf8.specs.Rfc3629.{Utf8Char, Characters, octets}
 use Rattle.utf8.specs.Lead.{utf8_from, is_utf8}

@@ -1,4 +1,5 @@
 -- White characters by their bytes: which bytes begin one, and what the tests of one, two and three bytes answer.
+use Rattle.std.specs.Prelude.{if◌then◌else◌}
 use Prim.Native.Nat.{ℕ, zero, suc, ◌+◌, ◌*◌, ◌%◌, ◌≤◌, ◌<◌}
 use mathlib.Core.Path.{◌≡◌, refl, sym, ap, ◌∙◌}
 use mathlib.Core.Logic.{◌≢◌}
@@ -10,7 +11,7 @@ use lib.Dec.{eqb}
 use lib.ListN.{length, get_or, take, drop}
 use lib.Seq.{get_or-take, take-suc, length-take-le}
 use borrow.Author.Tests.{eq-eqb, ne_eqb, eqb-true, eqb-false}
-use Rattle.base.specs.Choose.{if◌then◌else◌, within}
+use Rattle.base.specs.Choose.{within}
 use Rattle.base.proofs.Parts.{step}
 use Rattle.base.proofs.Tests.{both, clash}
 use Rattle.base.proofs.Ranges.{inside, outside, orders}

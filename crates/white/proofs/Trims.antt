@@ -1,4 +1,5 @@
 -- The walk from the back, `text_end`, and where a trimmed text lies.
+use Rattle.std.specs.Prelude.{if◌then◌else◌}
 use Prim.Native.Nat.{ℕ, zero, suc, ◌+◌, ◌-◌, ◌≤◌, ◌<◌}
 use mathlib.Core.Path.{◌≡◌, refl, sym, ap, ◌∙◌}
 use mathlib.Core.Bool.{Bool, true, false}
@@ -9,7 +10,6 @@ use lib.Dec.{eqb}
 use lib.ListN.{length, get_or, take, drop, length-drop}
 use lib.Seq.{drop-drop, drop-length, take-suc, get_or-take, get_or-drop, length-take-le}
 use borrow.Author.Tests.{eq-eqb, ne_eqb, eqb-true, eqb-false, le-leb, lt-leb}
-use Rattle.base.specs.Choose.{if◌then◌else◌}
 use Rattle.base.proofs.Tests.{clash, by_if}
 use Rattle.base.proofs.Ranges.{orders}
 use Rattle.utf8.proofs.Chars.{later_tails}

@@ -1,4 +1,5 @@
 -- The white character at the front of a text: what `white_len` answers, how long it is, and what it is.
+use Rattle.std.specs.Prelude.{if◌then◌else◌}
 use Prim.Native.Nat.{ℕ, ◌+◌, ◌-◌, ◌≤◌, ◌<◌}
 use mathlib.Core.Path.{◌≡◌, refl, sym, ap, ◌∙◌}
 use mathlib.Core.Bool.{true}
@@ -7,7 +8,6 @@ use native.Mathlib.Decide.{ℕ_discrete}
 use native.Mathlib.Omega.{arith}
 use lib.ListN.{length, take, drop, length-append, length-drop, take-append-drop, get_or-append}
 use lib.Seq.{take_at, take-take, length-take-le}
-use Rattle.base.specs.Choose.{if◌then◌else◌}
 use Rattle.base.proofs.Parts.{rest, step}
 use Rattle.base.proofs.Tests.{by_if}
 use Rattle.utf8.specs.Rfc3629.{is_tail, Utf8Char, utf8_1, utf8_2, utf8_3_E0, utf8_3_E1, utf8_3_ED, utf8_3_EE, utf8_4_F0, utf8_4_F1, utf8_4_F4}

@@ -1,6 +1,5 @@
 -- For private contracts alone: the white character that ends at a place, which `text_end`, going from the back, asks for at each step.
-use Rattle.std.specs.Prelude.{ℕ, ◌-◌, List, Bool, ◌&&◌, leb, eqb, take, drop}
-use Rattle.base.specs.Choose.{if◌then◌else◌}
+use Rattle.std.specs.Prelude.{ℕ, ◌-◌, List, Bool, ◌&&◌, leb, eqb, take, drop, if◌then◌else◌}
 use Rattle.white.specs.White.{white_len}
 
 -- whether the `n` bytes before place `e` are a white character

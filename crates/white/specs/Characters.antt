@@ -1,6 +1,5 @@
 -- Fields and trimming, by the characters of a text: what the walks by bytes are to equal where the text is UTF-8.
-use Rattle.std.specs.Prelude.{ℕ, ◌+◌, List, [], ◌∷◌, Bool, true, not, ◌&&◌, length}
-use Rattle.base.specs.Choose.{if◌then◌else◌}
+use Rattle.std.specs.Prelude.{ℕ, ◌+◌, List, [], ◌∷◌, Bool, true, not, ◌&&◌, length, if◌then◌else◌}
 use Rattle.utf8.specs.Characters.{char_run}
 use Rattle.white.specs.White.{is_white, code_point}
 

@@ -1,6 +1,5 @@
 -- Fields and trimming, by bytes. (Characters.antt says the same by characters.)
-use Rattle.std.specs.Prelude.{ℕ, zero, suc, ◌-◌, List, [], ◌∷◌, eqb, length}
-use Rattle.base.specs.Choose.{if◌then◌else◌}
+use Rattle.std.specs.Prelude.{ℕ, zero, suc, ◌-◌, List, [], ◌∷◌, eqb, length, if◌then◌else◌}
 use Rattle.white.specs.White.{white_len}
 use Rattle.white.specs.declared.Ends.{Ends}
 

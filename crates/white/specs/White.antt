@@ -1,6 +1,6 @@
 -- Unicode's White_Space, and the white character at the front of a text.
-use Rattle.std.specs.Prelude.{ℕ, ◌+◌, ◌*◌, ◌%◌, List, [], ◌∷◌, Bool, ◌||◌, eqb, take}
-use Rattle.base.specs.Choose.{if◌then◌else◌, within}
+use Rattle.std.specs.Prelude.{ℕ, ◌+◌, ◌*◌, ◌%◌, List, [], ◌∷◌, Bool, ◌||◌, eqb, take, if◌then◌else◌}
+use Rattle.base.specs.Choose.{within}
 use Rattle.utf8.specs.Lead.{char_len}
 
 -- the property White_Space of a code point

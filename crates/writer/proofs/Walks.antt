@@ -1,4 +1,5 @@
 -- The two walks: what is measured, and what is written.
+use Rattle.std.specs.Prelude.{if◌then◌else◌}
 use Prim.Native.Nat.{ℕ, ◌+◌, ◌-◌, ◌≤◌, ◌<◌}
 use mathlib.Core.Path.{◌≡◌, refl, sym, ap, ◌∙◌, subst}
 use mathlib.Core.Bool.{Bool, true, false, not, ◌&&◌, and-false}
@@ -9,7 +10,6 @@ use lib.Dec.{leb}
 use lib.ListN.{length, get_or, take, drop, length-append}
 use lib.Seq.{length-take-le}
 use borrow.Author.Tests.{lt-ltb, le-ltb}
-use Rattle.base.specs.Choose.{if◌then◌else◌}
 use Rattle.base.specs.Texts.{all_different}
 use Rattle.base.proofs.Tests.{clash, both, by_test}
 use Rattle.record.specs.Limits.{line_limit}

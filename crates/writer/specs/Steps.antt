@@ -1,6 +1,5 @@
 -- For private contracts alone: how the walks begin and end, and what is answered.
-use Rattle.std.specs.Prelude.{ℕ, ◌+◌, ◌≤◌, ◌≡◌, Bool, true, false, not, ◌&&◌, List, ltb, leb, length, get_or, take}
-use Rattle.base.specs.Choose.{if◌then◌else◌}
+use Rattle.std.specs.Prelude.{ℕ, ◌+◌, ◌≤◌, ◌≡◌, Bool, true, false, not, ◌&&◌, List, ltb, leb, length, get_or, take, if◌then◌else◌}
 use Rattle.base.specs.Texts.{all_different}
 use Rattle.record.specs.Limits.{line_limit}
 use Rattle.record.specs.Params.{blank}

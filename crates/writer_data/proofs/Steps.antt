@@ -1,4 +1,5 @@
 -- A step of the walk: its texts, their lengths, and what its tests say at their returns.
+use Rattle.std.specs.Prelude.{if◌then◌else◌}
 use Prim.Native.Nat.{ℕ, ◌+◌, ◌-◌, ◌^◌, ◌≤◌, ◌<◌}
 use mathlib.Core.Path.{◌≡◌, refl, sym, ap, ◌∙◌}
 use mathlib.Core.Bool.{Bool, true, false, not}
@@ -10,7 +11,6 @@ use lib.ListN.{length, get_or, take, drop, length-append}
 use borrow.Author.Tests.{not-true, not-false, lt-ltb, le-ltb, ltb-true, eq-eqb, ne_eqb}
 use mir.Syntax.{w64}
 use mir.Val as val
-use Rattle.base.specs.Choose.{if◌then◌else◌}
 use Rattle.base.specs.Texts.{text_at}
 use Rattle.base.proofs.Tests.{both, by_test}
 use Rattle.record.specs.Limits.{line_limit}

@@ -1,6 +1,5 @@
 -- For private contracts alone: a step of the walk over the elements and their parameters. `ids` are the rows of the elements.
-use Rattle.std.specs.Prelude.{ℕ, ◌+◌, ◌≡◌, Bool, true, false, ◌&&◌, List, [], ◌∷◌, ◌++◌, ltb, eqb, length, get_or}
-use Rattle.base.specs.Choose.{if◌then◌else◌}
+use Rattle.std.specs.Prelude.{ℕ, ◌+◌, ◌≡◌, Bool, true, false, ◌&&◌, List, [], ◌∷◌, ◌++◌, ltb, eqb, length, get_or, if◌then◌else◌}
 use Rattle.base.specs.Texts.{text_at}
 use Rattle.record.specs.Params.{row_of}
 use Rattle.record.specs.declared.Param.{Param}

@@ -1,4 +1,5 @@
 -- What a line says, written again: the same texts, but for the form of the offset and needless backslashes.
+use Rattle.std.specs.Prelude.{if◌then◌else◌}
 use Prim.Native.Nat.{ℕ, zero, suc, ◌+◌, ◌-◌, ◌*◌, ◌/◌, ◌%◌, ◌^◌, ◌≤◌, ◌<◌}
 use mathlib.Core.Path.{◌≡◌, refl, sym, ap, ◌∙◌}
 use mathlib.Core.Bool.{Bool, false, ◌&&◌, and-true}
@@ -10,7 +11,7 @@ use lib.ListN.{length, get_or}
 use lib.Dec.{eqb}
 use lib.IntN.{ℤ, pos, negsuc, neg_ℤ, nat_abs}
 use borrow.Author.Tests.{lt-ltb, eqb-true}
-use Rattle.base.specs.Choose.{if◌then◌else◌, is_at}
+use Rattle.base.specs.Choose.{is_at}
 use Rattle.base.proofs.Tests.{clash, by_test}
 use Rattle.calendar.specs.Instant.{seconds_of, shown}
 use Rattle.calendar.proofs.ThereAndBack.{back}

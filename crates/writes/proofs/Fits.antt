@@ -1,4 +1,5 @@
 -- The tests of refusals 7 and 17 say what the rules say.
+use Rattle.std.specs.Prelude.{if◌then◌else◌}
 use Prim.Native.Nat.{ℕ, ◌-◌, ◌%◌, ◌^◌}
 use mathlib.Core.Path.{◌≡◌, refl, sym, ap, ◌∙◌}
 use mathlib.Core.Bool.{Bool, true, not, ◌&&◌}
@@ -10,7 +11,7 @@ use lib.IntN.{nat_abs}
 use lib.ListN.{length, drop}
 use lib.Seq.{take_all}
 use borrow.Author.Tests.{le-leb, leb-true, eqb-true, eq-eqb, not-true}
-use Rattle.base.specs.Choose.{if◌then◌else◌, within, is_at}
+use Rattle.base.specs.Choose.{within, is_at}
 use Rattle.base.specs.Runs.{run, All}
 use Rattle.base.proofs.Tests.{clash, both, by_test}
 use Rattle.base.proofs.Ranges.{inside, orders}

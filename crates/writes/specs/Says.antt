@@ -1,7 +1,7 @@
 -- The fields that a division of a line says.
-use Rattle.std.specs.Prelude.{ℕ, false, ◌&&◌, List, [], ◌∷◌, eqb, length}
+use Rattle.std.specs.Prelude.{ℕ, false, ◌&&◌, List, [], ◌∷◌, eqb, length, if◌then◌else◌}
 use Rattle.std.proofs.Math.Option.{Option, none, some}
-use Rattle.base.specs.Choose.{if◌then◌else◌, is_at}
+use Rattle.base.specs.Choose.{is_at}
 use Rattle.digits.specs.Digits.{decimal}
 use Rattle.lookup.specs.Unescape.{unescaped}
 use Rattle.grammar.specs.Line.{Param, Element, Division}

@@ -1,7 +1,6 @@
 -- The fields that a strict record and the rows of both tables tell of their line.
-use Rattle.std.specs.Prelude.{ℕ, ◌+◌, Bool, List, [], ◌∷◌, eqb, get_or, take}
+use Rattle.std.specs.Prelude.{ℕ, ◌+◌, Bool, List, [], ◌∷◌, eqb, get_or, take, if◌then◌else◌}
 use Rattle.std.proofs.Math.Option.{Option, none, some}
-use Rattle.base.specs.Choose.{if◌then◌else◌}
 use Rattle.base.specs.Texts.{text_at}
 use Rattle.record.specs.declared.Place.{Place}
 use Rattle.record.specs.declared.Span.{Span}

@@ -1,7 +1,6 @@
 -- The line that is written. Each field's text, laid out as the grammar lays out a division.
-use Rattle.std.specs.Prelude.{ℕ, suc, ◌+◌, ◌*◌, ◌/◌, ◌%◌, ◌≡◌, true, false, List, [], ◌∷◌, ℤ, pos, negsuc}
+use Rattle.std.specs.Prelude.{ℕ, suc, ◌+◌, ◌*◌, ◌/◌, ◌%◌, ◌≡◌, true, false, List, [], ◌∷◌, ℤ, pos, negsuc, if◌then◌else◌}
 use Rattle.std.proofs.Math.Option.{Option, none, some}
-use Rattle.base.specs.Choose.{if◌then◌else◌}
 use Rattle.digits.specs.Digits.{decimal}
 use Rattle.calendar.specs.Instant.{shown}
 use Rattle.record.specs.declared.Stamp.{Stamp}
