@@ -1,4 +1,6 @@
 // The services over a parameter table of their own. Rows go in and come out, so that the other functions see no table of structs.
+#![tactic(auto)]
+
 pub mod answers;
 
 ghost use Rattle.std.specs.Prelude.{◌≤◌};

@@ -2,7 +2,7 @@
 use Prim.Native.Nat.{ℕ, ◌+◌, ◌≤◌}
 use mathlib.Core.Path.{◌≡◌, refl, sym, ap, ap₂, ◌∙◌}
 use mathlib.Core.Bool.{true, false, ◌&&◌}
-use mathlib.Core.List.{List, [], ◌∷◌, ◌++◌}
+use mathlib.Core.List.{List, [], ◌∷◌}
 use mathlib.Core.Option.{Option, none, some}
 use native.Mathlib.Nat.{zero-add}
 use native.Mathlib.Omega.{arith}
@@ -22,10 +22,9 @@ use Rattle.suits.specs.Suits.{place_suits, record_suits, elements_suit, params_s
 use Rattle.strict_data.proofs.Filling.{elements_many, all_many}
 use Rattle.suited.proofs.Tests.{suits_filled}
 use Rattle.suited.proofs.Strict.{line_length, division_suits}
-use Rattle.claims.specs.Claims.{claim_of, pair_of, pairs, claim_in, claim_suits, Checks}
+use Rattle.claims.specs.Claims.{claim_of, pair_of, pairs, claim_suits, Checks}
 use Rattle.claims.specs.Claims.Checks.{told_yes}
 use Rattle.claims.specs.Laws.{FollowerIsTold, ReaderIsTold}
-use Rattle.claims.specs.declared.Checked.{Checked}
 use Rattle.claims.specs.declared.Checked.TheVariants.{Yes}
 use Rattle.claims.proofs.Laws.{one_answer}
 

@@ -1,5 +1,7 @@
 // The tally of standard input by the strict reader: each frame that is read raises the cell of its own facility and severity, and at the end each cell that is
 // not zero is written. Where the input breaks off or cannot be read, or a cell is full, that is said on standard error, and what was tallied is written.
+#![tactic(auto)]
+
 ghost use Rattle.std.specs.Prelude.{◌≡◌, ◌+◌, ◌≤◌, ◌<◌, length};
 ghost use Rattle.output.specs.Output.{Wrote};
 ghost use Rattle.frames.specs.Tasks.{to_read};

@@ -1,4 +1,6 @@
 // Reads one line of a gate's reader by the loose rules, at year 2023 and +60, and writes its instant and the line as it is printed.
+#![tactic(auto)]
+
 use program::{Process, Status, Takes};
 use record::{Reading, Record, Stamp, Written};
 use std::process::ExitCode;
