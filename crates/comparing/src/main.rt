@@ -1,4 +1,6 @@
 // Compares the lines of standard input, two by two.
+#![tactic(auto)]
+
 use program::Process;
 use std::process::ExitCode;
 

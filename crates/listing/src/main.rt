@@ -1,4 +1,6 @@
 // Lists standard input by the strict reader.
+#![tactic(auto)]
+
 use program::Process;
 use std::process::ExitCode;
 

@@ -1,4 +1,6 @@
 // The listing again, run with `--counted` on a stream of counted frames that a bad count ends.
+#![tactic(auto)]
+
 use program::Process;
 use std::process::ExitCode;
 

@@ -1,4 +1,6 @@
 // The listing again, run with `--crlf` on an input whose last line ends at LF.
+#![tactic(auto)]
+
 use program::Process;
 use std::process::ExitCode;
 

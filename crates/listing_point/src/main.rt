@@ -1,4 +1,6 @@
 // The listing again, run with `--point` on lines that break in each of their parts.
+#![tactic(auto)]
+
 use program::Process;
 use std::process::ExitCode;
 

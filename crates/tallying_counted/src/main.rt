@@ -1,4 +1,6 @@
 // The tally again, run with `--counted` on the stream of `listing_counted`, which a bad count ends.
+#![tactic(auto)]
+
 use program::Process;
 use std::process::ExitCode;
 

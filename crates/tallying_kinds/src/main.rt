@@ -1,4 +1,6 @@
 // The tally again, run with `--crlf` on lines of many facilities and severities.
+#![tactic(auto)]
+
 use program::Process;
 use std::process::ExitCode;
 
