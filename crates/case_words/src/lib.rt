@@ -1,4 +1,6 @@
 // A case in words: the call, and each thing that its answer has, a line each.
+#![tactic(auto)]
+
 use case_calls::answers::{Settings, printing, reading, strict_reading, up_to};
 use case_text::words::{say, say_number};
 use program::Process;

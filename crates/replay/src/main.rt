@@ -1,4 +1,6 @@
 // Replays a list of the Rust's answers: each line of standard input is a call and what it must answer. Writes what was compared, and each case that differs.
+#![tactic(auto)]
+
 ghost use Rattle.std.specs.Prelude.{◌≡◌, ◌≤◌, length};
 
 use case_text::words::say_number;
