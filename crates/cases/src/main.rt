@@ -1,5 +1,7 @@
 // Runs the cases of standard input and writes each answer in words. A case is a line: `R` for a loose reading with variant, year and
 // offset, `S` for a strict one; then, after one space, the line that is read.
+#![tactic(auto)]
+
 use case_text::words::say;
 use program::{Process, Status, Takes};
 use std::process::ExitCode;
