@@ -7,7 +7,6 @@ use Rattle.base.specs.Bytes.{bytes}
 use Rattle.record.specs.declared.Refusal.TheVariants.{LineTooLong, NoReading}
 use Rattle.output.specs.Numerals.{fixed, width_from}
 use Rattle.frames.specs.declared.Task.TheVariants.{More, Read, Refuse, Failed}
-use Rattle.differ.specs.declared.Differences.{Differences}
 use Rattle.compare.specs.declared.Compared.{Compared}
 use Rattle.compare.specs.declared.Compared.TheVariants.{Refused, Done}
 use Rattle.comparer.specs.Text.{shown_of, name_text, spaced, levels_text, places_text, ids_text, names_text, named_text, quoted_text, pair_text, elements_text, fields_text, refused_text, done_text, answer_text, line_text}

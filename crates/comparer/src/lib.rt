@@ -1,5 +1,7 @@
 // The comparison of standard input: the settings record of a gate, and behind it lines, two by two; a line is written for each pair. Where the record is
 // refused, reading or writing fails, or a line is left without a second, that is said on standard error.
+#![tactic(auto)]
+
 ghost use Rattle.std.specs.Prelude.{◌≡◌, ◌+◌, ◌≤◌, ◌<◌, length};
 ghost use Rattle.output.specs.Output.{Wrote};
 ghost use Rattle.base.specs.Texts.{text_at};

@@ -1,0 +1,15 @@
+use Rattle.std.proofs.Common.{rules}
+use Rattle.comparer.proofs.Texts.{answer_laws}
+use Rattle.comparer.proofs.put_line.Goals as goal
+
+pub returns-clause-wrote : goal.returns-clause-wrote
+returns-clause-wrote c = search (answer_laws, rules)
+
+pub returns-clause-lower_bound : goal.returns-clause-lower_bound
+returns-clause-lower_bound c = search (answer_laws, rules)
+
+pub returns-clause-upper_bound : goal.returns-clause-upper_bound
+returns-clause-upper_bound c = search (answer_laws, rules)
+
+pub returns-clause-out_len_unchanged : goal.returns-clause-out_len_unchanged
+returns-clause-out_len_unchanged c = search (answer_laws, rules)
