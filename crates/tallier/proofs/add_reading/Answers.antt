@@ -2,9 +2,6 @@ use Rattle.std.proofs.Common.{rules}
 use Rattle.tallier.proofs.Counted.{reading_laws}
 use Rattle.tallier.proofs.add_reading.Goals as goal
 
-pub enum_known-reading : goal.enum_known-reading
-enum_known-reading c = search (reading_laws, rules)
-
 pub add-requires : goal.add-requires
 add-requires c = search (reading_laws, rules)
 
@@ -13,9 +10,6 @@ told_of-requires c = search (reading_laws, rules)
 
 pub returns-in-Read : goal.returns-in-Read
 returns-in-Read c = search (reading_laws, rules)
-
-pub enum_told-1 : goal.enum_told-1
-enum_told-1 c = search (reading_laws, rules)
 
 pub returns-in-Refused : goal.returns-in-Refused
 returns-in-Refused c = search (reading_laws, rules)
