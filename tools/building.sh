@@ -81,8 +81,8 @@ place_to_write() { # CRATE FILE
 
 # Builds by 'rt WORDS' in the folder of CRATE what then stands at FILE below the folder `place`. Where that is there already, nothing is run or said.
 build() { # CRATE FILE WORDS..
-    [ "$(uname -m)" = x86_64 ] || die "the Rattle toolchain, which proves and builds, runs on x86-64 alone, and this machine is another: what was built on x86-64 \
-runs here under Debian's emulator, as installed by './install --prefix DIR --no-build', and by 'host/on-arm'"
+    [ "$(uname -m)" = x86_64 ] || die "this machine is no x86-64, on which alone the Rattle toolchain runs. What an x86-64 machine built runs here under Debian's \
+emulator: './install --prefix DIR --no-build' installs it, and KHAMDORIEM_ARCHIVE (or --archive of harness/run and bench/run) names its archive"
     command -v rt >/dev/null 2>&1 || die "no 'rt' on the PATH: the Rattle toolchain is needed to prove and build"
     crate=$1 file=$2
     shift 2
