@@ -304,8 +304,11 @@ pub fn complain(process: &Process, name: &[u8], what: &[u8]) {
     tell(process, b"\n");
 }
 
-// A line on standard error: the program's name, what failed, and why.
+// A line on standard error: the program's name, what failed, and why. A reader that went away is no failure to tell of: the exit status does.
 pub fn fail(process: &Process, name: &[u8], what: &[u8], why: io::Error) {
+    if why.kind() == io::ErrorKind::BrokenPipe {
+        return;
+    }
     tell(process, name);
     tell(process, b": ");
     tell(process, what);
