@@ -14,13 +14,14 @@ use std::io;
 use std::io::Read;
 use std::process::ExitCode;
 
-// The process that a program runs in, with its arguments and its standard streams: why standard input could not be read, if it could not, and whether some of
-// what was written to standard output is lost.
+// The process that a program runs in, with its arguments and its standard streams: why standard input could not be read, if it could not, whether some of what
+// was written to standard output is lost, and whether that is so because its reader has gone away: then nothing more is told, as that is no failure.
 #[derive(Clone, Copy)]
 pub struct Process {
     rt: HostRuntime,
     unread: Option<io::Error>,
     lost: bool,
+    gone: bool,
 }
 
 // How a program ends: all is done; reading or writing failed, a stream was cut or an answer differed; its arguments are not known or do not go together.
@@ -204,6 +205,7 @@ impl Process {
             rt,
             unread: None,
             lost: false,
+            gone: false,
         }
     }
 }
@@ -269,9 +271,8 @@ pub fn say(process: &mut Process, text: &[u8]) -> bool
     if process.lost {
         return false;
     }
-    let ok = process.rt.write_all(text).is_ok();
-    process.lost = !ok;
-    ok
+    let written = process.rt.write_all(text);
+    noted(process, written)
 }
 
 // Writes a number, likewise.
@@ -281,18 +282,40 @@ pub fn say_decimal(process: &mut Process, n: u64) -> bool
     if process.lost {
         return false;
     }
-    let ok = process.rt.print(n).is_ok();
-    process.lost = !ok;
-    ok
+    let written = process.rt.print(n);
+    noted(process, written)
+}
+
+// Notes how writing to standard output went.
+fn noted(process: &mut Process, written: io::Result<()>) -> bool
+    ensures { process.new.lost ≡ not result }
+{
+    match written {
+        Ok(()) => {
+            process.lost = false;
+            true
+        }
+        Err(why) => {
+            process.lost = true;
+            process.gone = why.kind() == io::ErrorKind::BrokenPipe;
+            false
+        }
+    }
 }
 
 // Writes a text to standard error. Where that fails there is no one to tell.
 pub fn tell(process: &Process, text: &[u8]) {
+    if process.gone {
+        return;
+    }
     let _ = process.rt.stderr().write_all(text);
 }
 
 // Writes a number, likewise.
 pub fn tell_decimal(process: &Process, n: u64) {
+    if process.gone {
+        return;
+    }
     let _ = process.rt.stderr().print(n);
 }
 
@@ -304,7 +327,7 @@ pub fn complain(process: &Process, name: &[u8], what: &[u8]) {
     tell(process, b"\n");
 }
 
-// A line on standard error: the program's name, what failed, and why. A reader that went away is no failure to tell of: the exit status does.
+// A line on standard error: the program's name, what failed, and why. That the reader has gone away is no failure to tell of.
 pub fn fail(process: &Process, name: &[u8], what: &[u8], why: io::Error) {
     if why.kind() == io::ErrorKind::BrokenPipe {
         return;
