@@ -31,7 +31,7 @@ use Rattle.suits.proofs.Suited as suited
 use Rattle.layout.proofs.Back.{LevelIn, StampIn, InTypes}
 use Rattle.suited.specs.Served.{Left}
 use Rattle.suited.proofs.AfterReading.{left_short, left_suits}
-use Rattle.boundary.proofs.Outcomes.{left_sized}
+use Rattle.boundary.proofs.Sizes.{left_sized}
 
 level_in_lem : (most : ℕ) (l : Level) → most ≤ 255 → level_suits most l ≡ true → LevelIn l
 level_in_lem most Unset m h = tt
