@@ -2,7 +2,7 @@
 #![tactic(auto)]
 
 ghost use Rattle.std.specs.Prelude.{◌≡◌};
-ghost use Rattle.pri.specs.Pri.{facility_of, severity_of, no_pri, pri_at};
+ghost use Rattle.pri.specs.Pri.{facility_of, severity_of, pri_at};
 
 use digits::Number;
 use record::Level;
@@ -15,24 +15,19 @@ pub struct Pri {
     pub severity: Level,
 }
 
-fn no_pri() -> Pri
-    ensures { result ≡ no_pri }
-{
-    Pri {
-        next: 0,
-        facility: Level::Unset,
-        severity: Level::Unset,
-    }
-}
+const NO_PRI: Pri = Pri {
+    next: 0,
+    facility: Level::Unset,
+    severity: Level::Unset,
+};
 
 fn facility_of(value: u32) -> Level
     ensures { result ≡ facility_of value }
 {
-    let facility = value / 8;
-    if 23 < facility {
-        return Level::Unset;
+    match value / 8 {
+        facility @ 0..=23 => Level::Set(facility as u8),
+        _ => Level::Unset,
     }
-    Level::Set(facility as u8)
 }
 
 fn severity_of(value: u32) -> Level
@@ -42,21 +37,19 @@ fn severity_of(value: u32) -> Level
 }
 
 // `<`, digits of a value up to 255, `>`.
+#[tactic(auto, unfolding(crate::specs::Pri::pri_at))]
 pub fn read_pri(s: &[u8]) -> Pri
     ensures { result ≡ pri_at s.now }
 {
     if !base::is_at(s, 0, b'<') {
-        return no_pri();
+        return NO_PRI;
     }
-    let Number::Value { value, len } = digits::digits(base::past(s, 1), 255) else {
-        return no_pri();
-    };
-    if !base::is_at(s, len + 1, b'>') {
-        return no_pri();
-    }
-    Pri {
-        next: len + 2,
-        facility: facility_of(value),
-        severity: severity_of(value),
+    match digits::digits(base::past(s, 1), 255) {
+        Number::Value { value, len } if base::is_at(s, len + 1, b'>') => Pri {
+            next: len + 2,
+            facility: facility_of(value),
+            severity: severity_of(value),
+        },
+        _ => NO_PRI,
     }
 }
