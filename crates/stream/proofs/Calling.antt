@@ -22,7 +22,6 @@ use Rattle.record.specs.Limits.{line_limit}
 use Rattle.record.specs.declared.Refusal.TheVariants.{BadSetting, OutputShort, BadCount, FrameTooLong}
 use Rattle.stream.specs.declared.State.{State}
 use Rattle.stream.specs.declared.State.TheVariants.{Count, Content, Line, Ended}
-use Rattle.stream.specs.declared.Started.TheVariants as started
 use Rattle.stream.specs.declared.Event.TheVariants.{More, Frame, Refused}
 use Rattle.stream.specs.declared.Fed.{Fed}
 use Rattle.stream.specs.declared.Digits.{Digits}

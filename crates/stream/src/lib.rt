@@ -25,13 +25,6 @@ pub enum State {
     Ended,
 }
 
-// The state at the start of a stream, or why there is none.
-#[derive(Clone, Copy)]
-pub enum Started {
-    Ready(State),
-    Refused(Refusal),
-}
-
 // What a call tells: nothing; a frame, which lies at the buffer's front, and its length; or a refusal.
 #[derive(Clone, Copy)]
 pub enum Event {
@@ -85,13 +78,13 @@ pub struct FinishAnswer {
 
 // The state at the start of a stream, and at its restart. Kind 0 is counted, 1 lines.
 #[tactic(auto, unfolding(crate::specs::Machine::start_of))]
-pub fn start(kind: u32) -> Started
+pub fn start(kind: u32) -> Result<State, Refusal>
     ensures { result ≡ start_of kind }
 {
     match kind {
-        0 => Started::Ready(State::Count(0)),
-        1 => Started::Ready(State::Line(0)),
-        _ => Started::Refused(Refusal::BadSetting),
+        0 => Ok(State::Count(0)),
+        1 => Ok(State::Line(0)),
+        _ => Err(Refusal::BadSetting),
     }
 }
 
@@ -369,15 +362,15 @@ impl From<State> for StreamState {
 }
 
 // The state that the numbers are.
-fn state_of(x: StreamState) -> Started
+fn state_of(x: StreamState) -> Result<State, Refusal>
     ensures { result ≡ state_of x }
 {
     match x.stage {
-        1 => Started::Ready(State::Count(x.left)),
-        2 => Started::Ready(State::Content(x.left, x.came)),
-        3 => Started::Ready(State::Line(x.came)),
-        4 => Started::Ready(State::Ended),
-        _ => Started::Refused(Refusal::BadSetting),
+        1 => Ok(State::Count(x.left)),
+        2 => Ok(State::Content(x.left, x.came)),
+        3 => Ok(State::Line(x.came)),
+        4 => Ok(State::Ended),
+        _ => Err(Refusal::BadSetting),
     }
 }
 
@@ -386,11 +379,11 @@ pub fn start_numbers(kind: u32) -> StartAnswer
     ensures { result ≡ start_answer_of (start_of kind) }
 {
     match start(kind) {
-        Started::Ready(s) => StartAnswer {
+        Ok(s) => StartAnswer {
             number: 0,
             state: StreamState::from(s),
         },
-        Started::Refused(f) => StartAnswer {
+        Err(f) => StartAnswer {
             number: record::refusal_number(f),
             state: StreamState {
                 stage: 0,
@@ -424,11 +417,11 @@ pub fn feed_numbers(x: StreamState, bytes: &[u8], buffer: &mut [u8]) -> FeedAnsw
     ensures { Splits x bytes.now buffer.old result buffer.new }
 {
     match state_of(x) {
-        Started::Refused(f) => told(0, x, Event::Refused(f)),
-        Started::Ready(_) if buffer.len() < record::LINE_LIMIT => {
+        Err(f) => told(0, x, Event::Refused(f)),
+        Ok(_) if buffer.len() < record::LINE_LIMIT => {
             told(0, x, Event::Refused(Refusal::OutputShort))
         }
-        Started::Ready(s) => {
+        Ok(s) => {
             let r = feed(s, bytes, buffer);
             told(r.taken, StreamState::from(r.state), r.event)
         }
@@ -440,11 +433,11 @@ pub fn finish_numbers(x: StreamState) -> FinishAnswer
     ensures { result ≡ finish_answer_of (state_of x) }
 {
     match state_of(x) {
-        Started::Ready(s) => FinishAnswer {
+        Ok(s) => FinishAnswer {
             number: 0,
             unfinished: finish(s),
         },
-        Started::Refused(f) => FinishAnswer {
+        Err(f) => FinishAnswer {
             number: record::refusal_number(f),
             unfinished: 0,
         },
