@@ -1,28 +1,25 @@
 -- What the functions answer, by the walks.
-use Prim.Native.Nat.{ℕ, zero, suc, ◌+◌, ◌-◌, ◌*◌, min, ◌≤◌, ◌<◌}
+use Prim.Native.Nat.{ℕ, zero, suc, ◌+◌, ◌-◌, min, ◌≤◌, ◌<◌}
 use mathlib.Core.Path.{◌≡◌, refl, sym, ap, ◌∙◌}
 use mathlib.Core.List.{List, [], ◌∷◌}
-use mathlib.Core.Bool.{Bool, true, false, not, ◌&&◌}
+use mathlib.Core.Bool.{Bool, true, false, not}
 use native.Mathlib.Omega.{arith}
-use lib.Dec.{leb, ltb, eqb}
+use lib.Dec.{leb}
 use lib.ListN.{length, get_or, take, drop, take-append-drop, length-drop}
 use lib.Seq.{length-take-le}
-use borrow.Author.Tests.{le-leb, lt-leb, eq-eqb, ne_eqb, not-true, not-false, leb-true, leb-false, ltb-true, ltb-false}
-use mir.Syntax.{w32, w64}
-use mir.Val.{Fits}
+use borrow.Author.Tests.{leb-true, leb-false}
 use Rattle.std.specs.List.{prefix_len, IsFirstAndRest}
 use Rattle.std.proofs.lemmas.Grind.{common_steps}
-use Rattle.base.specs.Choose.{within}
 use Rattle.base.specs.Runs.{run, eight}
 use Rattle.base.specs.Fills.{filled}
-use Rattle.base.proofs.Tests.{by_test, by_if, both}
+use Rattle.base.proofs.Tests.{by_if}
 use Rattle.base.proofs.Parts.{step, ended}
-use Rattle.base.proofs.Runs.{run_le, run_all, run_after, Runs, runs_start, runs_out, runs_yes, runs_no, eight_on}
+use Rattle.base.proofs.Runs.{run_le, run_all, run_after, Runs, runs_yes, eight_on}
 use Rattle.record.specs.Limits.{line_limit}
-use Rattle.record.specs.declared.Refusal.TheVariants.{BadSetting, OutputShort, BadCount, FrameTooLong}
+use Rattle.record.specs.declared.Refusal.TheVariants.{OutputShort, BadCount}
 use Rattle.stream.specs.declared.State.{State}
 use Rattle.stream.specs.declared.State.TheVariants.{Count, Content, Line, Ended}
-use Rattle.stream.specs.declared.Event.TheVariants.{More, Frame, Refused}
+use Rattle.stream.specs.declared.Event.TheVariants.{More, Refused}
 use Rattle.stream.specs.declared.Fed.{Fed}
 use Rattle.stream.specs.declared.Digits.{Digits}
 use Rattle.stream.specs.Machine as M
@@ -50,27 +47,8 @@ unfolding run
 run_prefix p [] = refl
 run_prefix p (b ∷ s) = by_if (λ n. n ≡ prefix_len p (b ∷ s)) (p b) (suc (run p s)) 0 (λ e. rw e (omega (arith, run_prefix p s))) (λ e. rw e)
 
-module _ (s : List ℕ) (i : ℕ) where
-  pub front_at : i ≤ length s → run not_lf s ≡ i + run not_lf (drop i s) → Runs not_lf s (run not_lf s) i
-  front_at l e = record { within_s = l; ends = e }
-
-  module _ (w : Runs not_lf s (run not_lf s) i) where
-    pub front_inside : i ≤ length s
-    front_inside = w.within_s
-
-    pub front_rest : run not_lf s ≡ i + run not_lf (drop i s)
-    front_rest = w.ends
-
-    pub front_lf : i < length s → get_or s i 0 ≡ 10 → i ≡ run not_lf s
-    front_lf h e = runs_no not_lf s (run not_lf s) i w h (rw (eq-eqb (get_or s i 0) 10 e))
-
-    pub front_on : i < length s → (get_or s i 0 ≡ 10 → ⊥) → Runs not_lf s (run not_lf s) (i + 1)
-    front_on h e = runs_yes not_lf s (run not_lf s) i w h (rw (ne_eqb (get_or s i 0) 10 e))
-
-    pub front_eight : i + 8 ≤ length s → (b : Bool) → b ≡ eight not_lf s i → not b ≡ false → Runs not_lf s (run not_lf s) (i + 8)
-    front_eight l = eight_on not_lf s (Runs not_lf s (run not_lf s)) (λ j h v. runs_yes not_lf s (run not_lf s) j v h) i l w
-
-pub ruleset front_laws = (runs_start, runs_out, front_at, front_inside, front_rest, front_lf, front_on)
+pub front_eight : (s : List ℕ) (i : ℕ) → Runs not_lf s (run not_lf s) i → i + 8 ≤ length s → (b : Bool) → b ≡ eight not_lf s i → not b ≡ false → Runs not_lf s (run not_lf s) (i + 8)
+front_eight s i w l = eight_on not_lf s (Runs not_lf s (run not_lf s)) (λ j h v. runs_yes not_lf s (run not_lf s) j v h) i l w
 
 module _ (n : ℕ) (bytes old : List ℕ) (room : line_limit ≤ length old) (k : ℕ) (ek : k ≡ run not_lf bytes) (m : ℕ) (new : List ℕ) (g : Grew n (take k bytes) old m new) where
   k_le : k ≤ length bytes
@@ -207,8 +185,6 @@ module _ (v : ℕ) (bytes old : List ℕ) (d : Digits) (w : Counted v bytes d) (
             answers = rw (on_space q, f.answers);
             holds = rw (on_space q) f.holds;
           }
-
-pub ruleset count_laws = (count_more, count_refused, count_fits, count_content)
 
 -- after a bad count
 pub ended_none : (bytes : List ℕ) → length bytes ≡ 0 → record { state = Ended; taken = 0; event = More } ≡ answer_of (up_to Ended [] bytes)

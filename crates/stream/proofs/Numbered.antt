@@ -6,10 +6,8 @@ use mathlib.Core.List.{List, ◌∷◌, ◌++◌}
 use native.Mathlib.Omega.{arith}
 use lib.Dec.{eqb}
 use lib.ListN.{length, drop}
-use borrow.Author.Tests.{ne_eqb}
 use Rattle.base.proofs.Tests.{by_if}
 use Rattle.record.specs.Limits.{line_limit}
-use Rattle.record.specs.Refusals.{refusal_number}
 use Rattle.record.specs.declared.Refusal.{Refusal}
 use Rattle.record.specs.declared.Refusal.TheVariants.{BadSetting, OutputShort}
 use Rattle.stream.specs.declared.State.{State}
@@ -19,7 +17,7 @@ use Rattle.stream.specs.declared.Event.TheVariants.{More, Frame, Refused}
 use Rattle.stream.specs.declared.Fed.{Fed}
 use Rattle.stream.specs.declared.StreamState.{StreamState}
 use Rattle.stream.specs.declared.FeedAnswer.{FeedAnswer}
-use Rattle.stream.specs.Machine.{Says, unfinished}
+use Rattle.stream.specs.Machine.{Says}
 use Rattle.stream.specs.Feeds.{Served, short, fed}
 use Rattle.stream.specs.Numbers as N
 use Rattle.stream.specs.Numbers.{numbers_of, state_of, start_answer_of, feed_answer, feed_answer_of, Splits, no_state, splits, OneAnswer, finish_answer_of}
@@ -41,21 +39,6 @@ numbers_back (Count v) = refl
 numbers_back (Content left n) = refl
 numbers_back (Line n) = refl
 numbers_back Ended = refl
-
-module _ (s : State) where
-  pub numbers_count : (v : ℕ) → s ≡ Count v → record { stage = 1; left = v; came = 0 } ≡ numbers_of s
-  numbers_count v e = rw e
-
-  pub numbers_content : (left n : ℕ) → s ≡ Content left n → record { stage = 2; left = left; came = n } ≡ numbers_of s
-  numbers_content left n e = rw e
-
-  pub numbers_line : (n : ℕ) → s ≡ Line n → record { stage = 3; left = 0; came = n } ≡ numbers_of s
-  numbers_line n e = rw e
-
-  pub numbers_ended : s ≡ Ended → record { stage = 4; left = 0; came = 0 } ≡ numbers_of s
-  numbers_ended e = rw e
-
-pub ruleset numbers_laws = (numbers_count, numbers_content, numbers_line, numbers_ended)
 
 -- numbers that are no state are refused with 2
 pub no_other : (x : StreamState) (f : Refusal) → state_of x ≡ Err f → f ≡ BadSetting

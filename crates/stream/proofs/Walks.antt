@@ -131,5 +131,3 @@ module _ (v : ℕ) (bytes : List ℕ) (value i : ℕ) (w : Counting v bytes valu
           inside = omega arith;
           same = w.same ∙ ap (later i) (ap (up_to (Count value) []) (step bytes i h) ∙ count_step value [] (get_or bytes i 0) (drop (i + 1) bytes) d.0 ∙ rw d.1) ∙ later_later i 1 _;
         }
-
-pub ruleset counting_laws = (counting_start, counting_end, counting_off, counting_on)

@@ -361,16 +361,19 @@ impl From<State> for StreamState {
     }
 }
 
-// The state that the numbers are.
-fn state_of(x: StreamState) -> Result<State, Refusal>
-    ensures { result ≡ state_of x }
-{
-    match x.stage {
-        1 => Ok(State::Count(x.left)),
-        2 => Ok(State::Content(x.left, x.came)),
-        3 => Ok(State::Line(x.came)),
-        4 => Ok(State::Ended),
-        _ => Err(Refusal::BadSetting),
+impl TryFrom<StreamState> for State {
+    type Error = Refusal;
+
+    ghost try_from_gives = { λ x r. r ≡ state_of x };
+
+    fn try_from(x: StreamState) -> Result<State, Refusal> {
+        Ok(match x.stage {
+            1 => State::Count(x.left),
+            2 => State::Content(x.left, x.came),
+            3 => State::Line(x.came),
+            4 => State::Ended,
+            _ => return Err(Refusal::BadSetting),
+        })
     }
 }
 
@@ -416,7 +419,7 @@ fn told(taken: usize, state: StreamState, event: Event) -> FeedAnswer
 pub fn feed_numbers(x: StreamState, bytes: &[u8], buffer: &mut [u8]) -> FeedAnswer
     ensures { Splits x bytes.now buffer.old result buffer.new }
 {
-    match state_of(x) {
+    match State::try_from(x) {
         Err(f) => told(0, x, Event::Refused(f)),
         Ok(_) if buffer.len() < record::LINE_LIMIT => {
             told(0, x, Event::Refused(Refusal::OutputShort))
@@ -432,7 +435,7 @@ pub fn feed_numbers(x: StreamState, bytes: &[u8], buffer: &mut [u8]) -> FeedAnsw
 pub fn finish_numbers(x: StreamState) -> FinishAnswer
     ensures { result ≡ finish_answer_of (state_of x) }
 {
-    match state_of(x) {
+    match State::try_from(x) {
         Ok(s) => FinishAnswer {
             number: 0,
             unfinished: finish(s),
