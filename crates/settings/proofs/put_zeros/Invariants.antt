@@ -1,4 +1,4 @@
-use Rattle.std.proofs.Common.{◌+◌, ◌-◌, ◌≤◌}
+use Rattle.std.proofs.Common.{◌+◌, ◌-◌}
 use Rattle.output.proofs.Writes.{Owes}
 use Rattle.settings.proofs.Writing.{zeros}
 use Rattle.settings.proofs.put_zeros.Given as goal
