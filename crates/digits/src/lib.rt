@@ -33,10 +33,8 @@ fn written(value: u32, len: usize) -> Option<(u32, usize)>
 pub fn digits(s: &[u8], max: u32) -> Option<(u32, usize)>
     ensures { result ≡ number_at max s.now }
 {
-    let mut i = 0;
     let mut value: u32 = 0;
-    while i < s.len() {
-        let b = s[i];
+    for (i, &b) in s.iter().enumerate() {
         if !is_digit(b) {
             return written(value, i);
         }
@@ -45,9 +43,8 @@ pub fn digits(s: &[u8], max: u32) -> Option<(u32, usize)>
             return None;
         }
         value = wide as u32;
-        i += 1;
     }
-    written(value, i)
+    written(value, s.len())
 }
 
 // The first two bytes of `s`, which are digits. What stands after them does not matter.

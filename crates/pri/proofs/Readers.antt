@@ -3,19 +3,14 @@ use Rattle.std.specs.Prelude.{if◌then◌else◌, Option, Some, None}
 use Prim.Native.Nat.{ℕ, ◌+◌, ◌^◌, ◌≤◌, ◌<◌}
 use mathlib.Core.Path.{◌≡◌, sym, ap, ◌∙◌}
 use mathlib.Core.List.{List}
-use mathlib.Core.Bool.{Bool, true, false, not}
 use native.Mathlib.Omega.{arith}
-use lib.ListN.{length, drop, length-drop}
-use borrow.Author.Tests.{not-true, not-false}
-use mir.Syntax.{w64}
-use mir.Val.{Fits}
+use lib.ListN.{length, drop}
 use Rattle.base.specs.Choose.{is_at}
 use Rattle.base.proofs.Tests.{by_test}
 use Rattle.base.proofs.Parts.{at_below}
 use Rattle.digits.specs.Digits.{number_at}
 use Rattle.digits.proofs.Numbers.{number_len}
 use Rattle.pri.specs.Pri.{facility_of, severity_of, no_pri, pri_after, pri_at}
-use Rattle.pri.specs.declared.Pri.{Pri}
 
 module _ (s : List ℕ) (t : Bool) (e : t ≡ is_at s 0 60) where
   pub pri_other : not t ≡ true → (p : Pri) → p ≡ no_pri → p ≡ pri_at s

@@ -39,11 +39,12 @@ fn severity_of(value: u32) -> Option<u8>
 }
 
 // `<`, digits of a value up to 255, `>`.
+#[tactic(auto, unfolding(crate::specs::Pri::pri_at))]
 pub fn read_pri(s: &[u8]) -> Pri
     ensures { result ≡ pri_at s.now }
 {
     if !base::is_at(s, 0, b'<') {
-        return no_pri();
+        return NO_PRI;
     }
     let Some((value, len)) = digits::digits(base::past(s, 1), 255) else {
         return no_pri();

@@ -12,6 +12,7 @@ use Rattle.base.specs.Fills.{filled}
 use Rattle.base.proofs.Tests.{by_if}
 use Rattle.base.proofs.Fills.{filled_length}
 use Rattle.record.specs.Limits.{line_limit}
+use Rattle.record.specs.declared.Refusal.{Refusal}
 use Rattle.record.specs.declared.Refusal.TheVariants.{BadSetting}
 use Rattle.stream.specs.declared.State.{State}
 use Rattle.stream.specs.declared.State.TheVariants.{Count, Content, Line, Ended}

@@ -6,10 +6,8 @@ use mathlib.Core.List.{List, ◌∷◌, ◌++◌}
 use native.Mathlib.Omega.{arith}
 use lib.Dec.{eqb}
 use lib.ListN.{length, drop}
-use borrow.Author.Tests.{ne_eqb}
 use Rattle.base.proofs.Tests.{by_if}
 use Rattle.record.specs.Limits.{line_limit}
-use Rattle.record.specs.Refusals.{refusal_number}
 use Rattle.record.specs.declared.Refusal.{Refusal}
 use Rattle.record.specs.declared.Refusal.TheVariants.{BadSetting, OutputShort}
 use Rattle.stream.specs.declared.State.{State}
@@ -19,7 +17,7 @@ use Rattle.stream.specs.declared.Event.TheVariants.{More, Frame, Refused}
 use Rattle.stream.specs.declared.Fed.{Fed}
 use Rattle.stream.specs.declared.StreamState.{StreamState}
 use Rattle.stream.specs.declared.FeedAnswer.{FeedAnswer}
-use Rattle.stream.specs.Machine.{Says, unfinished}
+use Rattle.stream.specs.Machine.{Says}
 use Rattle.stream.specs.Feeds.{Served, short, fed}
 use Rattle.stream.specs.Numbers as N
 use Rattle.stream.specs.Numbers.{numbers_of, state_of, start_answer_of, feed_answer, feed_answer_of, Splits, no_state, splits, OneAnswer, finish_answer_of}
@@ -131,9 +129,10 @@ module _ (x : StreamState) (bytes old : List ℕ) (t : Result State Refusal) (e 
     pub splits_short : length old < line_limit → a ≡ feed_answer 0 x (Refused OutputShort) → Splits x bytes old a old
     splits_short l q = N.short s (sym e ∙ h) l q refl
 
-    pub splits_fed : line_limit ≤ length old → (r : Fed) (new : List ℕ) → Served s bytes old r new → a ≡ feed_answer_of r → Splits x bytes old a new
-    splits_fed l r new (short m u v) q = absurd (omega arith)
-    splits_fed l r new (fed m f) q = splits s (sym e ∙ h) l r f q
+    pub splits_fed : line_limit ≤ length old → (r : Fed) (new : List ℕ) (y : StreamState) → Served s bytes old r new → y ≡ numbers_of r.state → a ≡ feed_answer r.taken y r.event
+        → Splits x bytes old a new
+    splits_fed l r new y (short m u v) q o = absurd (omega arith)
+    splits_fed l r new y (fed m f) q o = splits s (sym e ∙ h) l r f (o ∙ rw q)
 
 pub ruleset splits_laws = (splits_none, splits_short, splits_fed)
 

@@ -24,6 +24,10 @@ use Rattle.structured_data.proofs.Hyphen.{hyphen_there}
 use Rattle.structured_data.proofs.Lists.{left, param_rows, Follows, follows}
 use Rattle.structured_data.proofs.Turning.{dead_none, stops_there}
 
+-- counts that are there
+abbrev counts : ℕ → ℕ → ℕ → Option Counts
+counts e p next = Some (record { elements = e; params = p; next = next })
+
 -- The counts of a list that goes from `at` to `next`
 module _ (at e p next : ℕ) where
   pub counts_none : next ≡ at → None ≡ (if eqb next at then None else Some (record { elements = e; params = p; next = next }))

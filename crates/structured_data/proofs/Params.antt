@@ -70,6 +70,10 @@ value_within s q end e = go (is_at s q 34) (is_at s (q + 1 + m) 34) refl refl e
 
 pub ruleset value_laws = (value_unquoted, behind_quote, quote_fits, value_fits, value_open, value_closed)
 
+-- a parameter that is there
+abbrev pub param : ℕ → ℕ → ℕ → ℕ → Option Param
+param n v m len = Some (record { name = n; value = v; value_len = m; len = len })
+
 -- A parameter of a name of `n` bytes and a value between the quotes at `q` and `end`
 param_of : ℕ → ℕ → Option ℕ → Option Param
 param_of n q None = None
@@ -107,7 +111,7 @@ module _ (t : List ℕ) (n : ℕ) (en : n ≡ run is_named t) where
             go true true =
                 let l : m ≡ q + 1 + m - (q + 1) = omega arith in
                 let k : q + m + 2 ≡ q + 1 + m + 1 = omega arith in
-                ap₂ (IsParam n (q + 1)) l k
+                ap₂ (λ (j i : ℕ). param n (q + 1) j i) l k
             go true false = refl
             go false d = refl
 
@@ -220,10 +224,11 @@ param_lies t n v m len e = go (leb 1 n') (is_at t n' 61) (is_at t q 34) (is_at t
         → Some (record { name = n; value = v; value_len = m; len = len }) ≡ (if a && b && c && d then Some (record { name = n'; value = q + 1; value_len = m'; len = q + m' + 2 }) else None)
         → Lies t n v m len
     go true true true true a b c d e =
-        let p : n ≡ n' = cc in
-        let r : v ≡ q + 1 = cc in
-        let k : m ≡ m' = cc in
-        let j : len ≡ q + m' + 2 = cc in
+        let y : ◌≡◌ {A = Param} (record { name = n; value = v; value_len = m; len = len }) (record { name = n'; value = q + 1; value_len = m'; len = q + m' + 2 }) = cc in
+        let p : n ≡ n' = ap (λ (x : Param). x.name) y in
+        let r : v ≡ q + 1 = ap (λ (x : Param). x.value) y in
+        let k : m ≡ m' = ap (λ (x : Param). x.value_len) y in
+        let j : len ≡ q + m' + 2 = ap (λ (x : Param). x.len) y in
         rw (p, r, k, j) (parts_lie t n' q m' (record { name = refl; some = leb-true 1 n' a; equals = b; blanks = refl; opens = c; value = refl; closes = d }))
     go true true true false a b c d e = clash (cc)
     go true true false _ a b c d e = clash (cc)

@@ -65,29 +65,18 @@ pub struct Counts {
     pub next: usize,
 }
 
+// Whether a name or an id may have the byte. Letters are asked for first.
 fn is_named(b: u8) -> bool
     ensures { result ≡ is_named b }
 {
-    !((b == b']') | (b == b'='))
+    94 <= b || (b != b']' && b != b'=')
 }
 
-// How many bytes at the front of `s` may be a name's. Letters are asked for first.
+// How many bytes at the front of `s` may be a name's.
 fn name_run(s: &[u8]) -> usize
     ensures { result ≡ run is_named s.now }
 {
-    let mut i = 0;
-    while i < s.len() {
-        let b = s[i];
-        if 94 <= b {
-            i += 1;
-        } else {
-            if !is_named(b) {
-                return i;
-            }
-            i += 1;
-        }
-    }
-    i
+    s.iter().take_while(|b| is_named(**b)).count()
 }
 
 // How many bytes of a value come before the quote that ends it: a backslash is passed with what it takes.
@@ -223,13 +212,13 @@ fn entry_from(s: &[u8], e: usize, start: usize) -> Entry
     let row = record::Param {
         element: e,
         name_start: start,
-        name_len: name,
-        value_start: start + value,
-        value_len,
+        name_len: param.name,
+        value_start: start + param.value,
+        value_len: param.value_len,
     };
     Entry {
         row,
-        next: start + len,
+        next: start + param.len,
     }
 }
 
