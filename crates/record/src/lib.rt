@@ -265,7 +265,7 @@ pub fn answer_of(r: Result<Reading, Refusal>) -> Answer
             params: 0,
         },
         Err(refusal) => Answer {
-            number: refusal_number(refusal),
+            number: u32::from(refusal),
             whole: false,
             reading: empty_record(),
             elements: 0,
@@ -292,7 +292,7 @@ pub fn strict_answer_of(r: Result<StrictReading, Refusal>) -> StrictAnswer
             params,
         },
         Err(refusal) => StrictAnswer {
-            number: refusal_number(refusal),
+            number: u32::from(refusal),
             reading: empty_strict(),
             elements: 0,
             params: 0,
@@ -331,7 +331,7 @@ pub fn output_answer_of(w: Result<usize, Refusal>) -> OutputAnswer
     match w {
         Ok(len) => OutputAnswer { number: 0, len },
         Err(refusal) => OutputAnswer {
-            number: refusal_number(refusal),
+            number: u32::from(refusal),
             len: 0,
         },
     }

@@ -1,6 +1,5 @@
 -- What the functions answer, by the walks.
-use Rattle.std.specs.Prelude.{Ok, Err}
-use Prim.Native.Nat.{ℕ, zero, suc, ◌+◌, ◌-◌, ◌*◌, ◌≤◌, ◌<◌}
+use Prim.Native.Nat.{ℕ, zero, suc, ◌+◌, ◌-◌, min, ◌≤◌, ◌<◌}
 use mathlib.Core.Path.{◌≡◌, refl, sym, ap, ◌∙◌}
 use mathlib.Core.List.{List, [], ◌∷◌}
 use mathlib.Core.Bool.{Bool, true, false, not}
@@ -20,7 +19,7 @@ use Rattle.record.specs.Limits.{line_limit}
 use Rattle.record.specs.declared.Refusal.TheVariants.{OutputShort, BadCount}
 use Rattle.stream.specs.declared.State.{State}
 use Rattle.stream.specs.declared.State.TheVariants.{Count, Content, Line, Ended}
-use Rattle.stream.specs.declared.Event.TheVariants.{More, Frame, Refused}
+use Rattle.stream.specs.declared.Event.TheVariants.{More, Refused}
 use Rattle.stream.specs.declared.Fed.{Fed}
 use Rattle.stream.specs.declared.Digits.{Digits}
 use Rattle.stream.specs.Machine as M
@@ -29,60 +28,6 @@ use Rattle.stream.specs.Feeds.{kept, held, answer_of, shown_by, Feeds, Served, s
 use Rattle.stream.specs.Steps.{mores, keeps, to_come, not_lf, Grew, Counted, end_fed}
 use Rattle.stream.proofs.Amounts.{keeps_kept, held_length}
 use Rattle.stream.proofs.Walks.{later_later, shown_ending, event_ending, line_on, line_end, content_on, content_done, count_space, count_bad}
-
-pub start_counted : (kind : ℕ) → kind ≡ 0 → Ok (Count 0) ≡ start_of kind
-unfolding start_of
-start_counted kind e = rw (eq-eqb kind 0 e)
-
-pub start_lines : (kind : ℕ) → (kind ≡ 0 → ⊥) → kind ≡ 1 → Ok (Line 0) ≡ start_of kind
-unfolding start_of
-start_lines kind z e = rw (ne_eqb kind 0 z, eq-eqb kind 1 e)
-
-pub start_other : (kind : ℕ) → (kind ≡ 0 → ⊥) → (kind ≡ 1 → ⊥) → Err BadSetting ≡ start_of kind
-unfolding start_of
-start_other kind z e = rw (ne_eqb kind 0 z, ne_eqb kind 1 e)
-
-pub ruleset start_laws = (start_counted, start_lines, start_other)
-
-pub come_one : (left : ℕ) → left ≤ 1 → 1 ≡ to_come left
-come_one left h = rw (le-leb left 1 h)
-
-pub come_all : (left : ℕ) → 1 < left → left ≡ to_come left
-come_all left h = rw (lt-leb left 1 h)
-
-pub end_frame : (s : State) (t n : ℕ) → n ≤ line_limit → record { state = s; taken = t; event = Frame n } ≡ end_fed s t n
-end_frame s t n h = rw (le-leb n line_limit h)
-
-pub end_long : (s : State) (t n : ℕ) → line_limit < n → record { state = s; taken = t; event = Refused FrameTooLong } ≡ end_fed s t n
-end_long s t n h = rw (lt-leb n line_limit h)
-
--- a digit: its range, and that of the value with it
-module _ (v b : ℕ) (h : digit_on v b ≡ true) where
-  two : (within 48 57 b && ltb v 100000) ≡ true
-  two = (both (within 48 57 b && ltb v 100000) (not (eqb v 0 && eqb b 48)) h).0
-
-  one : within 48 57 b ≡ true
-  one = (both (within 48 57 b) (ltb v 100000) two).0
-
-  pub digit_low : 48 ≤ b
-  digit_low = leb-true 48 b (both (leb 48 b) (leb b 57) one).0
-
-  pub digit_high : b ≤ 57
-  digit_high = leb-true b 57 (both (leb 48 b) (leb b 57) one).1
-
-  pub digit_value : v < 100000
-  digit_value = ltb-true v 100000 (both (within 48 57 b) (ltb v 100000) two).1
-
-  pub digit_ten : Fits w32 (v * 10)
-  digit_ten = record { fits = omega (arith, digit_value) }
-
-  pub digit_sum : Fits w32 (v * 10 + (b - 48))
-  digit_sum = record { fits = omega (arith, digit_value, digit_high) }
-
-pub ruleset digit_laws = (digit_low, digit_ten, digit_sum)
-
-pub digit_test : (v b : ℕ) (t : Bool) → t ≡ within 48 57 b → (t && ltb v 100000 && not (eqb v 0 && eqb b 48)) ≡ digit_on v b
-digit_test v b t e = rw e
 
 -- the machine stopped at a frame's end, or at the end of the bytes
 module _ (s t : State) (bytes old : List ℕ) (k : ℕ) (c new : List ℕ) (w : new ≡ filled c old) where

@@ -77,16 +77,15 @@ pub struct FinishAnswer {
 }
 
 // The state at the start of a stream, and at its restart. Kind 0 is counted, 1 lines.
+#[tactic(auto, unfolding(crate::specs::Machine::start_of))]
 pub fn start(kind: u32) -> Result<State, Refusal>
     ensures { result ≡ start_of kind }
 {
-    if kind == 0 {
-        return Ok(State::Count(0));
+    match kind {
+        0 => Ok(State::Count(0)),
+        1 => Ok(State::Line(0)),
+        _ => Err(Refusal::BadSetting),
     }
-    if kind == 1 {
-        return Ok(State::Line(0));
-    }
-    Err(Refusal::BadSetting)
 }
 
 // At the end of the stream: the content bytes of an unfinished frame.
@@ -362,17 +361,19 @@ impl From<State> for StreamState {
     }
 }
 
-// The state that the numbers are.
-fn state_of(x: StreamState) -> Result<State, Refusal>
-    ensures { result ≡ state_of x }
-{
-    let stage = x.stage;
-    match stage {
-        1 => Ok(State::Count(x.left)),
-        2 => Ok(State::Content(x.left, x.came)),
-        3 => Ok(State::Line(x.came)),
-        4 => Ok(State::Ended),
-        _ => Err(Refusal::BadSetting),
+impl TryFrom<StreamState> for State {
+    type Error = Refusal;
+
+    ghost try_from_gives = { λ x r. r ≡ state_of x };
+
+    fn try_from(x: StreamState) -> Result<State, Refusal> {
+        Ok(match x.stage {
+            1 => State::Count(x.left),
+            2 => State::Content(x.left, x.came),
+            3 => State::Line(x.came),
+            4 => State::Ended,
+            _ => return Err(Refusal::BadSetting),
+        })
     }
 }
 
@@ -380,14 +381,13 @@ fn state_of(x: StreamState) -> Result<State, Refusal>
 pub fn start_numbers(kind: u32) -> StartAnswer
     ensures { result ≡ start_answer_of (start_of kind) }
 {
-    let started = start(kind);
-    match started {
+    match start(kind) {
         Ok(s) => StartAnswer {
             number: 0,
             state: StreamState::from(s),
         },
         Err(f) => StartAnswer {
-            number: record::refusal_number(f),
+            number: u32::from(f),
             state: StreamState {
                 stage: 0,
                 left: 0,
@@ -419,14 +419,14 @@ fn told(taken: usize, state: StreamState, event: Event) -> FeedAnswer
 pub fn feed_numbers(x: StreamState, bytes: &[u8], buffer: &mut [u8]) -> FeedAnswer
     ensures { Splits x bytes.now buffer.old result buffer.new }
 {
-    let started = state_of(x);
-    match started {
-        Err(f) => return told(0, x, Event::Refused(f)),
+    match State::try_from(x) {
+        Err(f) => told(0, x, Event::Refused(f)),
+        Ok(_) if buffer.len() < record::LINE_LIMIT => {
+            told(0, x, Event::Refused(Refusal::OutputShort))
+        }
         Ok(s) => {
-            if buffer.len() < record::LINE_LIMIT {
-                return told(0, x, Event::Refused(Refusal::OutputShort));
-            }
-            return told_of(feed(s, bytes, buffer));
+            let r = feed(s, bytes, buffer);
+            told(r.taken, StreamState::from(r.state), r.event)
         }
     }
 }
@@ -435,14 +435,13 @@ pub fn feed_numbers(x: StreamState, bytes: &[u8], buffer: &mut [u8]) -> FeedAnsw
 pub fn finish_numbers(x: StreamState) -> FinishAnswer
     ensures { result ≡ finish_answer_of (state_of x) }
 {
-    let started = state_of(x);
-    match started {
+    match State::try_from(x) {
         Ok(s) => FinishAnswer {
             number: 0,
             unfinished: finish(s),
         },
         Err(f) => FinishAnswer {
-            number: record::refusal_number(f),
+            number: u32::from(f),
             unfinished: 0,
         },
     }

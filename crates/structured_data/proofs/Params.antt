@@ -77,7 +77,7 @@ param n v m len = Some (record { name = n; value = v; value_len = m; len = len }
 -- A parameter of a name of `n` bytes and a value between the quotes at `q` and `end`
 param_of : ℕ → ℕ → Option ℕ → Option Param
 param_of n q None = None
-param_of n q (Some end) = Some (record { name = n; value = q + 1; value_len = end - (q + 1); len = end + 1 })
+param_of n q (Some end) = param n (q + 1) (end - (q + 1)) (end + 1)
 
 module _ (t : List ℕ) (n : ℕ) (en : n ≡ run is_named t) where
   pub param_unnamed : n ≡ 0 → None ≡ param_at t
@@ -107,7 +107,7 @@ module _ (t : List ℕ) (n : ℕ) (en : n ≡ run is_named t) where
             m : ℕ
             m = quoted_len false (drop (q + 1) t)
 
-            go : (b d : Bool) → (if b && d then Some (record { name = n; value = q + 1; value_len = m; len = q + m + 2 }) else None) ≡ param_of n q (if b && d then Some (q + 1 + m) else None)
+            go : (b d : Bool) → (if b && d then param n (q + 1) m (q + m + 2) else None) ≡ param_of n q (if b && d then Some (q + 1 + m) else None)
             go true true =
                 let l : m ≡ q + 1 + m - (q + 1) = omega arith in
                 let k : q + m + 2 ≡ q + 1 + m + 1 = omega arith in
@@ -121,7 +121,7 @@ module _ (t : List ℕ) (n : ℕ) (en : n ≡ run is_named t) where
           param_open h = sym (param_is ∙ ap (param_of n q) (sym eg ∙ h))
 
           module _ (end : ℕ) (h : g ≡ Some end) where
-            pub param_found : Some (record { name = n; value = q + 1; value_len = end - (q + 1); len = end + 1 }) ≡ param_at t
+            pub param_found : param n (q + 1) (end - (q + 1)) (end + 1) ≡ param_at t
             unfolding param_of
             param_found = sym (param_is ∙ ap (param_of n q) (sym eg ∙ h))
 
@@ -207,7 +207,7 @@ module _ (t : List ℕ) (n q m : ℕ) (c : Parts t n q m) where
         anew = value_anew;
       }
 
-pub param_lies : (t : List ℕ) (n v m len : ℕ) → Some (record { name = n; value = v; value_len = m; len = len }) ≡ param_at t → Lies t n v m len
+pub param_lies : (t : List ℕ) (n v m len : ℕ) → param n v m len ≡ param_at t → Lies t n v m len
 unfolding param_at
 param_lies t n v m len e = go (leb 1 n') (is_at t n' 61) (is_at t q 34) (is_at t (q + 1 + m') 34) refl refl refl refl e
   where
@@ -221,7 +221,7 @@ param_lies t n v m len e = go (leb 1 n') (is_at t n' 61) (is_at t q 34) (is_at t
     m' = quoted_len false (drop (q + 1) t)
 
     go : (a b c d : Bool) → leb 1 n' ≡ a → is_at t n' 61 ≡ b → is_at t q 34 ≡ c → is_at t (q + 1 + m') 34 ≡ d
-        → Some (record { name = n; value = v; value_len = m; len = len }) ≡ (if a && b && c && d then Some (record { name = n'; value = q + 1; value_len = m'; len = q + m' + 2 }) else None)
+        → param n v m len ≡ (if a && b && c && d then param n' (q + 1) m' (q + m' + 2) else None)
         → Lies t n v m len
     go true true true true a b c d e =
         let y : ◌≡◌ {A = Param} (record { name = n; value = v; value_len = m; len = len }) (record { name = n'; value = q + 1; value_len = m'; len = q + m' + 2 }) = cc in

@@ -18,7 +18,7 @@ pub enum Rules {
     Rfc5424Rules,
 }
 
-// @@Param
+// A parameter at the front of a part: the length of its name, the start and the length of its value, and the length of all.
 #[derive(Clone, Copy)]
 pub struct Param {
     pub name: usize,
@@ -37,7 +37,7 @@ struct Walk {
 // A parameter's entry, and the position after it: where it would have started, if there is none.
 #[derive(Clone, Copy)]
 struct Entry {
-    row: Option<Param>,
+    row: record::Param,
     next: usize,
 }
 
@@ -57,7 +57,7 @@ struct Turn {
     dead: usize,
 }
 
-// @@Counts
+// The counts of elements and parameters, and the position after them.
 #[derive(Clone, Copy)]
 pub struct Counts {
     pub elements: usize,
@@ -121,10 +121,7 @@ pub fn param_at(s: &[u8]) -> Option<Param>
     ensures { result ≡ param_at s.now }
 {
     let name = name_run(s);
-    if name == 0 {
-        return None;
-    }
-    if !base::is_at(s, name, b'=') {
+    if name == 0 || !base::is_at(s, name, b'=') {
         return None;
     }
     let quote = parsers::blanks_from(s, name + 1);
@@ -195,15 +192,7 @@ fn entry_from(s: &[u8], e: usize, start: usize) -> Entry
     requires { start ≤ length s.now }
     ensures { result ≡ entry_of e start (param_at (drop start s.now)) }
 {
-    let Some(
-        Param {
-            name,
-            value,
-            value_len,
-            len,
-        },
-    ) = param_at(base::past(s, start))
-    else {
+    let Some(param) = param_at(base::past(s, start)) else {
         return Entry {
             row: record::blank(),
             next: start,
@@ -222,7 +211,7 @@ fn entry_from(s: &[u8], e: usize, start: usize) -> Entry
     }
 }
 
-fn row_of(entry: Entry) -> Option<Param>
+fn row_of(entry: Entry) -> record::Param
     ensures { result ≡ entry.row }
 {
     let row = entry.row;
@@ -413,7 +402,7 @@ fn turn_from(rules: Rules, s: &[u8], at: usize, id: usize, walk: Walk, dead: usi
 
 // The counts of a list that started at `at`, and ended at `next`.
 fn counts_at(at: usize, elements: usize, params: usize, next: usize) -> Option<Counts>
-    ensures { result ≡ (if eqb next at then NoData else IsData elements params next) }
+    ensures { result ≡ (if eqb next at then None else Some (record { elements = elements; params = params; next = next })) }
 {
     if next == at {
         return None;
