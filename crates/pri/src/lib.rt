@@ -4,36 +4,33 @@
 ghost use Rattle.std.specs.Prelude.{◌≡◌};
 ghost use Rattle.pri.specs.Pri.{facility_of, severity_of, pri_at};
 
-use digits::Number;
-use record::Level;
-
 // The facility and the severity, and where reading goes on: at 0 where there is no priority.
 #[derive(Clone, Copy)]
 pub struct Pri {
     pub next: usize,
-    pub facility: Level,
-    pub severity: Level,
+    pub facility: Option<u8>,
+    pub severity: Option<u8>,
 }
 
 const NO_PRI: Pri = Pri {
     next: 0,
-    facility: Level::Unset,
-    severity: Level::Unset,
+    facility: None,
+    severity: None,
 };
 
-fn facility_of(value: u32) -> Level
+fn facility_of(value: u32) -> Option<u8>
     ensures { result ≡ facility_of value }
 {
     match value / 8 {
-        facility @ 0..=23 => Level::Set(facility as u8),
-        _ => Level::Unset,
+        facility @ 0..=23 => Some(facility as u8),
+        _ => None,
     }
 }
 
-fn severity_of(value: u32) -> Level
+fn severity_of(value: u32) -> Option<u8>
     ensures { result ≡ severity_of value }
 {
-    Level::Set((value % 8) as u8)
+    Some((value % 8) as u8)
 }
 
 // `<`, digits of a value up to 255, `>`.
@@ -45,7 +42,7 @@ pub fn read_pri(s: &[u8]) -> Pri
         return NO_PRI;
     }
     match digits::digits(base::past(s, 1), 255) {
-        Number::Value { value, len } if base::is_at(s, len + 1, b'>') => Pri {
+        Some((value, len)) if base::is_at(s, len + 1, b'>') => Pri {
             next: len + 2,
             facility: facility_of(value),
             severity: severity_of(value),

@@ -5,5 +5,5 @@ use Rattle.pri.proofs.read_pri.Goals as goal
 
 pub overflow_add-len : goal.overflow_add-len
 overflow_add-len c =
-    let k = number_len _ c.past.result.now c.in-Value.value c.in-Value.len (sym c.in-Value.ensures) in
+    let k = number_len _ c.past.result.now c.in-Some.value c.in-Some.len (sym c.in-Some.ensures) in
     record { fits = omega (arith, k.1, ap length c.past.ensures ∙ length-drop 1 c.args.s.now) }
