@@ -167,7 +167,7 @@ fn numbers<T: Copy>(r: Result<T, Refusal>, none: T) -> (u32, T)
 {
     match r {
         Ok(x) => (0, x),
-        Err(f) => (record::refusal_number(f), none),
+        Err(f) => (u32::from(f), none),
     }
 }
 
