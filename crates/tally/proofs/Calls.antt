@@ -1,7 +1,7 @@
 -- What the functions answer, return by return.
 use Rattle.std.specs.Prelude.{if◌then◌else◌, ok_or, Option, Some, None, Result, Ok, Err}
-use Prim.Native.Nat.{ℕ, suc, ◌+◌, ◌*◌, ◌≤◌, ◌<◌}
-use mathlib.Core.Path.{◌≡◌, refl, sym, ap, subst, ◌∙◌}
+use Prim.Native.Nat.{ℕ, ◌+◌, ◌*◌, ◌≤◌, ◌<◌}
+use mathlib.Core.Path.{◌≡◌, refl, sym, ap, ◌∙◌}
 use mathlib.Core.Bool.{Bool, true, false, ◌&&◌}
 use mathlib.Core.List.{[]}
 use native.Mathlib.Numerals.{add-one}
@@ -10,13 +10,10 @@ use lib.Dec.{eqb, ltb}
 use lib.ListN.{length, get_or, set}
 use borrow.Author.Tests.{le-ltb, ltb-false, eq-eqb, ne_eqb}
 use Rattle.std.specs.Option.{SomeIff}
-use Rattle.record.specs.Refusals.{refusal_number}
 use Rattle.record.specs.declared.Refusal.{Refusal}
 use Rattle.record.specs.declared.Refusal.TheVariants.{Unsuitable, OutputShort, CellFull}
-use Rattle.tally.specs.declared.CellAnswer.{CellAnswer}
-use Rattle.tally.specs.declared.SumAnswer.{SumAnswer}
-use Rattle.tally.specs.Tally.{Tally, no_facility, no_severity, row_count, full, cell, is_row, is_column, is_cell, place_of, row_of, column_of, addition, raised, after, Adds, sum_of, row_sum, column_sum, cell_read, row_read, column_read}
-use Rattle.tally.specs.Numbers.{place_in, or_short, addition_in, demanded, cell_read_in, row_read_in, column_read_in, AddsIn, added_number, cell_answer_of, sum_answer_of, AddsAt, AddsNumbers}
+use Rattle.tally.specs.Tally.{Tally, no_facility, row_count, full, cell, is_row, is_column, is_cell, row_of, column_of, addition, raised, Adds, sum_of, row_sum, column_sum, cell_read, row_read, column_read}
+use Rattle.tally.specs.Numbers.{or_short, addition_in, demanded, cell_read_in, row_read_in, column_read_in, AddsIn}
 
 -- ---- rows that are enough, and too few
 

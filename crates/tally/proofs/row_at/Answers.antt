@@ -1,5 +1,4 @@
-use Rattle.std.proofs.Common.{rules, sym, ◌∙◌}
-use Rattle.std.proofs.lemmas.Result.{err_from_is_err_and}
+use Rattle.std.proofs.Common.{rules}
 use Rattle.tally.proofs.Calls.{row_refused, row_is}
 use Rattle.tally.proofs.row_at.Goals as goal
 
