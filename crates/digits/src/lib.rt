@@ -1,7 +1,7 @@
 // ASCII digits as numbers.
 #![tactic(auto)]
 
-ghost use Rattle.std.specs.Prelude.{◌≡◌, ℕ, true, false, ◌-◌, ◌^◌, ◌≤◌, leb, if◌then◌else◌, Option, MatchOption};
+ghost use Rattle.std.specs.Prelude.{◌≡◌, true, false, ◌-◌, ◌^◌, ◌≤◌, leb, if◌then◌else◌, MatchOption};
 ghost use Rattle.digits.specs.Digits.{is_digit, number_at, fixed_at, fraction_at};
 
 // What a digit writes; nothing for another byte.
@@ -16,7 +16,7 @@ fn digit(b: u8) -> Option<u32>
 
 // What `len` digits that write `value` answer.
 fn written(value: u32, len: usize) -> Option<(u32, usize)>
-    ensures { result ≡ if◌then◌else◌ {A = Option (ℕ × ℕ)} (leb 1 len) (Some (value, len)) None }
+    ensures { result ≡ (if leb 1 len then Some (value, len) else None) }
 {
     (1 <= len).then_some((value, len))
 }

@@ -13,7 +13,7 @@ use record::{Param, ReadAnswer, Refusal, StrictReading};
 fn told(line: &[u8], refusal: Refusal) -> ReadAnswer
     ensures { StrictTold line.now (Refused refusal) result }
 {
-    let number = record::refusal_number(refusal);
+    let number = u32::from(refusal);
     if number == 4 {
         return ReadAnswer {
             number,
