@@ -51,15 +51,15 @@ unfolding decimal_from
 passed_none s max = record { run_is = runs_start is_digit s; small = omega arith; value = refl }
 
 module _ (s : List ℕ) (max i v : ℕ) (p : Passed s max i v) where
-  ended : (a : Option (ℕ × ℕ)) → i ≡ digit_run s → a ≡ if◌then◌else◌ {A = Option (ℕ × ℕ)} (leb 1 i) (Some (v, i)) None → a ≡ number_at max s
+  ended : (a : Option (ℕ × ℕ)) → i ≡ digit_run s → a ≡ (if leb 1 i then Some (v, i) else None) → a ≡ number_at max s
   unfolding number_at
   ended a n e = e ∙ rw (← n, ← p.value, le-leb v max p.small, and-true)
 
-  pub ended_text : (a : Option (ℕ × ℕ)) → length s ≤ i → a ≡ if◌then◌else◌ {A = Option (ℕ × ℕ)} (leb 1 i) (Some (v, i)) None → a ≡ number_at max s
-  ended_text a h e = ended a (runs_out is_digit s _ i p.run_is h) e
+  pub ended_text : (a : Option (ℕ × ℕ)) → length s ≤ i → i ≤ length s → a ≡ (if leb 1 (length s) then Some (v, length s) else None) → a ≡ number_at max s
+  ended_text a h g e = let n : length s ≡ i = omega arith in ended a (runs_out is_digit s _ i p.run_is h) (rw n at e)
 
   module _ (h : i < length s) where
-    pub ended_digits : (a : Option (ℕ × ℕ)) → is_digit (get_or s i 0) ≡ false → a ≡ if◌then◌else◌ {A = Option (ℕ × ℕ)} (leb 1 i) (Some (v, i)) None → a ≡ number_at max s
+    pub ended_digits : (a : Option (ℕ × ℕ)) → is_digit (get_or s i 0) ≡ false → a ≡ (if leb 1 i then Some (v, i) else None) → a ≡ number_at max s
     ended_digits a q e = ended a (runs_no is_digit s _ i p.run_is h q) e
 
     -- one digit more
