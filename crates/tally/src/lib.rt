@@ -32,7 +32,7 @@ pub const NO_SEVERITY: usize = 8;
 // The place of number `n`, where the last place is `none`; the one behind it where there is none.
 fn place(none: usize, n: usize) -> usize
     requires { none < 255 }
-    ensures { result ≡ place_of none (Level.Set n) }
+    ensures { result ≡ place_of none (Some n) }
 {
     if n < none { n } else { none + 1 }
 }
