@@ -1,4 +1,5 @@
 -- The words of each field, and of the whole record.
+use Rattle.std.specs.Prelude.{Option, Some, None}
 use Prim.Native.Nat.{ℕ, ◌≤◌}
 use mathlib.Core.Path.{◌≡◌, refl, ◌∙◌}
 use mathlib.Core.List.{List, [], ◌∷◌, append_assoc}
@@ -8,14 +9,11 @@ use Rattle.base.specs.Fills.{filled}
 use Rattle.output.proofs.Writes.{written_front}
 use Rattle.record.specs.declared.Protocol.{Protocol}
 use Rattle.record.specs.declared.Protocol.TheVariants.{Rfc3164, Rfc5424}
-use Rattle.record.specs.declared.Level.{Level}
-use Rattle.record.specs.declared.Level.TheVariants.{Unset, Set}
-use Rattle.record.specs.declared.Stamp.{Stamp}
-use Rattle.record.specs.declared.Stamp.TheVariants.{Unstamped, Stamped}
 use Rattle.record.specs.declared.Record.{Record}
 use Rattle.record.specs.declared.StrictRecord.{StrictRecord}
 use Rattle.layout.specs.Layout.{word_count, strict_word_count, record_size, strict_size, mark, protocol_words, level_words, stamp_words, place_words, end_words, record_words, record_bytes, strict_words, strict_bytes, Room, Puts}
 use Rattle.layout.proofs.Words.{words_length, Pieces, pieces_all}
+use Rattle.record.specs.declared.Timestamp.{Timestamp}
 
 -- ---- the whole
 
@@ -23,13 +21,13 @@ protocol_length : (p : Protocol) → length (protocol_words p) ≡ 2
 protocol_length Rfc3164 = refl
 protocol_length (Rfc5424 v) = refl
 
-level_length : (l : Level) → length (level_words l) ≡ 2
-level_length Unset = refl
-level_length (Set n) = refl
+level_length : (l : Option ℕ) → length (level_words l) ≡ 2
+level_length None = refl
+level_length (Some n) = refl
 
-stamp_length : (s : Stamp) → length (stamp_words s) ≡ 5
-stamp_length Unstamped = refl
-stamp_length (Stamped t) = refl
+stamp_length : (s : Option Timestamp) → length (stamp_words s) ≡ 5
+stamp_length None = refl
+stamp_length (Some t) = refl
 
 pub record_length : (r : Record) (e p : ℕ) → length (record_words r e p) ≡ word_count
 unfolding record_words

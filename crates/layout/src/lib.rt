@@ -6,7 +6,7 @@ ghost use Rattle.base.specs.Fills.{filled};
 ghost use Rattle.layout.specs.Layout.{protocol_word, version_word, timestamp_word, seconds_word, nanos_word, digits_word, offset_word, message_word, word_count, record_size, strict_size, protocol_words, level_words, stamp_words, place_words, record_words, record_bytes, strict_bytes, Room, Puts};
 ghost use Rattle.layout.specs.Incoming.{word_at, signed, marked, narrow, stamped, front_held, marks_held, holds_record, protocol_at, level_at, stamp_at, place_at, span_at, record_at, element_count_at, param_count_at};
 
-use record::{Level, Place, Protocol, Record, Span, Stamp, StrictRecord, Timestamp};
+use record::{Place, Protocol, Record, Span, StrictRecord, Timestamp};
 
 // The number of each field's first word: a field ends where the next one starts.
 pub const PROTOCOL_WORD: usize = 0;
@@ -76,21 +76,21 @@ fn protocol_words(protocol: Protocol) -> [u64; 2]
     }
 }
 
-fn level_words(level: Level) -> [u64; 2]
+fn level_words(level: Option<u8>) -> [u64; 2]
     ensures { result ≡ level_words level }
 {
     match level {
-        Level::Unset => [0, 0],
-        Level::Set(n) => [1, u64::from(n)],
+        None => [0, 0],
+        Some(n) => [1, u64::from(n)],
     }
 }
 
-fn stamp_words(stamp: Stamp) -> [u64; 5]
+fn stamp_words(stamp: Option<Timestamp>) -> [u64; 5]
     ensures { result ≡ stamp_words stamp }
 {
     match stamp {
-        Stamp::Unstamped => [0; 5],
-        Stamp::Stamped(t) => [
+        None => [0; 5],
+        Some(t) => [
             1,
             t.seconds.cast_unsigned(),
             u64::from(t.nanos),
@@ -247,24 +247,24 @@ impl Memory<'_> {
     }
 
     // The level whose mark is word `i`.
-    fn level(&self, i: usize) -> Level
+    fn level(&self, i: usize) -> Option<u8>
         requires i_bound { i + 1 < word_count }
         requires i_value { marked 256 (word_at self.now.bytes.now i) (word_at self.now.bytes.now (i + 1)) ≡ true }
         ensures { result ≡ level_at (word_at self.now.bytes.now i) (word_at self.now.bytes.now (i + 1)) }
     {
         match self.word(i) {
-            0 => Level::Unset,
-            _ => Level::Set(self.word(i + 1) as u8),
+            0 => None,
+            _ => Some(self.word(i + 1) as u8),
         }
     }
 
-    fn stamp(&self) -> Stamp
+    fn stamp(&self) -> Option<Timestamp>
         requires { stamped (word_at self.now.bytes.now timestamp_word) (word_at self.now.bytes.now seconds_word) (word_at self.now.bytes.now nanos_word) (word_at self.now.bytes.now digits_word) (word_at self.now.bytes.now offset_word) ≡ true }
         ensures { result ≡ stamp_at (word_at self.now.bytes.now timestamp_word) (word_at self.now.bytes.now seconds_word) (word_at self.now.bytes.now nanos_word) (word_at self.now.bytes.now digits_word) (word_at self.now.bytes.now offset_word) }
     {
         match self.word(TIMESTAMP_WORD) {
-            0 => Stamp::Unstamped,
-            _ => Stamp::Stamped(Timestamp {
+            0 => None,
+            _ => Some(Timestamp {
                 seconds: self.word(SECONDS_WORD).cast_signed(),
                 nanos: self.word(NANOS_WORD) as u32,
                 digits: self.word(DIGITS_WORD) as u32,

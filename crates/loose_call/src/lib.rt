@@ -9,7 +9,7 @@ ghost use Rattle.exports.specs.Exports.{short_answer, LeavesLoose};
 ghost use Rattle.exports.specs.Steps.{Left};
 ghost use Rattle.loose_call.specs.Steps.{held_of};
 
-use record::{Param, ReadAnswer, Reading, Record};
+use record::{Param, ReadAnswer, Reading, Record, Refusal};
 
 // 8 in place of 0.
 fn or_short(a: ReadAnswer) -> ReadAnswer
@@ -26,7 +26,7 @@ fn or_short(a: ReadAnswer) -> ReadAnswer
 }
 
 // What is answered where the record's memory is too short.
-fn short(r: Reading) -> ReadAnswer
+fn short(r: Result<Reading, Refusal>) -> ReadAnswer
     ensures { result ≡ short_answer (read_answer_of r) }
 {
     or_short(record::read_answer_of(r))
@@ -39,29 +39,29 @@ enum Held {
     IsRecord(Record, usize, usize),
 }
 
-fn held_of(r: Reading) -> Held
+fn held_of(r: Result<Reading, Refusal>) -> Held
     ensures { result ≡ held_of r }
 {
     match r {
-        Reading::Read(reading, elements, params) => Held::IsRecord(reading, elements, params),
-        Reading::Whole(reading) => Held::IsRecord(reading, 0, 0),
-        Reading::Refused(_) => Held::Nothing,
+        Ok(Reading::Read(reading, elements, params)) => Held::IsRecord(reading, elements, params),
+        Ok(Reading::Whole(reading)) => Held::IsRecord(reading, 0, 0),
+        Err(_) => Held::Nothing,
     }
 }
 
 // Whether the whole line is the message.
-fn whole_mark(r: Reading) -> u32
+fn whole_mark(r: Result<Reading, Refusal>) -> u32
     ensures { result ≡ (read_answer_of r).whole }
 {
     match r {
-        Reading::Read(_, _, _) => 0,
-        Reading::Whole(_) => 1,
-        Reading::Refused(_) => 0,
+        Ok(Reading::Read(_, _, _)) => 0,
+        Ok(Reading::Whole(_)) => 1,
+        Err(_) => 0,
     }
 }
 
 // What is answered, and the record in `memory` where the number is 0.
-fn leave(r: Reading, memory: &mut [u8]) -> ReadAnswer
+fn leave(r: Result<Reading, Refusal>, memory: &mut [u8]) -> ReadAnswer
     requires { record_size ≤ length memory.old }
     ensures { Left r memory.old result memory.new }
 {
