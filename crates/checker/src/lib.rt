@@ -154,13 +154,13 @@ fn is_long(n: usize) -> bool
 }
 
 fn too_long() -> Result<(), Refusal>
-    ensures { result ≡ answer.Refused LineTooLong }
+    ensures { result ≡ Err LineTooLong }
 {
     Err(Refusal::LineTooLong)
 }
 
 fn unsuitable() -> Result<(), Refusal>
-    ensures { result ≡ answer.Refused Unsuitable }
+    ensures { result ≡ Err Unsuitable }
 {
     Err(Refusal::Unsuitable)
 }
@@ -268,7 +268,7 @@ fn number_of(a: Result<(), Refusal>) -> u32
 {
     match a {
         Ok(()) => 0,
-        Err(refusal) => record::refusal_number(refusal),
+        Err(refusal) => u32::from(refusal),
     }
 }
 
