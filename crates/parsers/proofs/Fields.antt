@@ -5,6 +5,7 @@ use mathlib.Core.Path.{◌≡◌, sym, ◌∙◌}
 use mathlib.Core.List.{List}
 use native.Mathlib.Omega.{arith}
 use lib.ListN.{length, drop, length-drop}
+use Rattle.base.proofs.Pairs.{some_first, some_second}
 use Rattle.record.specs.declared.Place.{Place}
 use Rattle.parsers.specs.Parsers.{plain_at, host_at, tag_at}
 use Rattle.parsers.specs.Passed.{text_passed}
@@ -31,14 +32,12 @@ module _ (read : List ℕ → Text) (read-in : (s : List ℕ) → TextIn (length
   text_place_lem : (p : Place) (n : ℕ) → placed at (read (drop at s)) ≡ Some (p, n) → FieldIn (length s) p n
   text_place_lem p n z = go (read (drop at s)) (read-in (drop at s)) z
     where
-      at_field : (q : Place) (m : ℕ) → Some (q, m) ≡ Some (p, n) → q.start + q.len ≤ m → m ≤ length s → FieldIn (length s) p n
+      at_field : (q : Place) (m : ℕ) → ◌≡◌ {A = Option (Place × ℕ)} (Some (q, m)) (Some (p, n)) → q.start + q.len ≤ m → m ≤ length s → FieldIn (length s) p n
       at_field q m z a b =
-          let ep : q ≡ p = cc in
-          let en : m ≡ n = cc in
-          rw (← ep, ← en) (record { ends = a; within_line = b })
+          rw (← some_first z, ← some_second z) (record { ends = a; within_line = b })
 
       go : (t : Text) → TextIn (length (drop at s)) t → placed at t ≡ Some (p, n) → FieldIn (length s) p n
-      go Fails i z = let m : ◌≡◌ {A = ℕ} 0 1 = cc in absurd (omega arith)
+      go Fails i z = cc
       go (Absent k) i z = at_field _ _ z (omega arith) (omega (arith, length-drop at s))
       go (Given k m) i z = at_field _ _ z (omega arith) (omega (arith, length-drop at s))
 

@@ -10,6 +10,7 @@ use Rattle.base.specs.Choose.{is_at}
 use Rattle.base.specs.Runs.{run}
 use Rattle.base.proofs.Tests.{clash, by_if}
 use Rattle.base.proofs.Parts.{ended, at_below}
+use Rattle.base.proofs.Pairs.{some_second}
 use Rattle.base.proofs.Runs.{run_le, run_none, run_yes, run_no}
 use Rattle.digits.specs.Digits.{number_at}
 use Rattle.digits.proofs.Numbers.{number_len}
@@ -31,7 +32,7 @@ module _ (s : List ℕ) (at b : ℕ) (p : 0 < b) where
     where
       go : (t : Bool) → is_at s at b ≡ t → (if t then Some (at + 1) else None) ≡ Some n → n ≤ length s
       go true h q = let m : at + 1 ≡ n = cc in omega (arith, at_there h)
-      go false h q = let m : ◌≡◌ {A = ℕ} 0 1 = cc in absurd (omega arith)
+      go false h q = cc
 
 -- An optional `:`
 pub colon_within : (s : List ℕ) (at : ℕ) → at ≤ length s → colon_from s at ≤ length s
@@ -62,11 +63,11 @@ module _ (s : List ℕ) (at : ℕ) where
   module _ (n : ℕ) (e : n ≡ blanks_from s at) where
     pub some_no : n ≡ at → None ≡ some_blanks_from s at
     unfolding some_blanks_from
-    some_no z = by_if (λ g. None ≡ g) (is_blank (get_or s at 0)) _ _ (λ h. absurd (omega (arith, (blank_some h).1))) (λ h. refl)
+    some_no z = by_if {A = Option ℕ} (λ g. None ≡ g) (is_blank (get_or s at 0)) _ _ (λ h. absurd (omega (arith, (blank_some h).1))) (λ h. refl)
 
     pub some_yes : (n ≡ at → ⊥) → Some n ≡ some_blanks_from s at
     unfolding some_blanks_from
-    some_yes z = by_if (λ g. Some n ≡ g) (is_blank (get_or s at 0)) _ _ (λ h. ap Some e) (λ h. absurd (z (e ∙ blank_none h)))
+    some_yes z = by_if {A = Option ℕ} (λ g. Some n ≡ g) (is_blank (get_or s at 0)) _ _ (λ h. ap Some e) (λ h. absurd (z (e ∙ blank_none h)))
 
   pub some_within : (g : Option ℕ) → g ≡ some_blanks_from s at → (n : ℕ) → g ≡ Some n → n ≤ length s
   unfolding some_blanks_from
@@ -77,7 +78,7 @@ module _ (s : List ℕ) (at : ℕ) where
           let m : blanks_from s at ≡ n = cc in
           let l = (blank_some h).0 in
           blanks_within s at n (sym m) (omega arith)
-      go false h q = let m : ◌≡◌ {A = ℕ} 0 1 = cc in absurd (omega arith)
+      go false h q = cc
 
 pub ruleset some_laws = (some_no, some_yes)
 
@@ -103,8 +104,8 @@ module _ (read : List ℕ → Option (ℕ × ℕ)) (read-in : (s : List ℕ) →
   digits_within v n z = go (read (drop at s)) (read-in (drop at s)) z
     where
       go : (r : Option (ℕ × ℕ)) → NumberIn (length (drop at s)) r → moved at r ≡ Some (v, n) → n ≤ length s
-      go None i z = let m : ◌≡◌ {A = ℕ} 0 1 = cc in absurd (omega arith)
-      go (Some x) i z = let m : at + x.1 ≡ n = cc in omega (arith, length-drop at s)
+      go None i z = cc
+      go (Some x) i z = omega (arith, some_second z, length-drop at s)
 
 -- A number within 32 bits
 number_there : (s : List ℕ) → NumberIn (length s) (number_at 4294967295 s)

@@ -141,10 +141,8 @@ pub fn moved(at: usize, n: Option<(u32, usize)>) -> Option<(u32, usize)>
     requires { at + digits_passed n < 2 ^ 64 }
     ensures { result ≡ moved at n }
 {
-    match n {
-        None => None,
-        Some((value, len)) => Some((value, at + len)),
-    }
+    let (value, len) = n?;
+    Some((value, at + len))
 }
 
 // The digits at `at`, as a number within 32 bits.
