@@ -11,7 +11,7 @@ use record::{Param, ReadAnswer, Refusal, StrictReading};
 
 // What is told of a refusal: with 4, where the line broke.
 fn told(line: &[u8], refusal: Refusal) -> ReadAnswer
-    ensures { StrictTold line.now (Refused refusal) result }
+    ensures { StrictTold line.now (Err refusal) result }
 {
     let number = u32::from(refusal);
     if number == 4 {

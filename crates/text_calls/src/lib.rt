@@ -23,7 +23,7 @@ fn first_refusal(len: usize, kind: u32) -> Refusal
 
 // What is answered where bytes hold no record.
 fn unheld(len: usize, kind: u32) -> OutputAnswer
-    ensures { result ≡ output_answer_of (Refused (first_refusal len kind)) }
+    ensures { result ≡ output_answer_of (Err (first_refusal len kind)) }
 {
     let first = first_refusal(len, kind);
     record::output_answer_of(Err(first))
