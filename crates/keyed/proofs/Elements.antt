@@ -14,6 +14,9 @@ use Rattle.keyed.specs.Notes.{Roomed, Notes, rows_at, rows_from, Listed}
 use Rattle.keyed.specs.declared.Texts.{Texts}
 use Rattle.keyed.proofs.Notes.{notes_none, notes_then, room_left}
 
+rows_step : (ids : List (List ℕ)) (i : ℕ) → i < length ids → drop i ids ≡ get_or ids i [] ∷ drop (i + 1) ids
+rows_step ids i h = rw (add-one, drop-cons ids i [])
+
 -- room for the first of some
 room_front : (a b : List (List ℕ)) (t : Texts) → Roomed (a ++ b) t → Roomed a t
 room_front a b t r = record { fits = omega (arith, total_append param_size a b, r.fits); small = r.small; many = omega (arith, length-append a b, r.many) }
@@ -43,7 +46,7 @@ module _ (s : List ℕ) (ids : List (List ℕ)) (t : Texts) where
       unfolding rows_from
       next_left =
           c.left
-          ∙ ap (λ (l : List (List ℕ)). c.passed ++ rows_from s i l) (rw add-one (drop-cons ids i [] h))
+          ∙ ap (λ (l : List (List ℕ)). c.passed ++ rows_from s i l) (rows_step ids i h)
           ∙ ap (λ (f : ℕ). c.passed ++ (rows_at s i f ++ rows_from s (i + 1) (drop (i + 1) ids))) (sym ef)
           ∙ sym (append_assoc c.passed (rows_at s i from) (rows_from s (i + 1) (drop (i + 1) ids)))
 

@@ -168,8 +168,13 @@ fn odd_of<const SIZE: usize, const ENDS: usize>(a: Line, b: Line) -> Odd
     texts.note_elements(a);
     let first = texts.count;
     texts.note_elements(b);
-    let both = texts.count;
-    pairs::first_odd(texts.text, texts.ends, first, both)
+    let Texts {
+        text,
+        ends,
+        count,
+        ..
+    } = texts;
+    pairs::first_odd(text, ends, first, count)
 }
 
 // Of the pairs that do not occur as often in both lines, the first one of the least element, the first line's before the second's. Its number counts the pairs of both.
