@@ -1,4 +1,5 @@
 -- The fields of a strict line, as a caller has them.
+use Rattle.std.specs.Prelude as std
 use Rattle.std.specs.Prelude.{ℕ, List}
 use Rattle.std.specs.Prelude as std
 use Rattle.std.proofs.Math.Option.{Option}
