@@ -1,5 +1,5 @@
 -- For private contracts alone: the pair of two lines that is odd, by the texts of their rows.
-use Rattle.std.specs.Prelude.{ℕ, ◌+◌, ◌*◌, ◌≤◌, ◌<◌, ◌≡◌, List, [], ◌++◌, map, length, get_or, take}
+use Rattle.std.specs.Prelude.{ℕ, ◌+◌, ◌*◌, ◌≤◌, ◌<◌, List, [], ◌++◌, map, length, get_or, take}
 use Rattle.message.specs.Rooms.{param_size, total}
 use Rattle.pairs.specs.Odd.{is_odd, element_of, Least}
 use Rattle.pairs.specs.declared.Odd.{Odd}

@@ -1,5 +1,5 @@
 use Rattle.std.proofs.Common.{refl}
-use Rattle.keyed.proofs.Odd.{room₁, room₂, both_halved, both_odd}
+use Rattle.keyed.proofs.Odd.{both_halved, both_odd}
 use Rattle.keyed.proofs.odd_of.Goals as goal
 
 pub first_odd-requires-clause-halved : goal.first_odd-requires-clause-halved

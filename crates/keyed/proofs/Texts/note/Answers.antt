@@ -6,7 +6,7 @@ pub put_key-next-requires-clause-fits : goal.put_key-next-requires-clause-fits
 put_key-next-requires-clause-fits c = note_fits _ _ _ c.requires.roomed
 
 pub overflow_cast-self : goal.overflow_cast-self
-overflow_cast-self c = note_small _ _ _ c.requires.roomed _ _ c.put_key-next.ensures
+overflow_cast-self c = record { fits = note_small _ _ _ c.requires.roomed _ _ c.put_key-next.ensures }
 
 pub returns : goal.returns
 returns c = note_notes _ _ _ c.requires.roomed _ _ c.put_key-next.ensures _ refl refl refl refl

@@ -1,4 +1,4 @@
-use Rattle.keyed.proofs.Elements.{walking_none, walking_all, walking_from, walking_room, walking_on}
+use Rattle.keyed.proofs.Elements.{walking_all, walking_from, walking_room, walking_on}
 use Rattle.keyed.proofs.Texts.note_elements.Goals as goal
 
 pub note_params-requires-clause-from_in_bounds : goal.note_params-requires-clause-from_in_bounds
