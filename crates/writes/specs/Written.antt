@@ -1,6 +1,8 @@
 -- The line that is written. Each field's text, laid out as the grammar lays out a division.
 use Rattle.std.specs.Prelude as std
 use Rattle.std.specs.Prelude.{ℕ, suc, ◌+◌, ◌*◌, ◌/◌, ◌%◌, ◌≡◌, true, false, List, [], ◌∷◌, ℤ, pos, negsuc, if◌then◌else◌, Some, None}
+use Rattle.std.specs.Prelude as std
+use Rattle.record.specs.declared.Timestamp as stamped
 use Rattle.std.proofs.Math.Option.{Option, none, some}
 use Rattle.digits.specs.Digits.{decimal}
 use Rattle.calendar.specs.Instant.{shown}
