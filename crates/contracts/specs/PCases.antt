@@ -1,4 +1,5 @@
 -- RULES Cases 1 to 9 as one table, and what each says of the definitions of loose reading, printing and the grammar.
+use Rattle.std.specs.Prelude as std
 use Rattle.std.specs.Prelude.{ℕ, ◌≡◌, List, [], ◌∷◌, take, pos, if◌then◌else◌, Some, None}
 use Prim.Native.String.{String}
 use Rattle.std.proofs.Math.Option.{Option, none, some}
@@ -19,8 +20,8 @@ use Rattle.grammar.specs.Line.{Division, timestamp_then, data_then, Each, Derive
 
 -- a loose line: facility, severity, host, app name, the elements as the line has them, the message
 pub record Loose : Type 0 where
-  pub facility : Option ℕ
-  pub severity : Option ℕ
+  pub facility : std.Option ℕ
+  pub severity : std.Option ℕ
   pub host : Option (List ℕ)
   pub app : Option (List ℕ)
   pub elements : List ℕ
@@ -72,7 +73,7 @@ pub record Divides (line : List ℕ) (texts : Strict) : Type 0 where
 -- A loose line is read by variant 1 (RFC 3164) or 2 (RFC 5424), in the year 2023 at +60.
 pub data Case : Type 0 where
   -- the priority in front of a text: how many bytes it takes, facility, severity
-  priority : List ℕ → ℕ → Option ℕ → Option ℕ → Case
+  priority : List ℕ → ℕ → std.Option ℕ → std.Option ℕ → Case
   -- what is skipped in front of a text as an element of RFC 5424 that fails
   skips : List ℕ → List ℕ → Case
   -- the reading of a line; none: there is no reading
@@ -100,7 +101,7 @@ abbrev texts : Option String → Option (List ℕ)
 texts none = none
 texts (some t) = some (bytes t)
 
-abbrev reads : Option ℕ → Option ℕ → (host app : Option String) → (elements message : String) → Option Loose
+abbrev reads : std.Option ℕ → std.Option ℕ → (host app : Option String) → (elements message : String) → Option Loose
 reads f s h a e m = some (record { facility = f; severity = s; host = texts h; app = texts a; elements = bytes e; message = bytes m })
 
 abbrev divides : (timestamp host structured : String) → Option Strict
