@@ -1,4 +1,5 @@
 -- Signed seconds, computed by differences.
+use Rattle.std.specs.Prelude.{Some, None}
 use Prim.Native.Nat.{ℕ, zero, suc, ◌+◌, ◌-◌, ◌*◌, ◌^◌, ◌≤◌, ◌<◌}
 use mathlib.Core.Path.{◌≡◌, refl, sym, ap, ◌∙◌}
 use mathlib.Core.Bool.{true, ◌&&◌, and-true}
@@ -17,7 +18,6 @@ use Rattle.base.proofs.Diffs.{pos_sub, as_diff, add_diff, sub_ge, sub_lt}
 use Rattle.calendar.specs.Calendar.{offset_limit, valid_offset, valid}
 use Rattle.calendar.specs.Instant.{epoch, local_seconds, seconds_of, clock_of, all_seconds, shown}
 use Rattle.calendar.specs.declared.DateTime.{DateTime}
-use Rattle.calendar.specs.declared.Shown.TheVariants.{Outside, At}
 use Rattle.calendar.proofs.Clocks.{local_below}
 
 -- an offset of minutes in seconds, taken apart
@@ -128,17 +128,17 @@ module _ (z : ℤ) (fz : SFits w64 z) (p : Diff) (ep : p ≡ diff_of (to_z w64 (
     whole : z +ℤ o *ℤ pos 60 +ℤ pos epoch ≡ sub_ℕ (p.up + d.up + epoch) (p.down + d.down)
     whole = rw (instant, shifted o fo d ed) (plus_diff z (o *ℤ pos 60) epoch)
 
-    pub shown_early : p.up + d.up + epoch < p.down + d.down → Outside ≡ shown z o
+    pub shown_early : p.up + d.up + epoch < p.down + d.down → None ≡ shown z o
     unfolding shown
     shown_early l = rw (whole, sub_lt _ _ l)
 
     module _ (h : p.down + d.down ≤ p.up + d.up + epoch) where
-      pub shown_late : all_seconds ≤ p.up + d.up + epoch - (p.down + d.down) → Outside ≡ shown z o
+      pub shown_late : all_seconds ≤ p.up + d.up + epoch - (p.down + d.down) → None ≡ shown z o
       unfolding shown
       shown_late l = rw (whole, sub_ge _ _ h, le-ltb _ _ l)
 
       pub shown_in : p.up + d.up + epoch - (p.down + d.down) < all_seconds
-          → (t : DateTime) → t ≡ clock_of (p.up + d.up + epoch - (p.down + d.down)) → At t ≡ shown z o
+          → (t : DateTime) → t ≡ clock_of (p.up + d.up + epoch - (p.down + d.down)) → Some t ≡ shown z o
       unfolding shown
       shown_in l t e = rw (whole, sub_ge _ _ h, lt-ltb _ _ l, e)
 

@@ -35,20 +35,13 @@ pub struct DateTime {
     pub second: u32,
 }
 
-// What an instant shows; outside: its local year is none of 0 to 9999.
-#[derive(Clone, Copy)]
-pub enum Shown {
-    Outside,
-    At(DateTime),
-}
-
 // Whether the local year is one of 0 to 9999.
-pub fn is_shown(x: Shown) -> bool
+pub fn is_shown(x: Option<DateTime>) -> bool
     ensures { result ≡ is_shown x }
 {
     match x {
-        Shown::Outside => false,
-        Shown::At(_) => true,
+        None => false,
+        Some(_) => true,
     }
 }
 
@@ -231,7 +224,7 @@ fn clock_of(n: u64) -> DateTime
 }
 
 // What an instant shows `offset` minutes east of UTC.
-pub fn shown_at(seconds: i64, offset: i32) -> Shown
+pub fn shown_at(seconds: i64, offset: i32) -> Option<DateTime>
     ensures { result ≡ shown seconds offset }
 {
     let z = base::split(seconds);
@@ -239,11 +232,11 @@ pub fn shown_at(seconds: i64, offset: i32) -> Shown
     let up = z.up + o.up + 62167219200;
     let down = z.down + o.down;
     if up < down {
-        return Shown::Outside;
+        return None;
     }
     let n = up - down;
     if 315569520000 <= n {
-        return Shown::Outside;
+        return None;
     }
-    Shown::At(clock_of(n))
+    Some(clock_of(n))
 }

@@ -1,4 +1,5 @@
 -- A strict record that comes in as bytes, and the numbers of the answers.
+use Rattle.std.specs.Prelude.{Unit, tt, Result, Ok, Err}
 use Prim.Native.Nat.{ℕ, ◌+◌, ◌-◌, ◌*◌, ◌≤◌, ◌<◌}
 use mathlib.Core.Path.{◌≡◌, sym, ap, ◌∙◌}
 use mathlib.Core.Bool.{Bool, true, false, not, ◌&&◌}
@@ -17,8 +18,6 @@ use Rattle.record.specs.declared.Refusal.{Refusal}
 use Rattle.layout.specs.Layout.{word_count, strict_word_count, record_size, strict_size}
 use Rattle.layout.specs.Incoming.{number, word_at, holds_record, record_at, element_count_at, param_count_at}
 use Rattle.claims.specs.Claims.{Checks, checked_number}
-use Rattle.claims.specs.declared.Checked.{Checked}
-use Rattle.claims.specs.declared.Checked.TheVariants.{Yes, Refused}
 use Rattle.claims.proofs.Laws.{one_answer}
 use Rattle.checker.specs.Memory.{text_word, message_mark_word, holds_strict, strict_at, first_refusal, ChecksBytes, OneNumber}
 use Rattle.checker.specs.Memory.ChecksBytes.{held, unheld}
@@ -91,11 +90,11 @@ pub ruleset strict_laws = (strict_room, strict_record, strict_is)
 
 -- ---- the numbers
 
-module _ (a : Checked) where
-  pub number_yes : a ≡ Yes → 0 ≡ checked_number a
+module _ (a : Result Unit Refusal) where
+  pub number_yes : a ≡ Ok tt → 0 ≡ checked_number a
   number_yes e = rw e
 
-  pub number_refused : (f : Refusal) → a ≡ Refused f → (n : ℕ) → n ≡ refusal_number f → n ≡ checked_number a
+  pub number_refused : (f : Refusal) → a ≡ Err f → (n : ℕ) → n ≡ refusal_number f → n ≡ checked_number a
   number_refused f e n q = q ∙ rw e
 
 pub ruleset number_laws = (number_yes, number_refused)
@@ -111,7 +110,7 @@ pub ruleset first_laws = (first_long, first_unheld)
 -- ---- the call
 
 pub served : (line bytes : List ℕ) (elements params : List (List ℕ)) (n : ℕ) → holds_strict bytes ≡ true → (r : StrictRecord) → r ≡ strict_at bytes
-    → (e : ℕ) → e ≡ element_count_at bytes → (p : ℕ) → p ≡ param_count_at bytes → (a : Checked) → Checks line r e p elements params a → n ≡ checked_number a
+    → (e : ℕ) → e ≡ element_count_at bytes → (p : ℕ) → p ≡ param_count_at bytes → (a : Result Unit Refusal) → Checks line r e p elements params a → n ≡ checked_number a
     → ChecksBytes line bytes elements params n
 served line bytes elements params n q r er e ee p ep a h en = held q a (rw (← er, ← ee, ← ep) h) en
 

@@ -1,4 +1,5 @@
 -- The steps of the check: what is asked at each call, and what each return says.
+use Rattle.std.specs.Prelude.{Unit, tt, Option, Some, None, Result, Ok}
 use Prim.Native.Nat.{ℕ, ◌+◌, ◌-◌, ◌^◌, ◌≤◌, ◌<◌}
 use mathlib.Core.Path.{◌≡◌, refl, sym, ◌∙◌}
 use mathlib.Core.Bool.{Bool, true, false, not}
@@ -16,23 +17,20 @@ use Rattle.record.specs.declared.StrictRecord.{StrictRecord}
 use Rattle.record.specs.Params.{row_of}
 use Rattle.suits.specs.Suits.{place_suits, record_suits, elements_suit}
 use Rattle.claims.specs.Holds.{header_next, ids_at, message_holds}
-use Rattle.claims.specs.declared.Checked.{Checked}
-use Rattle.claims.specs.declared.Checked.TheVariants.{Yes}
-use Rattle.claims.specs.declared.Next.{Next}
-use Rattle.claims.specs.declared.Next.TheVariants.{Off, At}
 use Rattle.claim_data.specs.Walks.{first_next, turn_next, last_next}
 use Rattle.claim_data.specs.Ids.{Ids}
 use Rattle.checker.specs.Steps.{walk_at, start_of, end_of, rest_holds, verdict, Starting, Turning, Finishing}
 use Rattle.checker.specs.declared.Walk.{Walk}
+use Rattle.record.specs.declared.Refusal.{Refusal}
 
 pub counted_is : (rows : List (List ℕ)) (n : ℕ) → take (n - 0) (drop 0 rows) ≡ take n rows
 counted_is rows n = let e : n - 0 ≡ n = omega arith in rw e
 
-module _ (n : Next) (next element count : ℕ) where
-  pub walk_off : n ≡ Off → record { next = count; element = 0; at = 0; holds = false } ≡ walk_at n next element count
+module _ (n : Option ℕ) (next element count : ℕ) where
+  pub walk_off : n ≡ None → record { next = count; element = 0; at = 0; holds = false } ≡ walk_at n next element count
   walk_off e = rw e
 
-  pub walk_on : (at : ℕ) → n ≡ At at → record { next = next; element = element; at = at; holds = true } ≡ walk_at n next element count
+  pub walk_on : (at : ℕ) → n ≡ Some at → record { next = next; element = element; at = at; holds = true } ≡ walk_at n next element count
   walk_on at e = rw e
 
 pub ruleset walk_laws = (walk_off, walk_on)
@@ -56,11 +54,11 @@ module _ (line : List ℕ) (r : StrictRecord) (e : ℕ) (elements : List (List �
     pub start_ids : (ids : List (List ℕ)) → ids ≡ take e elements → elements_suit line ids ≡ true
     start_ids ids q = rw q s.counted.ids_suit
 
-  module _ (x : Next) (ex : x ≡ header_next line r) (p : ℕ) (w : Walk) where
-    pub start_off : x ≡ Off → w ≡ walk_at Off 0 0 p → w ≡ walk_at (start_of line r (take e elements)) 0 0 p
+  module _ (x : Option ℕ) (ex : x ≡ header_next line r) (p : ℕ) (w : Walk) where
+    pub start_off : x ≡ None → w ≡ walk_at None 0 0 p → w ≡ walk_at (start_of line r (take e elements)) 0 0 p
     start_off h q = q ∙ rw (← ex, h)
 
-    pub start_on : (a : ℕ) → x ≡ At a → (ids : List (List ℕ)) → ids ≡ take e elements → (n : Next) → n ≡ first_next line a ids → w ≡ walk_at n 0 0 p
+    pub start_on : (a : ℕ) → x ≡ Some a → (ids : List (List ℕ)) → ids ≡ take e elements → (n : Option ℕ) → n ≡ first_next line a ids → w ≡ walk_at n 0 0 p
         → w ≡ walk_at (start_of line r (take e elements)) 0 0 p
     start_on a h ids ei n en q = q ∙ rw (en, ei, ← ex, h)
 
@@ -90,7 +88,7 @@ module _ (line : List ℕ) (e p : ℕ) (elements : List (List ℕ)) (w : Walk) (
       let b : x.element < length ids = rw (q, length-take-le e elements t.counted.count) entry.0.1 in
       (t.counted.short, (rw q t.counted.ids_suit, (b, (entry.0.0, (entry.1.0, entry.1.1)))))
 
-  pub turn_is : (ids : List (List ℕ)) → ids ≡ take e elements → (n : Next) → n ≡ turn_next line w.at ids w.element (row_of x)
+  pub turn_is : (ids : List (List ℕ)) → ids ≡ take e elements → (n : Option ℕ) → n ≡ turn_next line w.at ids w.element (row_of x)
       → (v : Walk) → v ≡ walk_at n (w.next + 1) x.element p → v ≡ walk_at (turn_next line w.at (take e elements) w.element (row_of x)) (w.next + 1) x.element p
   turn_is ids q n en v ev = ev ∙ rw (en, q)
 
@@ -99,7 +97,7 @@ pub ruleset turn_laws = (turn_count, turn_fits, turn_is)
 -- ---- the end
 
 module _ (line : List ℕ) (r : StrictRecord) (e : ℕ) (elements : List (List ℕ)) (w : Walk) where
-  pub finish_off : not w.holds ≡ true → (a : Checked) → a ≡ verdict false → a ≡ verdict (rest_holds line r (take e elements) (end_of line (take e elements) w))
+  pub finish_off : not w.holds ≡ true → (a : Result Unit Refusal) → a ≡ verdict false → a ≡ verdict (rest_holds line r (take e elements) (end_of line (take e elements) w))
   finish_off q a ea = ea ∙ rw (not-true w.holds q)
 
   module _ (f : Finishing line r e elements w) where
@@ -119,26 +117,26 @@ module _ (line : List ℕ) (r : StrictRecord) (e : ℕ) (elements : List (List �
       pub finish_opened : w.element ≤ length ids - 1
       finish_opened = rw (ei, length-take-le e elements f.counted.count) f.opened
 
-  module _ (q : not w.holds ≡ false) (ids : List (List ℕ)) (ei : ids ≡ take e elements) (n : Next) (en : n ≡ last_next line w.at ids w.element) where
+  module _ (q : not w.holds ≡ false) (ids : List (List ℕ)) (ei : ids ≡ take e elements) (n : Option ℕ) (en : n ≡ last_next line w.at ids w.element) where
     end_is : end_of line (take e elements) w ≡ n
     end_is = rw (not-false w.holds q, en, ei)
 
-    pub finish_last : n ≡ Off → (a : Checked) → a ≡ verdict false → a ≡ verdict (rest_holds line r (take e elements) (end_of line (take e elements) w))
+    pub finish_last : n ≡ None → (a : Result Unit Refusal) → a ≡ verdict false → a ≡ verdict (rest_holds line r (take e elements) (end_of line (take e elements) w))
     finish_last h a ea = ea ∙ rw (end_is, h)
 
-    module _ (b : ℕ) (h : n ≡ At b) where
+    module _ (b : ℕ) (h : n ≡ Some b) where
       pub finish_ids : Finishing line r e elements w → Ids line ids
       finish_ids f = rw ei (f.ids_in_lem b (end_is ∙ h))
 
       module _ (d : Bool) (ed : d ≡ all_different (ids_at line ids)) where
-        pub finish_repeat : not d ≡ true → (a : Checked) → a ≡ verdict false → a ≡ verdict (rest_holds line r (take e elements) (end_of line (take e elements) w))
+        pub finish_repeat : not d ≡ true → (a : Result Unit Refusal) → a ≡ verdict false → a ≡ verdict (rest_holds line r (take e elements) (end_of line (take e elements) w))
         finish_repeat k a ea = ea ∙ rw (end_is, h, ← ei, ← ed, not-true d k)
 
         module _ (kd : not d ≡ false) (m : Bool) (em : m ≡ message_holds line b r.has_message r.common.message) where
-          pub finish_message : not m ≡ true → (a : Checked) → a ≡ verdict false → a ≡ verdict (rest_holds line r (take e elements) (end_of line (take e elements) w))
+          pub finish_message : not m ≡ true → (a : Result Unit Refusal) → a ≡ verdict false → a ≡ verdict (rest_holds line r (take e elements) (end_of line (take e elements) w))
           finish_message k a ea = ea ∙ rw (end_is, h, ← ei, ← ed, not-false d kd, ← em, not-true m k)
 
-          pub finish_yes : not m ≡ false → Yes ≡ verdict (rest_holds line r (take e elements) (end_of line (take e elements) w))
+          pub finish_yes : not m ≡ false → Ok tt ≡ verdict (rest_holds line r (take e elements) (end_of line (take e elements) w))
           finish_yes k = rw (end_is, h, ← ei, ← ed, not-false d kd, ← em, not-false m k)
 
 pub ruleset finish_laws = (finish_off, finish_count, finish_short, finish_message_in, finish_ids_suit, finish_opened, finish_last, finish_ids, finish_repeat, finish_message, finish_yes)

@@ -1,4 +1,5 @@
 -- The check in one walk over the parameters.
+use Rattle.std.specs.Prelude.{Unit, Option, Some, None, Result}
 use Prim.Native.Nat.{ℕ, zero, suc, ◌+◌, ◌-◌, ◌*◌, ◌≤◌, ◌<◌}
 use mathlib.Core.Path.{◌≡◌, refl, sym, ap, ◌∙◌}
 use mathlib.Core.Bool.{Bool, true, false, ◌&&◌}
@@ -22,9 +23,6 @@ use Rattle.suits.proofs.Rows.{row_step, rows_ended}
 use Rattle.suits.proofs.Suited.{record_in_lem}
 use Rattle.claims.specs.Claims.{pair_of, pairs, claim_in}
 use Rattle.claims.specs.Holds.{on_next, header_next, data_next, ids_at, message_holds, end_holds, holds}
-use Rattle.claims.specs.declared.Checked.{Checked}
-use Rattle.claims.specs.declared.Next.{Next}
-use Rattle.claims.specs.declared.Next.TheVariants.{Off, At}
 use Rattle.claims.proofs.Places.{here_as}
 use Rattle.claims.proofs.Tests.{on_next_lem, here_fits}
 use Rattle.claims.proofs.Rows.{data_step, element_size_lem}
@@ -35,6 +33,7 @@ use Rattle.claim_data.proofs.Walks.{id_in_lem}
 use Rattle.checker.specs.Steps.{walk_at, start_of, end_of, rest_holds, verdict, Counted, Starting, Turning, Finishing, Comparing, compared}
 use Rattle.checker.specs.declared.Walk.{Walk}
 use Rattle.checker.proofs.Lefts.{next_assoc, next_same, left_next, left_first, left_turn, left_end}
+use Rattle.record.specs.declared.Refusal.{Refusal}
 
 -- ---- the ids of elements that were found
 
@@ -65,7 +64,7 @@ data_long : (es : List Element) → Each ElementOk es → (3 * length es ≤ len
 data_long [] ok = (omega arith, omega arith)
 data_long (e ∷ es) ok = let l = elements_long (e ∷ es) ok in (l, omega arith)
 
-found_ids : (line : List ℕ) (ids params : List (List ℕ)) (at b : ℕ) → length line ≤ line_limit → elements_suit line ids ≡ true → data_next line at (pairs ids) params ≡ At b → Ids line ids
+found_ids : (line : List ℕ) (ids params : List (List ℕ)) (at b : ℕ) → length line ≤ line_limit → elements_suit line ids ≡ true → data_next line at (pairs ids) params ≡ Some b → Ids line ids
 found_ids line ids params at b short s h =
     let d = data_step line at (pairs ids) params b h in
     let es = told_elements line 0 (pairs ids) params in
@@ -87,7 +86,7 @@ found_ids line ids params at b short s h =
 -- ---- the walk
 
 module _ (line : List ℕ) (r : StrictRecord) (e p : ℕ) (elements params : List (List ℕ)) where
-  abbrev whole : Next
+  abbrev whole : Option ℕ
   whole = on_next (header_next line r) λ a. data_next line a (pairs (take e elements)) (take p params)
 
   -- what is left to check is what is left to say; or it is said
@@ -97,7 +96,7 @@ module _ (line : List ℕ) (r : StrictRecord) (e p : ℕ) (elements params : Lis
     pub suited : params_suit line e w.element (drop w.next (take p params)) ≡ true
     pub ahead : w.holds ≡ true → whole ≡ left_next line (take e elements) w.element w.at (drop w.next (take p params))
     pub ended : w.holds ≡ false → w.next ≡ p
-    pub said : w.holds ≡ false → whole ≡ Off
+    pub said : w.holds ≡ false → whole ≡ None
 
   module _ (c : Comparing line r e p elements params) where
     record Facts : Type 0 where
@@ -150,8 +149,8 @@ module _ (line : List ℕ) (r : StrictRecord) (e p : ℕ) (elements params : Lis
     pub walk_starts : (w : Walk) → w ≡ walk_at (start_of line r (take e elements)) 0 0 p → Walking w
     walk_starts w q = go (start_of line r (take e elements)) refl
       where
-        go : (x : Next) → start_of line r (take e elements) ≡ x → Walking w
-        go Off h = rw (q ∙ ap (λ (x : Next). walk_at x 0 0 p) h) (record {
+        go : (x : Option ℕ) → start_of line r (take e elements) ≡ x → Walking w
+        go None h = rw (q ∙ ap (λ (x : Option ℕ). walk_at x 0 0 p) h) (record {
           inside = omega arith;
           opened = omega arith;
           suited = nothing 0;
@@ -159,7 +158,7 @@ module _ (line : List ℕ) (r : StrictRecord) (e p : ℕ) (elements params : Lis
           ended = λ t. refl;
           said = λ t. from_start ∙ rw h;
         })
-        go (At b) h = rw (q ∙ ap (λ (x : Next). walk_at x 0 0 p) h) (record {
+        go (Some b) h = rw (q ∙ ap (λ (x : Option ℕ). walk_at x 0 0 p) h) (record {
           inside = omega arith;
           opened = omega arith;
           suited = facts.entries_suit;
@@ -209,8 +208,8 @@ module _ (line : List ℕ) (r : StrictRecord) (e p : ℕ) (elements params : Lis
           pub walk_steps : (v : Walk) → v ≡ walk_at (turn_next line w.at (take e elements) w.element (row_of x)) (w.next + 1) x.element p → Walking v
           walk_steps v q = go (turn_next line w.at (take e elements) w.element (row_of x)) refl
             where
-              go : (n : Next) → turn_next line w.at (take e elements) w.element (row_of x) ≡ n → Walking v
-              go Off z = rw (q ∙ ap (λ (n : Next). walk_at n (w.next + 1) x.element p) z) (record {
+              go : (n : Option ℕ) → turn_next line w.at (take e elements) w.element (row_of x) ≡ n → Walking v
+              go None z = rw (q ∙ ap (λ (n : Option ℕ). walk_at n (w.next + 1) x.element p) z) (record {
                 inside = omega arith;
                 opened = omega arith;
                 suited = nothing 0;
@@ -218,7 +217,7 @@ module _ (line : List ℕ) (r : StrictRecord) (e p : ℕ) (elements params : Lis
                 ended = λ t. refl;
                 said = λ t. goes_on_lem ∙ rw z;
               })
-              go (At b) z = rw (q ∙ ap (λ (n : Next). walk_at n (w.next + 1) x.element p) z) (record {
+              go (Some b) z = rw (q ∙ ap (λ (n : Option ℕ). walk_at n (w.next + 1) x.element p) z) (record {
                 inside = omega arith;
                 opened = omega (arith, numbers.1);
                 suited = (both (param_suits line e w.element (row_of x)) _ suits_on).1;
@@ -230,9 +229,9 @@ module _ (line : List ℕ) (r : StrictRecord) (e p : ℕ) (elements params : Lis
           pub walk_further : (v : Walk) → v ≡ walk_at (turn_next line w.at (take e elements) w.element (row_of x)) (w.next + 1) x.element p → w.next < v.next
           walk_further v q = go (turn_next line w.at (take e elements) w.element (row_of x)) refl
             where
-              go : (n : Next) → turn_next line w.at (take e elements) w.element (row_of x) ≡ n → w.next < v.next
-              go Off z = rw (q ∙ ap (λ (n : Next). walk_at n (w.next + 1) x.element p) z) h
-              go (At b) z = rw (q ∙ ap (λ (n : Next). walk_at n (w.next + 1) x.element p) z) (omega arith)
+              go : (n : Option ℕ) → turn_next line w.at (take e elements) w.element (row_of x) ≡ n → w.next < v.next
+              go None z = rw (q ∙ ap (λ (n : Option ℕ). walk_at n (w.next + 1) x.element p) z) h
+              go (Some b) z = rw (q ∙ ap (λ (n : Option ℕ). walk_at n (w.next + 1) x.element p) z) (omega arith)
 
       module _ (h : p ≤ w.next) where
         end_is : whole ≡ end_of line (take e elements) w
@@ -255,10 +254,10 @@ module _ (line : List ℕ) (r : StrictRecord) (e p : ℕ) (elements params : Lis
                   found_ids line (take e elements) (take p params) o.to b c.short facts.ids_suit o.second;
             }
 
-        pub walk_ends : (a : Checked) → a ≡ verdict (rest_holds line r (take e elements) (end_of line (take e elements) w)) → a ≡ compared line r e p elements params
+        pub walk_ends : (a : Result Unit Refusal) → a ≡ verdict (rest_holds line r (take e elements) (end_of line (take e elements) w)) → a ≡ compared line r e p elements params
         unfolding holds
         walk_ends a q = q ∙ ap verdict (ap (rest_holds line r (take e elements)) (sym end_is) ∙ same whole)
           where
-            same : (n : Next) → rest_holds line r (take e elements) n ≡ end_holds line (claim_in r e p elements params) n
-            same Off = refl
-            same (At b) = ap (λ (l : List (List ℕ)). all_different l && message_holds line b r.has_message r.common.message) (sym (pairs_ids line (take e elements)))
+            same : (n : Option ℕ) → rest_holds line r (take e elements) n ≡ end_holds line (claim_in r e p elements params) n
+            same None = refl
+            same (Some b) = ap (λ (l : List (List ℕ)). all_different l && message_holds line b r.has_message r.common.message) (sym (pairs_ids line (take e elements)))

@@ -10,12 +10,10 @@ ghost use Rattle.layout.specs.Layout.{strict_word_count, strict_size};
 ghost use Rattle.layout.specs.Incoming.{word_at};
 ghost use Rattle.suits.specs.Suits.{place_suits};
 ghost use Rattle.claims.specs.Claims.{Checks, checked_number};
-ghost use Rattle.claims.specs.declared.Checked.TheVariants as answer;
 ghost use Rattle.claim_data.specs.Walks.{turn_next};
 ghost use Rattle.checker.specs.Memory.{holds_strict, strict_at, first_refusal, ChecksBytes};
 ghost use Rattle.checker.specs.Steps.{walk_at, start_of, end_of, rest_holds, verdict, Starting, Turning, Finishing, Comparing, compared};
 
-use claims::{Checked, Next};
 use record::{Param, Place, Record, Refusal, StrictRecord};
 
 // How far the check is: the parameter that is next, the element that is open, where it goes on in the line, and whether all holds so far. Where it does not, no
@@ -28,10 +26,10 @@ struct Walk {
     holds: bool,
 }
 
-fn walk_at(n: Next, next: usize, element: usize, count: usize) -> Walk
+fn walk_at(n: Option<usize>, next: usize, element: usize, count: usize) -> Walk
     ensures { result ≡ walk_at n next element count }
 {
-    let Next::At(at) = n else {
+    let Some(at) = n else {
         return Walk {
             next: count,
             element: 0,
@@ -68,8 +66,8 @@ fn start(
     requires { Starting line.now r element_count elements.now }
     ensures { result ≡ walk_at (start_of line.now r (take element_count elements.now)) 0 0 param_count }
 {
-    let Next::At(a) = claim_header::header(line, r) else {
-        return walk_at(Next::Off, 0, 0, param_count);
+    let Some(a) = claim_header::header(line, r) else {
+        return walk_at(None, 0, 0, param_count);
     };
     let n = claim_data::first(line, a, counted(elements, element_count));
     walk_at(n, 0, 0, param_count)
@@ -92,10 +90,10 @@ fn turn(
     walk_at(n, w.next + 1, p.element, param_count)
 }
 
-fn wrong() -> Checked
+fn wrong() -> Result<(), Refusal>
     ensures { result ≡ verdict false }
 {
-    Checked::Refused(Refusal::WrongClaim)
+    Err(Refusal::WrongClaim)
 }
 
 // What is behind the parameters: the last elements, that no id occurs twice, and the message.
@@ -105,7 +103,7 @@ fn finish(
     element_count: usize,
     elements: &[[usize; 2]],
     w: Walk,
-) -> Checked
+) -> Result<(), Refusal>
     requires { Finishing line.now r element_count elements.now w }
     ensures { result ≡ verdict (rest_holds line.now r (take element_count elements.now) (end_of line.now (take element_count elements.now) w)) }
 {
@@ -113,7 +111,7 @@ fn finish(
         return wrong();
     }
     let ids = counted(elements, element_count);
-    let Next::At(b) = claim_data::last(line, w.at, ids, w.element) else {
+    let Some(b) = claim_data::last(line, w.at, ids, w.element) else {
         return wrong();
     };
     if !claim_data::ids_differ(line, ids) {
@@ -123,7 +121,7 @@ fn finish(
     if !claim_data::message_holds(line, b, r.has_message, message) {
         return wrong();
     }
-    Checked::Yes
+    Ok(())
 }
 
 // Whether the claim holds, of a record, counts and tables that suit the line. The numbers of the parameters' elements never fall, so one walk over the parameters opens
@@ -135,7 +133,7 @@ fn compare(
     param_count: usize,
     elements: &[[usize; 2]],
     params: &[Param],
-) -> Checked
+) -> Result<(), Refusal>
     requires { Comparing line.now r element_count param_count elements.now (rows params.now) }
     ensures { result ≡ compared line.now r element_count param_count elements.now (rows params.now) }
 {
@@ -155,16 +153,16 @@ fn is_long(n: usize) -> bool
     record::LINE_LIMIT < n
 }
 
-fn too_long() -> Checked
+fn too_long() -> Result<(), Refusal>
     ensures { result ≡ answer.Refused LineTooLong }
 {
-    Checked::Refused(Refusal::LineTooLong)
+    Err(Refusal::LineTooLong)
 }
 
-fn unsuitable() -> Checked
+fn unsuitable() -> Result<(), Refusal>
     ensures { result ≡ answer.Refused Unsuitable }
 {
-    Checked::Refused(Refusal::Unsuitable)
+    Err(Refusal::Unsuitable)
 }
 
 fn common_of(r: StrictRecord) -> Record
@@ -194,7 +192,7 @@ pub fn check(
     param_count: usize,
     elements: &[[usize; 2]],
     params: &[Param],
-) -> Checked
+) -> Result<(), Refusal>
     ensures { Checks line.now r element_count param_count elements.now (rows params.now) result }
 {
     let n = line.len();
@@ -265,12 +263,12 @@ fn strict_at(s: &[u8]) -> StrictRecord
 
 // ---- for the prover alone: `khamdoriem_check_claim` names the parameter table and so only calls
 
-fn number_of(a: Checked) -> u32
+fn number_of(a: Result<(), Refusal>) -> u32
     ensures { result ≡ checked_number a }
 {
     match a {
-        Checked::Yes => 0,
-        Checked::Refused(refusal) => record::refusal_number(refusal),
+        Ok(()) => 0,
+        Err(refusal) => record::refusal_number(refusal),
     }
 }
 

@@ -15,7 +15,7 @@ ghost use Rattle.claim_data.specs.Walks.{first_next, open_next, opens_next, turn
 ghost use Rattle.claim_data.specs.Ids.{Ids, Notable, Noted, Spacious};
 
 use base::is_at;
-use claims::{Next, byte_next};
+use claims::byte_next;
 use record::{Param, Span};
 
 // ---- names and values
@@ -94,7 +94,7 @@ fn value_holds(line: &[u8], at: usize, len: usize) -> bool
 // ---- entries
 
 // A parameter, whose space is at `at`.
-fn param(line: &[u8], at: usize, p: Param) -> Next
+fn param(line: &[u8], at: usize, p: Param) -> Option<usize>
     requires line_len_bound { length line.now ≤ line_limit }
     requires name_len_in_bounds { p.name_start + p.name_len ≤ length line.now }
     requires value_len_in_bounds { p.value_start + p.value_len ≤ length line.now }
@@ -103,71 +103,69 @@ fn param(line: &[u8], at: usize, p: Param) -> Next
     let n = p.name_len;
     let m = p.value_len;
     if !is_at(line, at, b' ') {
-        return Next::Off;
+        return None;
     }
     if p.name_start != at + 1 {
-        return Next::Off;
+        return None;
     }
     if p.value_start != at + n + 3 {
-        return Next::Off;
+        return None;
     }
     if !name_holds(line, at + 1, n) {
-        return Next::Off;
+        return None;
     }
     if !value_holds(line, at + n + 3, m) {
-        return Next::Off;
+        return None;
     }
-    Next::At(at + n + m + 4)
+    Some(at + n + m + 4)
 }
 
 // An element, whose `[` is at `at`: it goes on behind the id.
-fn id(line: &[u8], at: usize, row: [usize; 2]) -> Next
+fn id(line: &[u8], at: usize, row: [usize; 2]) -> Option<usize>
     requires line_len_bound { length line.now ≤ line_limit }
     requires row_in_bounds { get_or row 0 0 + get_or row 1 0 ≤ length line.now }
     ensures { result ≡ id_next line.now at (pair_of row) }
 {
     let n = row[1];
     if !is_at(line, at, b'[') {
-        return Next::Off;
+        return None;
     }
     if row[0] != at + 1 {
-        return Next::Off;
+        return None;
     }
     if !name_at(line, at + 1, n) {
-        return Next::Off;
+        return None;
     }
-    Next::At(at + n + 1)
+    Some(at + n + 1)
 }
 
 // ---- one entry after another
 
 // The first element, if there is one.
-pub fn first(line: &[u8], at: usize, ids: &[[usize; 2]]) -> Next
+pub fn first(line: &[u8], at: usize, ids: &[[usize; 2]]) -> Option<usize>
     requires line_len_bound { length line.now ≤ line_limit }
     requires ids_value { elements_suit line.now ids.now ≡ true }
     ensures { result ≡ first_next line.now at ids.now }
 {
     if ids.len() == 0 {
-        return Next::At(at);
+        return Some(at);
     }
     let row = ids[0];
     id(line, at, row)
 }
 
 // `]` and the next element.
-fn open(line: &[u8], at: usize, row: [usize; 2]) -> Next
+fn open(line: &[u8], at: usize, row: [usize; 2]) -> Option<usize>
     requires line_len_bound { length line.now ≤ line_limit }
     requires row_in_bounds { get_or row 0 0 + get_or row 1 0 ≤ length line.now }
     ensures { result ≡ open_next line.now at row }
 {
-    let Next::At(b) = byte_next(line, at, b']') else {
-        return Next::Off;
-    };
+    let b = byte_next(line, at, b']')?;
     id(line, b, row)
 }
 
 // From element `k`, which is open, to element `last`.
-fn opens(line: &[u8], at: usize, ids: &[[usize; 2]], k: usize, last: usize) -> Next
+fn opens(line: &[u8], at: usize, ids: &[[usize; 2]], k: usize, last: usize) -> Option<usize>
     requires line_len_bound { length line.now ≤ line_limit }
     requires ids_value { elements_suit line.now ids.now ≡ true }
     requires last_in_bounds { last < length ids.now }
@@ -179,16 +177,14 @@ fn opens(line: &[u8], at: usize, ids: &[[usize; 2]], k: usize, last: usize) -> N
     while j < last {
         j += 1;
         let row = ids[j];
-        let Next::At(b) = open(line, pos, row) else {
-            return Next::Off;
-        };
+        let b = open(line, pos, row)?;
         pos = b;
     }
-    Next::At(pos)
+    Some(pos)
 }
 
 // A parameter, where element `k` is open.
-pub fn turn(line: &[u8], at: usize, ids: &[[usize; 2]], k: usize, p: Param) -> Next
+pub fn turn(line: &[u8], at: usize, ids: &[[usize; 2]], k: usize, p: Param) -> Option<usize>
     requires line_len_bound { length line.now ≤ line_limit }
     requires ids_value { elements_suit line.now ids.now ≡ true }
     requires element_in_bounds { p.element < length ids.now }
@@ -197,14 +193,12 @@ pub fn turn(line: &[u8], at: usize, ids: &[[usize; 2]], k: usize, p: Param) -> N
     requires value_len_in_bounds { p.value_start + p.value_len ≤ length line.now }
     ensures { result ≡ turn_next line.now at ids.now k (row_of p) }
 {
-    let Next::At(b) = opens(line, at, ids, k, p.element) else {
-        return Next::Off;
-    };
+    let b = opens(line, at, ids, k, p.element)?;
     param(line, b, p)
 }
 
 // What is behind the last parameter, where element `k` is open.
-pub fn last(line: &[u8], at: usize, ids: &[[usize; 2]], k: usize) -> Next
+pub fn last(line: &[u8], at: usize, ids: &[[usize; 2]], k: usize) -> Option<usize>
     requires line_len_bound { length line.now ≤ line_limit }
     requires ids_value { elements_suit line.now ids.now ≡ true }
     requires k_in_bounds { k ≤ length ids.now - 1 }
@@ -213,9 +207,7 @@ pub fn last(line: &[u8], at: usize, ids: &[[usize; 2]], k: usize) -> Next
     if ids.len() == 0 {
         return byte_next(line, at, b'-');
     }
-    let Next::At(b) = opens(line, at, ids, k, ids.len() - 1) else {
-        return Next::Off;
-    };
+    let b = opens(line, at, ids, k, ids.len() - 1)?;
     byte_next(line, b, b']')
 }
 

@@ -1,4 +1,5 @@
 -- The answers: refusals in their order, and the numbers.
+use Rattle.std.specs.Prelude.{Result, Ok, Err}
 use Prim.Native.Nat.{ℕ}
 use mathlib.Core.Path.{◌≡◌, refl, ap, ap₂, ◌∙◌}
 use mathlib.Core.Bool.{Bool, false, ◌&&◌}
@@ -24,40 +25,40 @@ use Rattle.compare.specs.declared.Compared.TheVariants.{Refused, Done}
 
 -- ---- refusals
 
-module _ (r : Reading) where
-  pub second_read : (x : Record) (e p : ℕ) → r ≡ loose.Read x e p → Done nothing ≡ second_of r nothing
+module _ (r : Result Reading Refusal) where
+  pub second_read : (x : Record) (e p : ℕ) → r ≡ Ok (loose.Read x e p) → Done nothing ≡ second_of r nothing
   second_read x e p q = rw q refl
 
-  pub second_whole : (x : Record) → r ≡ loose.Whole x → Refused 2 NoReading ≡ second_of r nothing
+  pub second_whole : (x : Record) → r ≡ Ok (loose.Whole x) → Refused 2 NoReading ≡ second_of r nothing
   second_whole x q = rw q refl
 
-  pub second_refused : (f : Refusal) → r ≡ loose.Refused f → Refused 2 f ≡ second_of r nothing
+  pub second_refused : (f : Refusal) → r ≡ Err f → Refused 2 f ≡ second_of r nothing
   second_refused f q = rw q refl
 
-  module _ (s : Reading) where
-    pub first_read : (x : Record) (e p : ℕ) → r ≡ loose.Read x e p → (c : Compared) → c ≡ second_of s nothing → c ≡ compared_of r s nothing
+  module _ (s : Result Reading Refusal) where
+    pub first_read : (x : Record) (e p : ℕ) → r ≡ Ok (loose.Read x e p) → (c : Compared) → c ≡ second_of s nothing → c ≡ compared_of r s nothing
     first_read x e p q c h = rw q h
 
-    pub first_whole : (x : Record) → r ≡ loose.Whole x → Refused 1 NoReading ≡ compared_of r s nothing
+    pub first_whole : (x : Record) → r ≡ Ok (loose.Whole x) → Refused 1 NoReading ≡ compared_of r s nothing
     first_whole x q = rw q refl
 
-    pub first_refused : (f : Refusal) → r ≡ loose.Refused f → Refused 1 f ≡ compared_of r s nothing
+    pub first_refused : (f : Refusal) → r ≡ Err f → Refused 1 f ≡ compared_of r s nothing
     first_refused f q = rw q refl
 
 pub ruleset refusal_laws = (second_read, second_whole, second_refused, first_read, first_whole, first_refused)
 
 -- ---- what was judged
 
-module _ (a b : Judged) (x y : Reading) (ex : x ≡ reading_of a) (ey : y ≡ reading_of b) where
+module _ (a b : Judged) (x y : Result Reading Refusal) (ex : x ≡ reading_of a) (ey : y ≡ reading_of b) where
   pub both_are : (s t : Bool) → s ≡ is_read x → t ≡ is_read y → (s && t) ≡ (is_read (reading_of a) && is_read (reading_of b))
   both_are s t es et = ap₂ ◌&&◌ (es ∙ ap is_read ex) (et ∙ ap is_read ey)
 
   pub refused_is : (c : Compared) → c ≡ compared_of x y nothing → c ≡ compared_of (reading_of a) (reading_of b) nothing
-  refused_is c e = e ∙ ap₂ (λ (u v : Reading). compared_of u v nothing) ex ey
+  refused_is c e = e ∙ ap₂ (λ (u v : Result Reading Refusal). compared_of u v nothing) ex ey
 
 pub ruleset judged_laws = (both_are, refused_is)
 
-pub line_settled : (j : Judged) (x : Reading) → j ≡ Settled x → (r : Record) → r ≡ empty_record → record { read = r; end = 0; ids = 0; params = 0 } ≡ line_of j
+pub line_settled : (j : Judged) (x : Result Reading Refusal) → j ≡ Settled x → (r : Record) → r ≡ empty_record → record { read = r; end = 0; ids = 0; params = 0 } ≡ line_of j
 line_settled j x q r e = rw (q, e) refl
 
 pub line_fitting : (j : Judged) (rules : Rules) (r : Record) (end at n m : ℕ) → j ≡ Fitting rules end r at n m → record { read = r; end = end; ids = n; params = m } ≡ line_of j
@@ -80,16 +81,16 @@ pub ruleset number_laws = (number_refused, number_done)
 -- ---- a refusal does not depend on what differs, and leaves the tables
 
 module _ (d e : Differences) where
-  pub refused_any : (x y : Reading) → (is_read x && is_read y) ≡ false → compared_of x y d ≡ compared_of x y e
-  refused_any (loose.Refused f) y h = refl
-  refused_any (loose.Whole r) y h = refl
-  refused_any (loose.Read r m n) (loose.Refused f) h = refl
-  refused_any (loose.Read r m n) (loose.Whole s) h = refl
-  refused_any (loose.Read r m n) (loose.Read s k l) h = clash h
+  pub refused_any : (x y : Result Reading Refusal) → (is_read x && is_read y) ≡ false → compared_of x y d ≡ compared_of x y e
+  refused_any (Err f) y h = refl
+  refused_any (Ok (loose.Whole r)) y h = refl
+  refused_any (Ok (loose.Read r m n)) (Err f) h = refl
+  refused_any (Ok (loose.Read r m n)) (Ok (loose.Whole s)) h = refl
+  refused_any (Ok (loose.Read r m n)) (Ok (loose.Read s k l)) h = clash h
 
-  pub refused_keeps : (x y : Reading) → (is_read x && is_read y) ≡ false → (rows old : List (List ℕ)) → old ≡ table_after (compared_of x y d) rows old
-  refused_keeps (loose.Refused f) y h rows old = refl
-  refused_keeps (loose.Whole r) y h rows old = refl
-  refused_keeps (loose.Read r m n) (loose.Refused f) h rows old = refl
-  refused_keeps (loose.Read r m n) (loose.Whole s) h rows old = refl
-  refused_keeps (loose.Read r m n) (loose.Read s k l) h rows old = clash h
+  pub refused_keeps : (x y : Result Reading Refusal) → (is_read x && is_read y) ≡ false → (rows old : List (List ℕ)) → old ≡ table_after (compared_of x y d) rows old
+  refused_keeps (Err f) y h rows old = refl
+  refused_keeps (Ok (loose.Whole r)) y h rows old = refl
+  refused_keeps (Ok (loose.Read r m n)) (Err f) h rows old = refl
+  refused_keeps (Ok (loose.Read r m n)) (Ok (loose.Whole s)) h rows old = refl
+  refused_keeps (Ok (loose.Read r m n)) (Ok (loose.Read s k l)) h rows old = clash h

@@ -20,39 +20,39 @@ pub enum Compared {
     Done(Differences),
 }
 
-fn is_read(r: Reading) -> bool
+fn is_read(r: Result<Reading, Refusal>) -> bool
     ensures { result ≡ is_read r }
 {
     match r {
-        Reading::Read(_, _, _) => true,
-        Reading::Whole(_) => false,
-        Reading::Refused(_) => false,
+        Ok(Reading::Read(_, _, _)) => true,
+        Ok(Reading::Whole(_)) => false,
+        Err(_) => false,
     }
 }
 
 // The second line's refusal, where the first line has none; 4 where the line has no reading.
-fn second_refused(r: Reading) -> Compared
+fn second_refused(r: Result<Reading, Refusal>) -> Compared
     ensures { result ≡ second_of r nothing }
 {
     match r {
-        Reading::Read(_, _, _) => Compared::Done(Differences {
+        Ok(Reading::Read(_, _, _)) => Compared::Done(Differences {
             fields: 0,
             position: 0,
             pair_line: 0,
             pair_entry: 0,
         }),
-        Reading::Whole(_) => Compared::Refused(2, Refusal::NoReading),
-        Reading::Refused(refusal) => Compared::Refused(2, refusal),
+        Ok(Reading::Whole(_)) => Compared::Refused(2, Refusal::NoReading),
+        Err(refusal) => Compared::Refused(2, refusal),
     }
 }
 
-fn first_refused(r: Reading, second: Reading) -> Compared
+fn first_refused(r: Result<Reading, Refusal>, second: Result<Reading, Refusal>) -> Compared
     ensures { result ≡ compared_of r second nothing }
 {
     match r {
-        Reading::Read(_, _, _) => second_refused(second),
-        Reading::Whole(_) => Compared::Refused(1, Refusal::NoReading),
-        Reading::Refused(refusal) => Compared::Refused(1, refusal),
+        Ok(Reading::Read(_, _, _)) => second_refused(second),
+        Ok(Reading::Whole(_)) => Compared::Refused(1, Refusal::NoReading),
+        Err(refusal) => Compared::Refused(1, refusal),
     }
 }
 

@@ -13,7 +13,7 @@ use differ::Differences;
 use frames::{Options, State, Task};
 use program::{Process, Status, Takes};
 use record::{Param, Refusal};
-use settings::{Settings, SettingsRead};
+use settings::Settings;
 
 // Where the program stands: with the frames of its input; whether the first line of a pair is there, and the second; and how many bytes of its buffer each is.
 #[derive(Clone, Copy)]
@@ -602,12 +602,12 @@ fn report(process: &mut Process, n: usize, refusal: Refusal) {
 }
 
 // The settings record in front of standard input, and how the lines behind it are read.
-fn settings_in_front(process: &mut Process) -> SettingsRead {
+fn settings_in_front(process: &mut Process) -> Result<Settings, Refusal> {
     let mut record = [0u8; 32];
     let n = program::read_full(process, &mut record);
     let gate = gate_of(&record);
     let read = settings::read(&record[0..n], gate);
-    let SettingsRead::Refused(refusal) = read else {
+    let Err(refusal) = read else {
         return read;
     };
     report(process, n, refusal);
@@ -651,7 +651,7 @@ pub fn compare_input(
     if let Some(status) = program::starts(process, a, b"compare", &usage, &help) {
         return status;
     }
-    let SettingsRead::Read(s) = settings_in_front(process) else {
+    let Ok(s) = settings_in_front(process) else {
         return program::end(process, b"compare", false);
     };
     let ok = run(process, line1, line2, chunk, elements1, elements2, s);

@@ -1,11 +1,9 @@
 -- RULES Cases 1 to 9 as one table, and what each says of the definitions of loose reading, printing and the grammar.
-use Rattle.std.specs.Prelude.{ℕ, ◌≡◌, List, [], ◌∷◌, take, pos, if◌then◌else◌}
+use Rattle.std.specs.Prelude.{ℕ, ◌≡◌, List, [], ◌∷◌, take, pos, if◌then◌else◌, Some, None}
 use Prim.Native.String.{String}
 use Rattle.std.proofs.Math.Option.{Option, none, some}
 use Rattle.base.specs.Bytes.{bytes}
 use Rattle.base.specs.Texts.{text_at}
-use Rattle.record.specs.declared.Level.{Level}
-use Rattle.record.specs.declared.Level.TheVariants.{Unset, Set}
 use Rattle.record.specs.declared.Place.{Place}
 use Rattle.pri.specs.Pri.{pri_at}
 use Rattle.structured_data.specs.declared.Rules.TheVariants.{Rfc5424Rules}
@@ -21,8 +19,8 @@ use Rattle.grammar.specs.Line.{Division, timestamp_then, data_then, Each, Derive
 
 -- a loose line: facility, severity, host, app name, the elements as the line has them, the message
 pub record Loose : Type 0 where
-  pub facility : Level
-  pub severity : Level
+  pub facility : Option ℕ
+  pub severity : Option ℕ
   pub host : Option (List ℕ)
   pub app : Option (List ℕ)
   pub elements : List ℕ
@@ -74,7 +72,7 @@ pub record Divides (line : List ℕ) (texts : Strict) : Type 0 where
 -- A loose line is read by variant 1 (RFC 3164) or 2 (RFC 5424), in the year 2023 at +60.
 pub data Case : Type 0 where
   -- the priority in front of a text: how many bytes it takes, facility, severity
-  priority : List ℕ → ℕ → Level → Level → Case
+  priority : List ℕ → ℕ → Option ℕ → Option ℕ → Case
   -- what is skipped in front of a text as an element of RFC 5424 that fails
   skips : List ℕ → List ℕ → Case
   -- the reading of a line; none: there is no reading
@@ -102,7 +100,7 @@ abbrev texts : Option String → Option (List ℕ)
 texts none = none
 texts (some t) = some (bytes t)
 
-abbrev reads : Level → Level → (host app : Option String) → (elements message : String) → Option Loose
+abbrev reads : Option ℕ → Option ℕ → (host app : Option String) → (elements message : String) → Option Loose
 reads f s h a e m = some (record { facility = f; severity = s; host = texts h; app = texts a; elements = bytes e; message = bytes m })
 
 abbrev divides : (timestamp host structured : String) → Option Strict
@@ -111,30 +109,30 @@ divides t h d = some (record { timestamp = bytes t; host = bytes h; structured =
 unfoldable pub table : List (List Case)
 table =
     -- `<191>` facility 23, severity 7; `<192>` absent, 0; `<256>` not consumed
-    (priority (bytes "<191>") 5 (Set 23) (Set 7)
-    ∷ priority (bytes "<192>") 5 Unset (Set 0)
-    ∷ priority (bytes "<256>") 0 Unset Unset
-    ∷ loose 1 (bytes "<191>Feb 5 10:01:02 h t: m") (reads (Set 23) (Set 7) (some "h") (some "t") "" "m")
-    ∷ loose 1 (bytes "<192>Feb 5 10:01:02 h t: m") (reads Unset (Set 0) (some "h") (some "t") "" "m")
+    (priority (bytes "<191>") 5 (Some 23) (Some 7)
+    ∷ priority (bytes "<192>") 5 None (Some 0)
+    ∷ priority (bytes "<256>") 0 None None
+    ∷ loose 1 (bytes "<191>Feb 5 10:01:02 h t: m") (reads (Some 23) (Some 7) (some "h") (some "t") "" "m")
+    ∷ loose 1 (bytes "<192>Feb 5 10:01:02 h t: m") (reads None (Some 0) (some "h") (some "t") "" "m")
     ∷ loose 1 (bytes "<256>Feb 5 10:01:02 h t: m") none
     ∷ [])
     -- `[id a="x]y" b]` in RFC 5424: skip takes `[id a="x]`, message `y" b]`
     ∷ (skips (bytes "[id a=\"x]y\" b]") (bytes "[id a=\"x]")
-    ∷ loose 2 (bytes "<13>1 - h a p m [id a=\"x]y\" b]") (reads (Set 1) (Set 5) (some "h") (some "a") "" "y\" b]")
+    ∷ loose 2 (bytes "<13>1 - h a p m [id a=\"x]y\" b]") (reads (Some 1) (Some 5) (some "h") (some "a") "" "y\" b]")
     ∷ [])
     -- RFC 3164 `[x]` stays in the message
-    ∷ (loose 1 (bytes "<13>Feb 5 10:01:02 h t: [x]") (reads (Set 1) (Set 5) (some "h") (some "t") "" "[x]") ∷ [])
+    ∷ (loose 1 (bytes "<13>Feb 5 10:01:02 h t: [x]") (reads (Some 1) (Some 5) (some "h") (some "t") "" "[x]") ∷ [])
     -- RFC 3164 message texts `-5 ms` and `- ok` keep the hyphen
-    ∷ (loose 1 (bytes "<13>Feb 5 10:01:02 h t: -5 ms") (reads (Set 1) (Set 5) (some "h") (some "t") "" "-5 ms")
-    ∷ loose 1 (bytes "<13>Feb 5 10:01:02 h t: - ok") (reads (Set 1) (Set 5) (some "h") (some "t") "" "- ok")
+    ∷ (loose 1 (bytes "<13>Feb 5 10:01:02 h t: -5 ms") (reads (Some 1) (Some 5) (some "h") (some "t") "" "-5 ms")
+    ∷ loose 1 (bytes "<13>Feb 5 10:01:02 h t: - ok") (reads (Some 1) (Some 5) (some "h") (some "t") "" "- ok")
     ∷ [])
     -- host `gate7`, tag `-`: both absent
-    ∷ (loose 1 (bytes "<13>Feb 5 10:01:02 gate7 - m") (reads (Set 1) (Set 5) none none "" "m") ∷ [])
+    ∷ (loose 1 (bytes "<13>Feb 5 10:01:02 gate7 - m") (reads (Some 1) (Some 5) none none "" "m") ∷ [])
     -- at +60, `Feb 5 2023 10:01:02` prints 11:01:02+01:00
     ∷ (prints 1 (bytes "<13>Feb 5 2023 10:01:02 h t: m") (bytes "<13> 2023-02-05T11:01:02+01:00 h t: m") ∷ [])
     -- strict refuses `[id a="x]y"]`, the loose reader takes it
     ∷ (strict (bytes "<13>1 - h a p m [id a=\"x]y\"]") none
-    ∷ loose 2 (bytes "<13>1 - h a p m [id a=\"x]y\"]") (reads (Set 1) (Set 5) (some "h") (some "a") "[id a=\"x]y\"]" "")
+    ∷ loose 2 (bytes "<13>1 - h a p m [id a=\"x]y\"]") (reads (Some 1) (Some 5) (some "h") (some "a") "[id a=\"x]y\"]" "")
     ∷ [])
     -- strict takes host `h:`; loose RFC 5424 has no reading
     ∷ (strict (bytes "<13>1 - h: a p m - m") (divides "-" "h:" "-") ∷ loose 2 (bytes "<13>1 - h: a p m - m") none ∷ [])
@@ -142,7 +140,7 @@ table =
     ∷ (strict (bytes "<13>1 2023-02-29T10:01:02Z h a p m - m") none
     ∷ strict (bytes "<13>1 2024-02-29T10:01:02Z h a p m - m") (divides "2024-02-29T10:01:02Z" "h" "-")
     ∷ loose 2 (bytes "<13>1 2023-02-29T10:01:02Z h a p m - m") none
-    ∷ loose 2 (bytes "<13>1 2024-02-29T10:01:02Z h a p m - m") (reads (Set 1) (Set 5) (some "h") (some "a") "" "m")
+    ∷ loose 2 (bytes "<13>1 2024-02-29T10:01:02Z h a p m - m") (reads (Some 1) (Some 5) (some "h") (some "a") "" "m")
     ∷ [])
     ∷ []
 

@@ -1,4 +1,5 @@
 -- The fields: what each comparison answers, and their marks.
+use Rattle.std.specs.Prelude.{Option, Some}
 use Prim.Native.Nat.compare
 use Prim.Native.Nat.{ℕ, suc, ◌+◌, ◌-◌, ◌*◌}
 use mathlib.Core.Path.{◌≡◌, refl, ap, ap₂, ◌∙◌}
@@ -17,13 +18,9 @@ use Rattle.base.specs.Diff.{diff_of}
 use Rattle.base.specs.declared.Diff.{Diff}
 use Rattle.base.proofs.Tests.{clash, both}
 use Rattle.base.proofs.Texts.{part_text_lem}
-use Rattle.record.specs.declared.Level.{Level}
-use Rattle.record.specs.declared.Level.TheVariants.{Set}
 use Rattle.record.specs.declared.Place.{Place}
 use Rattle.record.specs.declared.Protocol.{Protocol}
 use Rattle.record.specs.declared.Protocol.TheVariants.{Rfc5424}
-use Rattle.record.specs.declared.Stamp.{Stamp}
-use Rattle.record.specs.declared.Stamp.TheVariants.{Stamped}
 use Rattle.record.specs.declared.Timestamp.{Timestamp}
 use Rattle.record.specs.declared.Record.{Record}
 use Rattle.differ.specs.Seen.{text_of, time_of}
@@ -38,16 +35,16 @@ version_is v p w e = rw e refl
 pub protocol_is : (a b : Protocol) (v : ℕ) → a ≡ Rfc5424 v → (r : Bool) → r ≡ same_protocol (Rfc5424 v) b → r ≡ same_protocol a b
 protocol_is a b v e r q = rw e q
 
-pub set_is : (n : ℕ) (l : Level) (m : ℕ) → l ≡ Set m → eqb n m ≡ same_level (Set n) l
+pub set_is : (n : ℕ) (l : Option ℕ) (m : ℕ) → l ≡ Some m → eqb n m ≡ same_level (Some n) l
 set_is n l m e = rw e refl
 
-pub level_is : (a b : Level) (n : ℕ) → a ≡ Set n → (r : Bool) → r ≡ same_level (Set n) b → r ≡ same_level a b
+pub level_is : (a b : Option ℕ) (n : ℕ) → a ≡ Some n → (r : Bool) → r ≡ same_level (Some n) b → r ≡ same_level a b
 level_is a b n e r q = rw e q
 
-pub stamped_is : (t : Timestamp) (s : Stamp) (u : Timestamp) → s ≡ Stamped u → (r : Bool) → r ≡ same_time (time_of (Stamped t)) (time_of (Stamped u)) → r ≡ same_time (time_of (Stamped t)) (time_of s)
+pub stamped_is : (t : Timestamp) (s : Option Timestamp) (u : Timestamp) → s ≡ Some u → (r : Bool) → r ≡ same_time (time_of (Some t)) (time_of (Some u)) → r ≡ same_time (time_of (Some t)) (time_of s)
 stamped_is t s u e r q = rw e q
 
-pub stamp_is : (a b : Stamp) (t : Timestamp) → a ≡ Stamped t → (r : Bool) → r ≡ same_time (time_of (Stamped t)) (time_of b) → r ≡ same_time (time_of a) (time_of b)
+pub stamp_is : (a b : Option Timestamp) (t : Timestamp) → a ≡ Some t → (r : Bool) → r ≡ same_time (time_of (Some t)) (time_of b) → r ≡ same_time (time_of a) (time_of b)
 stamp_is a b t e r q = rw e q
 
 pub ruleset enum_laws = (version_is, protocol_is, set_is, level_is, stamped_is, stamp_is)
@@ -72,7 +69,7 @@ module _ (t u : Timestamp) (ft : SFits w64 t.seconds) (fu : SFits w64 u.seconds)
     (r : Bool) (er : r ≡ same_signed (to_z w64 (of_z w64 t.seconds)) (to_z w64 (of_z w64 u.seconds)))
     (a b : ℤ) (fa : SFits w64 a) (fb : SFits w64 b) (ea : a ≡ to_z w32 (of_z w32 t.offset)) (eb : b ≡ to_z w32 (of_z w32 u.offset))
     (q : Bool) (eq : q ≡ same_signed (to_z w64 (of_z w64 a)) (to_z w64 (of_z w64 b))) where
-  pub time_is : ((r && eqb t.nanos u.nanos) && q) ≡ same_time (time_of (Stamped t)) (time_of (Stamped u))
+  pub time_is : ((r && eqb t.nanos u.nanos) && q) ≡ same_time (time_of (Some t)) (time_of (Some u))
   time_is =
       ap₂ (λ (x y : Bool). (x && eqb t.nanos u.nanos) && y)
       (er ∙ ap₂ same_signed (to_z-of_z w64 t.seconds ft) (to_z-of_z w64 u.seconds fu))

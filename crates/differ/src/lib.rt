@@ -5,14 +5,12 @@ ghost use Rattle.std.specs.Prelude.{◌≡◌, [], map, leb, ◌+◌, ◌≤◌,
 ghost use Rattle.keyed.specs.Notes.{Listed};
 ghost use Rattle.base.specs.Texts.{text_at, same_text};
 ghost use Rattle.record.specs.declared.Protocol.TheVariants.{Rfc3164, Rfc5424};
-ghost use Rattle.record.specs.declared.Level.TheVariants.{Unset, Set};
-ghost use Rattle.record.specs.declared.Stamp.TheVariants.{Unstamped, Stamped};
 ghost use Rattle.differ.specs.Seen.{text_of, time_of, id_of};
 ghost use Rattle.differ.specs.Differences.{same_protocol, same_level, same_signed, same_time, same_given};
 ghost use Rattle.differ.specs.Steps.{same_eight, mark_of, Marks, level_marks, head_marks, text_marks, message_mark, RecordIn, IdIn, common_ids, pair_part, part_of, part_from, seen_by, Readable, Differs};
 
 use pairs::Odd;
-use record::{Level, Place, Protocol, Record, Stamp, Timestamp};
+use record::{Place, Protocol, Record, Timestamp};
 
 // Which of the ten fields differ: bit k of `fields` is the k-th. Where the elements do, the first position that differs and, where both lines have one id there,
 // the line (1 or 2; else 0) and the entry of its parameter table whose pair does not occur as often in the other.
@@ -53,30 +51,30 @@ fn same_protocol(a: Protocol, b: Protocol) -> bool
     }
 }
 
-fn is_unset(l: Level) -> bool
+fn is_unset(l: Option<u8>) -> bool
     ensures { result ≡ same_level Unset l }
 {
     match l {
-        Level::Unset => true,
-        Level::Set(_) => false,
+        None => true,
+        Some(_) => false,
     }
 }
 
-fn is_set(n: u8, l: Level) -> bool
+fn is_set(n: u8, l: Option<u8>) -> bool
     ensures { result ≡ same_level (Set n) l }
 {
     match l {
-        Level::Unset => false,
-        Level::Set(m) => n == m,
+        None => false,
+        Some(m) => n == m,
     }
 }
 
-fn same_level(a: Level, b: Level) -> bool
+fn same_level(a: Option<u8>, b: Option<u8>) -> bool
     ensures { result ≡ same_level a b }
 {
     match a {
-        Level::Unset => is_unset(b),
-        Level::Set(n) => is_set(n, b),
+        None => is_unset(b),
+        Some(n) => is_set(n, b),
     }
 }
 
@@ -98,30 +96,30 @@ fn same_time(t: Timestamp, u: Timestamp) -> bool
     instant & same_signed(a, b)
 }
 
-fn is_unstamped(s: Stamp) -> bool
+fn is_unstamped(s: Option<Timestamp>) -> bool
     ensures { result ≡ same_time (time_of Unstamped) (time_of s) }
 {
     match s {
-        Stamp::Unstamped => true,
-        Stamp::Stamped(_) => false,
+        None => true,
+        Some(_) => false,
     }
 }
 
-fn is_stamped(t: Timestamp, s: Stamp) -> bool
+fn is_stamped(t: Timestamp, s: Option<Timestamp>) -> bool
     ensures { result ≡ same_time (time_of (Stamped t)) (time_of s) }
 {
     match s {
-        Stamp::Unstamped => false,
-        Stamp::Stamped(u) => same_time(t, u),
+        None => false,
+        Some(u) => same_time(t, u),
     }
 }
 
-fn same_stamp(a: Stamp, b: Stamp) -> bool
+fn same_stamp(a: Option<Timestamp>, b: Option<Timestamp>) -> bool
     ensures { result ≡ same_time (time_of a) (time_of b) }
 {
     match a {
-        Stamp::Unstamped => is_unstamped(b),
-        Stamp::Stamped(t) => is_stamped(t, b),
+        None => is_unstamped(b),
+        Some(t) => is_stamped(t, b),
     }
 }
 

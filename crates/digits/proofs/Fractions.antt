@@ -1,4 +1,5 @@
 -- `fractionAt`: what it answers, on which text, and a fraction in nanoseconds.
+use Rattle.std.specs.Prelude.{◌×◌, Option, Some, None}
 use Prim.Native.Nat.{ℕ, zero, suc, ◌+◌, ◌-◌, ◌*◌, ◌^◌, ◌≤◌, ◌<◌}
 use mathlib.Core.Path.{◌≡◌, refl, sym, ap, ◌∙◌}
 use mathlib.Core.Bool.{false, ◌&&◌, and-false}
@@ -16,8 +17,6 @@ use Rattle.base.specs.Runs.{All}
 use Rattle.base.proofs.Tests.{both, by_test}
 use Rattle.base.proofs.Runs.{run_le, run_text}
 use Rattle.digits.specs.Digits.{is_digit, digit_run, decimal, number_at, fraction_at}
-use Rattle.digits.specs.declared.Number.{Number}
-use Rattle.digits.specs.declared.Number.TheVariants.{Nothing, Value}
 use Rattle.digits.proofs.Choices.{chosen, not_chosen}
 use Rattle.digits.proofs.Decimals.{decimal_front_lt}
 use Rattle.digits.proofs.Numbers.{IsNumber, number_is}
@@ -74,7 +73,7 @@ pub record IsFraction (most : ℕ) (s : List ℕ) (v n : ℕ) : Type 0 where
   pub some : 1 ≤ n
   pub few : n ≤ most
 
-module _ (most : ℕ) (s : List ℕ) (v n : ℕ) (e : fraction_at most s ≡ Value v n) where
+module _ (most : ℕ) (s : List ℕ) (v n : ℕ) (e : fraction_at most s ≡ Some (v, n)) where
   pub fraction_is : IsFraction most s v n
   unfolding fraction_at
   fraction_is =
@@ -96,13 +95,13 @@ module _ (most : ℕ) (s : List ℕ) (v n : ℕ) (e : fraction_at most s ≡ Val
 
 -- digits, and after them a byte that is none
 pub fraction_text_lem : (most : ℕ) (t r : List ℕ) → All is_digit t → 1 ≤ length t → length t ≤ most → digit_run r ≡ 0
-    → fraction_at most (t ++ r) ≡ Value (decimal t * 10 ^ (9 - length t)) (length t)
+    → fraction_at most (t ++ r) ≡ Some (decimal t * 10 ^ (9 - length t), length t)
 unfolding fraction_at
 fraction_text_lem most t r a h g z = rw (run_text is_digit t r a z, take-append_seam t r, le-leb 1 (length t) h, le-leb (length t) most g)
 
 -- a number of nine digits at most is read, and then counted
-module _ (most : ℕ) (s : List ℕ) (h : most ≤ 9) (f : Number) (ef : f ≡ number_at 999999999 s) where
-  pub fraction_none : f ≡ Nothing → Nothing ≡ fraction_at most s
+module _ (most : ℕ) (s : List ℕ) (h : most ≤ 9) (f : Option (ℕ × ℕ)) (ef : f ≡ number_at 999999999 s) where
+  pub fraction_none : f ≡ None → None ≡ fraction_at most s
   unfolding number_at fraction_at
   fraction_none e = rw (few (digit_run s) (decimal_front_lt s (digit_run s) (omega arith)) (not_chosen _ _ _ (sym ef ∙ e)))
     where
@@ -113,11 +112,11 @@ module _ (most : ℕ) (s : List ℕ) (h : most ≤ 9) (f : Number) (ef : f ≡ n
           rw (le-leb (decimal (take k s)) 999999999 (omega arith)) at t)
           (λ m. and-false (leb 1 k))
 
-  module _ (v n : ℕ) (ev : f ≡ Value v n) where
+  module _ (v n : ℕ) (ev : f ≡ Some (v, n)) where
     is : IsNumber 999999999 s v n
     is = number_is 999999999 s v n (sym ef ∙ ev)
 
-    pub fraction_many : most < n → Nothing ≡ fraction_at most s
+    pub fraction_many : most < n → None ≡ fraction_at most s
     unfolding fraction_at
     fraction_many l = rw (← is.whole, lt-leb n most l, and-false)
 
@@ -125,7 +124,7 @@ module _ (most : ℕ) (s : List ℕ) (h : most ≤ 9) (f : Number) (ef : f ≡ n
       pub fraction_small : v < 10 ^ n
       fraction_small = rw is.value (decimal_front_lt s n (omega (arith, is.whole)))
 
-      pub fraction_value : (w : ℕ) → w ≡ v * 10 ^ (9 - n) → Value w n ≡ fraction_at most s
+      pub fraction_value : (w : ℕ) → w ≡ v * 10 ^ (9 - n) → Some (w, n) ≡ fraction_at most s
       unfolding fraction_at
       fraction_value w e = rw (← is.whole, ← is.value, le-leb n most l, le-leb 1 n is.some, e)
 

@@ -4,13 +4,6 @@
 ghost use Rattle.std.specs.Prelude.{◌≡◌, true, ◌-◌, ◌*◌, ◌^◌, ◌≤◌, ◌<◌, leb, if◌then◌else◌};
 ghost use Rattle.digits.specs.Digits.{is_digit, number_at, fixed_at, fraction_at};
 
-// A number, and how many digits were read for it.
-#[derive(Clone, Copy)]
-pub enum Number {
-    Nothing,
-    Value { value: u32, len: usize },
-}
-
 fn is_digit(b: u8) -> bool
     ensures { result ≡ is_digit b }
 {
@@ -27,17 +20,17 @@ fn digit_value(b: u8) -> u32
 }
 
 // What `len` digits that write `value` answer.
-fn written(value: u32, len: usize) -> Number
+fn written(value: u32, len: usize) -> Option<(u32, usize)>
     ensures { result ≡ (if leb 1 len then Number.Value value len else Number.Nothing) }
 {
     if len < 1 {
-        return Number::Nothing;
+        return None;
     }
-    Number::Value { value, len }
+    Some((value, len))
 }
 
 // All the digits at the front of `s`, one or more, as a number of at most `max`.
-pub fn digits(s: &[u8], max: u32) -> Number
+pub fn digits(s: &[u8], max: u32) -> Option<(u32, usize)>
     ensures { result ≡ number_at max s.now }
 {
     let mut i = 0;
@@ -49,7 +42,7 @@ pub fn digits(s: &[u8], max: u32) -> Number
         }
         let wide = (value as u64) * 10 + digit_value(b) as u64;
         if (max as u64) < wide {
-            return Number::Nothing;
+            return None;
         }
         value = wide as u32;
         i += 1;
@@ -58,40 +51,30 @@ pub fn digits(s: &[u8], max: u32) -> Number
 }
 
 // The first two bytes of `s`, which are digits. What stands after them does not matter.
-pub fn two_digits(s: &[u8]) -> Number
+pub fn two_digits(s: &[u8]) -> Option<(u32, usize)>
     ensures { result ≡ fixed_at 2 s.now }
 {
     if s.len() < 2 {
-        return Number::Nothing;
+        return None;
     }
     let tens = s[0];
     let ones = s[1];
     if !is_digit(tens) {
-        return Number::Nothing;
+        return None;
     }
     if !is_digit(ones) {
-        return Number::Nothing;
+        return None;
     }
-    Number::Value {
-        value: digit_value(tens) * 10 + digit_value(ones),
-        len: 2,
-    }
+    Some((digit_value(tens) * 10 + digit_value(ones), 2))
 }
 
 // The first four bytes of `s`, likewise.
-pub fn four_digits(s: &[u8]) -> Number
+pub fn four_digits(s: &[u8]) -> Option<(u32, usize)>
     ensures { result ≡ fixed_at 4 s.now }
 {
-    let Number::Value { value: top, len: _ } = two_digits(s) else {
-        return Number::Nothing;
-    };
-    let Number::Value { value: low, len: _ } = two_digits(base::past(s, 2)) else {
-        return Number::Nothing;
-    };
-    Number::Value {
-        value: top * 100 + low,
-        len: 4,
-    }
+    let (top, _) = two_digits(s)?;
+    let (low, _) = two_digits(base::past(s, 2))?;
+    Some((top * 100 + low, 4))
 }
 
 // How many nanoseconds a one is in the last place of a fraction of 0 to 9 digits.
@@ -138,18 +121,13 @@ pub fn after_point(len: usize) -> u32
 }
 
 // All the digits at the front of `s`, from 1 to `most` of them, as nanoseconds.
-pub fn fraction(s: &[u8], most: usize) -> Number
+pub fn fraction(s: &[u8], most: usize) -> Option<(u32, usize)>
     requires { most ≤ 9 }
     ensures { result ≡ fraction_at most s.now }
 {
-    let Number::Value { value, len } = digits(s, 999_999_999) else {
-        return Number::Nothing;
-    };
+    let (value, len) = digits(s, 999_999_999)?;
     if most < len {
-        return Number::Nothing;
+        return None;
     }
-    Number::Value {
-        value: nanos(value, len),
-        len,
-    }
+    Some((nanos(value, len), len))
 }

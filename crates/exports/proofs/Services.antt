@@ -1,4 +1,5 @@
 -- Printing and lookup over the bytes of a record.
+use Rattle.std.specs.Prelude.{Result}
 use Prim.Native.Nat.{ℕ, ◌≤◌, ◌<◌}
 use mathlib.Core.Path.{◌≡◌}
 use mathlib.Core.Bool.{true}
@@ -7,7 +8,6 @@ use borrow.Author.Tests.{lt-ltb, le-ltb}
 use Rattle.record.specs.Limits.{line_limit}
 use Rattle.record.specs.Answers.{output_answer_of}
 use Rattle.record.specs.declared.Record.{Record}
-use Rattle.record.specs.declared.Written.{Written}
 use Rattle.record.specs.declared.Refusal.{Refusal}
 use Rattle.record.specs.declared.Refusal.TheVariants.{LineTooLong, BadSetting, Unsuitable}
 use Rattle.record.specs.declared.OutputAnswer.{OutputAnswer}
@@ -30,7 +30,7 @@ module _ (n kind : ℕ) where
 pub ruleset first_laws = (first_long, first_kind, first_unheld)
 
 -- where bytes hold a record, what the service does with what they hold
-pub served : (bytes : List ℕ) (first : Refusal) (Service : Record → ℕ → ℕ → Written → List ℕ → Type 0) (old : List ℕ) (a : OutputAnswer) → holds_record bytes ≡ true
+pub served : (bytes : List ℕ) (first : Refusal) (Service : Record → ℕ → ℕ → Result ℕ Refusal → List ℕ → Type 0) (old : List ℕ) (a : OutputAnswer) → holds_record bytes ≡ true
     → (r : Record) → r ≡ record_at bytes → (e : ℕ) → e ≡ element_count_at bytes → (p : ℕ) → p ≡ param_count_at bytes
-    → (w : Written) (new : List ℕ) → Service r e p w new → a ≡ output_answer_of w → Serves bytes first Service old a new
+    → (w : Result ℕ Refusal) (new : List ℕ) → Service r e p w new → a ≡ output_answer_of w → Serves bytes first Service old a new
 served bytes first Service old a q r er e ee p ep w new h ea = held q w (rw (← er, ← ee, ← ep) h) ea

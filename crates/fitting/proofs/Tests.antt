@@ -1,4 +1,5 @@
 -- What each test of refusal 17 says at its returns.
+use Rattle.std.specs.Prelude.{Some, None}
 use Prim.Native.Nat.{ℕ, ◌+◌, ◌≤◌, ◌<◌}
 use mathlib.Core.Path.{◌≡◌, refl, sym, ◌∙◌}
 use mathlib.Core.Bool.{Bool, true, false, not, ◌&&◌, ◌||◌, and-true}
@@ -17,7 +18,6 @@ use Rattle.base.proofs.Runs.{Runs, runs_start, runs_out, runs_yes, runs_no}
 use Rattle.utf8.specs.Lead.{is_utf8}
 use Rattle.record.specs.Params.{row_of}
 use Rattle.record.specs.declared.Param.{Param}
-use Rattle.record.specs.declared.Stamp.TheVariants.{Unstamped, Stamped}
 use Rattle.suits.specs.Suits.{record_suits}
 use Rattle.suits.proofs.Suited.{record_in_lem}
 use Rattle.grammar.specs.Parse.{is_message}
@@ -92,7 +92,7 @@ pub ruleset part_laws = (part_absent, message_absent, part_given, message_given)
 -- ---- the timestamp
 
 module _ (h : Handed) where
-  pub stamp_absent : h.stamped ≡ 0 → Unstamped ≡ stamp_in h
+  pub stamp_absent : h.stamped ≡ 0 → None ≡ stamp_in h
   stamp_absent e = rw e
 
   pub digits_absent : h.stamped ≡ 0 → true ≡ digits_fit (stamp_in h)
@@ -100,7 +100,7 @@ module _ (h : Handed) where
 
   module _ (e : h.stamped ≡ 0 → ⊥) where
     pub stamp_given : SFits w64 h.seconds → SFits w32 h.offset
-        → Stamped (record { seconds = to_z w64 (of_z w64 h.seconds); nanos = h.nanos; digits = h.digits; offset = to_z w32 (of_z w32 h.offset) }) ≡ stamp_in h
+        → Some (record { seconds = to_z w64 (of_z w64 h.seconds); nanos = h.nanos; digits = h.digits; offset = to_z w32 (of_z w32 h.offset) }) ≡ stamp_in h
     stamp_given s o = rw (to_z-of_z w64 h.seconds s, to_z-of_z w32 h.offset o, ne_eqb h.stamped 0 e)
 
     pub digits_given : leb h.digits 6 ≡ digits_fit (stamp_in h)

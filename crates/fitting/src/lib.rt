@@ -12,7 +12,7 @@ ghost use Rattle.writes.specs.Fits.{digits_fit, class_fits, text_fits, message_f
 ghost use Rattle.writes.specs.Writes.{part_in, stamp_in, record_in};
 ghost use Rattle.fitting.specs.Heads.{byte_of, numbers_fit, names_fit, head_fits, row_fits};
 
-use record::{Param, Stamp, Timestamp};
+use record::{Param, Timestamp};
 use writes::{Handed, Part};
 
 // A text of the lent text.
@@ -104,13 +104,13 @@ fn message_fits(text: &[u8], p: Part) -> bool
 }
 
 // The timestamp that is handed in.
-pub fn stamp_in(h: Handed) -> Stamp
+pub fn stamp_in(h: Handed) -> Option<Timestamp>
     ensures { result ≡ stamp_in h }
 {
     if h.stamped == 0 {
-        return Stamp::Unstamped;
+        return None;
     }
-    Stamp::Stamped(Timestamp {
+    Some(Timestamp {
         seconds: h.seconds,
         nanos: h.nanos,
         digits: h.digits,

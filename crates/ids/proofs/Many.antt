@@ -1,5 +1,5 @@
 -- Ids by blocks: elements with their ids alone, which the strict reader reads where the ids differ.
-use Rattle.std.specs.Prelude.{if◌then◌else◌}
+use Rattle.std.specs.Prelude.{if◌then◌else◌, Option, Some, None}
 use Prim.Native.Nat.{ℕ, zero, suc, ◌+◌, ◌-◌, ◌≤◌, ◌<◌}
 use mathlib.Core.Path.{◌≡◌, refl, sym, ap, ◌∙◌, subst}
 use mathlib.Core.Bool.{Bool, true, false, not, ◌&&◌, ◌||◌}
@@ -24,7 +24,6 @@ use Rattle.grammar.specs.Parse.{Parsed, failed, found, only, structured}
 use Rattle.grammar.proofs.Data.{listed_reads}
 use Rattle.strict_data.specs.Counts.{counts_of}
 use Rattle.strict_data.specs.declared.Counts.{Counts}
-use Rattle.strict_data.specs.declared.Counts.TheVariants.{NoData, IsData}
 use Rattle.writes.proofs.Fits.{class_sound}
 use Rattle.writes.specs.Fits.{class_fits}
 use Rattle.ids.specs.declared.Block.{Block}
@@ -94,9 +93,9 @@ structured_is : (es : List Element) → Each ElementOk es → structured (data_t
 unfolding structured only
 structured_is es h = rw (listed_reads.complete es [] h refl)
 
-abbrev is_data : Counts → Bool
-is_data NoData = false
-is_data (IsData n e p) = true
+abbrev is_data : Option Counts → Bool
+is_data None = false
+is_data (Some x) = true
 
 counted_is : (s : List ℕ) (ids : List (List ℕ)) → s ≡ bare_text ids → 1 ≤ length ids → Each (Repeat 1 32 sd_name_byte) ids → is_data (counts_of (structured s)) ≡ all_different ids
 counted_is s ids e l h =
@@ -106,16 +105,16 @@ counted_is s ids e l h =
     ∙ by_test (λ b. is_data (counts_of (if b then found es (length (data_then es [])) else failed)) ≡ b) (all_different (ids_of es)) (λ _. refl) (λ _. refl)
     ∙ ap all_different (bare_ids ids)
 
-module _ (line : List ℕ) (end : ℕ) (c : Counts) (e : c ≡ counts_of (structured (take (end - 0) (drop 0 line)))) where
+module _ (line : List ℕ) (end : ℕ) (c : Option Counts) (e : c ≡ counts_of (structured (take (end - 0) (drop 0 line)))) where
   told : (r : Bool) → is_data c ≡ r → Tells (take end line) r
   told r q =
       let z : end - 0 ≡ end = omega arith in
       record { tells = λ ids s l h. sym q ∙ ap is_data e ∙ rw z (counted_is (take end line) ids s l h) }
 
-  pub bare_no : c ≡ NoData → Tells (take end line) false
+  pub bare_no : c ≡ None → Tells (take end line) false
   bare_no q = told false (ap is_data q)
 
-  pub bare_yes : (n m p : ℕ) → c ≡ IsData n m p → Tells (take end line) true
+  pub bare_yes : (n m p : ℕ) → c ≡ Some (record { len = n; elements = m; params = p }) → Tells (take end line) true
   bare_yes n m p q = told true (ap is_data q)
 
 pub ruleset bare_laws = (bare_no, bare_yes)

@@ -107,8 +107,8 @@ fn bare_differ(line: &[u8], end: usize) -> bool
 {
     let counts = strict_data::count_data(&line[0..end]);
     match counts {
-        Counts::NoData => false,
-        Counts::IsData { .. } => true,
+        None => false,
+        Some(Counts { .. }) => true,
     }
 }
 

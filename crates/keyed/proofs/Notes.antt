@@ -1,4 +1,5 @@
 -- Texts that are noted: one, and one after the other.
+use Rattle.std.specs.Prelude.{Option, Some, None}
 use Prim.Native.Nat.{ℕ, zero, suc, ◌+◌, ◌-◌, ◌^◌, ◌≤◌, ◌<◌}
 use mathlib.Core.Path.{◌≡◌, refl, sym, ap, ◌∙◌, subst}
 use mathlib.Core.Bool.{Bool, true, false, not}
@@ -24,7 +25,6 @@ use Rattle.lookup.proofs.Unescaping.{unescaped_le}
 use Rattle.structured_data.specs.Param.{param_at}
 use Rattle.structured_data.specs.Element.{Params, none_at, params_from}
 use Rattle.structured_data.specs.declared.Param.{Param}
-use Rattle.structured_data.specs.declared.Param.TheVariants.{NoParam, IsParam}
 use Rattle.structured_data.proofs.Params.{param_lies}
 use Rattle.structured_data.proofs.Walks.{ahead, first, ahead_none, len_within, ahead_on, ahead_last}
 use Rattle.message.specs.Rooms.{param_size, total}
@@ -170,15 +170,15 @@ room_first : (row : List ℕ) (rows : List (List ℕ)) (text ends : List ℕ) (k
 unfolding total
 room_first row rows text ends k at r = record { fits = omega (arith, r.fits); small = r.small; many = omega (arith, r.many) }
 
-module _ (s : List ℕ) (e start : ℕ) (text ends : List ℕ) (k at : ℕ) (h : start ≤ length s) (u : List ℕ) (eu : u ≡ drop start s) (g : Param) (eg : g ≡ param_at u) where
+module _ (s : List ℕ) (e start : ℕ) (text ends : List ℕ) (k at : ℕ) (h : start ≤ length s) (u : List ℕ) (eu : u ≡ drop start s) (g : Option Param) (eg : g ≡ param_at u) where
   there : param_at (drop start s) ≡ g
   there = sym (eg ∙ ap param_at eu)
 
-  pub one_none : g ≡ NoParam → Steps s e start text ends k at (record { found = false; at = at; next = start }) text ends
+  pub one_none : g ≡ None → Steps s e start text ends k at (record { found = false; at = at; next = start }) text ends
   one_none q = nothing (there ∙ q) refl refl refl
 
-  module _ (n v m len : ℕ) (q : g ≡ IsParam n v m len) where
-    at_start : param_at (drop start s) ≡ IsParam n v m len
+  module _ (n v m len : ℕ) (q : g ≡ Some (record { name = n; value = v; value_len = m; len = len })) where
+    at_start : param_at (drop start s) ≡ Some (record { name = n; value = v; value_len = m; len = len })
     at_start = there ∙ q
 
     lies : (v ≤ len) × (start + len ≤ length s)
@@ -241,9 +241,9 @@ module _ (s : List ℕ) (e from : ℕ) (text ends : List ℕ) (k at : ℕ) where
     unfolding params_from
     same_rows before = go (param_at (drop start s)) refl
       where
-        go : (p : Param) → param_at (drop start s) ≡ p → (ahead e start before (drop start s)).rows ≡ (ahead e start start (drop start s)).rows
-        go NoParam q = rw q refl
-        go (IsParam n v m len) q = rw q refl
+        go : (p : Option Param) → param_at (drop start s) ≡ p → (ahead e start before (drop start s)).rows ≡ (ahead e start start (drop start s)).rows
+        go None q = rw q refl
+        go (Some x) q = rw q refl
 
     pub passing_room : Roomed (rows_at s e start) text' ends' count end
     passing_room =
@@ -267,7 +267,7 @@ module _ (s : List ℕ) (e from : ℕ) (text ends : List ℕ) (k at : ℕ) where
           v : ℕ
           m : ℕ
           len : ℕ
-          is : param_at (drop start s) ≡ IsParam n v m len
+          is : param_at (drop start s) ≡ Some (record { name = n; value = v; value_len = m; len = len })
           behind : t.next ≡ start + len
           one : Notes s ((e ∷ start ∷ n ∷ (start + v) ∷ m ∷ []) ∷ []) text' ends' count end text'' ends'' t.at
 

@@ -1,10 +1,9 @@
 -- For private contracts alone: the texts of rows, noted one after the other, and their ends.
-use Rattle.std.specs.Prelude.{ℕ, ◌+◌, ◌≤◌, ◌<◌, ◌≡◌, List, [], ◌∷◌, ◌++◌, map, true, false, length, get_or, take, drop}
+use Rattle.std.specs.Prelude.{ℕ, ◌+◌, ◌≤◌, ◌<◌, ◌≡◌, List, [], ◌∷◌, ◌++◌, map, true, false, length, get_or, take, drop, Some, None}
 use Rattle.record.specs.declared.Param.{Param}
 use Rattle.parsers.specs.Steps.{blanks_from}
 use Rattle.structured_data.specs.Param.{param_at}
 use Rattle.structured_data.specs.Element.{params_from}
-use Rattle.structured_data.specs.declared.Param.TheVariants.{NoParam, IsParam}
 use Rattle.message.specs.Rooms.{param_size, total}
 use Rattle.keyed.specs.Keys.{key_text}
 use Rattle.keyed.specs.declared.Step.{Step}
@@ -41,8 +40,8 @@ pub record Notes (s : List ℕ) (rows : List (List ℕ)) (text ends : List ℕ) 
 
 -- the parameter at `start`, if there is one, is noted
 pub data Steps (s : List ℕ) (e start : ℕ) (text ends : List ℕ) (k at : ℕ) (r : Step) (text' ends' : List ℕ) : Type 0 where
-  nothing : param_at (drop start s) ≡ NoParam → r.found ≡ false → text' ≡ text → ends' ≡ ends → Steps s e start text ends k at r text' ends'
-  noted : (n v m len : ℕ) → param_at (drop start s) ≡ IsParam n v m len → r.found ≡ true → r.next ≡ start + len
+  nothing : param_at (drop start s) ≡ None → r.found ≡ false → text' ≡ text → ends' ≡ ends → Steps s e start text ends k at r text' ends'
+  noted : (n v m len : ℕ) → param_at (drop start s) ≡ Some (record { name = n; value = v; value_len = m; len = len }) → r.found ≡ true → r.next ≡ start + len
       → Notes s ((e ∷ start ∷ n ∷ (start + v) ∷ m ∷ []) ∷ []) text ends k at text' ends' r.at → Steps s e start text ends k at r text' ends'
 
 -- the rows of the parameters that start at `from`

@@ -1,4 +1,5 @@
 -- The words of each field, and of the whole record.
+use Rattle.std.specs.Prelude.{Option, Some, None}
 use Prim.Native.Nat.{ℕ, ◌≤◌}
 use mathlib.Core.Path.{◌≡◌, refl, ap, ◌∙◌}
 use mathlib.Core.List.{List, [], ◌∷◌, ◌++◌}
@@ -13,10 +14,6 @@ use Rattle.output.proofs.Pieces.{starts_all, starts_front, starts_more}
 use Rattle.output.proofs.Writes.{written_front}
 use Rattle.record.specs.declared.Protocol.{Protocol}
 use Rattle.record.specs.declared.Protocol.TheVariants.{Rfc3164, Rfc5424}
-use Rattle.record.specs.declared.Level.{Level}
-use Rattle.record.specs.declared.Level.TheVariants.{Unset, Set}
-use Rattle.record.specs.declared.Stamp.{Stamp}
-use Rattle.record.specs.declared.Stamp.TheVariants.{Unstamped, Stamped}
 use Rattle.record.specs.declared.Timestamp.{Timestamp}
 use Rattle.record.specs.declared.Place.{Place}
 use Rattle.record.specs.declared.Record.{Record}
@@ -33,18 +30,18 @@ module _ (p : Protocol) where
   pub protocol_5424 : (v : ℕ) → p ≡ Rfc5424 v → 1 ∷ v ∷ [] ≡ protocol_words p
   protocol_5424 v e = rw e
 
-module _ (l : Level) where
-  pub level_unset : l ≡ Unset → 0 ∷ 0 ∷ [] ≡ level_words l
+module _ (l : Option ℕ) where
+  pub level_unset : l ≡ None → 0 ∷ 0 ∷ [] ≡ level_words l
   level_unset e = rw e
 
-  pub level_set : (n : ℕ) → l ≡ Set n → 1 ∷ n ∷ [] ≡ level_words l
+  pub level_set : (n : ℕ) → l ≡ Some n → 1 ∷ n ∷ [] ≡ level_words l
   level_set n e = rw e
 
-module _ (s : Stamp) where
-  pub unstamped_words : s ≡ Unstamped → 0 ∷ 0 ∷ 0 ∷ 0 ∷ 0 ∷ [] ≡ stamp_words s
+module _ (s : Option Timestamp) where
+  pub unstamped_words : s ≡ None → 0 ∷ 0 ∷ 0 ∷ 0 ∷ 0 ∷ [] ≡ stamp_words s
   unstamped_words e = rw e
 
-  pub stamped_words : (t : Timestamp) → s ≡ Stamped t → SFits w64 t.seconds → SFits w32 t.offset
+  pub stamped_words : (t : Timestamp) → s ≡ Some t → SFits w64 t.seconds → SFits w32 t.offset
       → (a : ℕ) → a ≡ bits (to_z w64 (of_z w64 t.seconds))
       → (o : ℤ) → SFits w64 o → o ≡ to_z w32 (of_z w32 t.offset) → (b : ℕ) → b ≡ bits (to_z w64 (of_z w64 o))
       → 1 ∷ a ∷ t.nanos ∷ t.digits ∷ b ∷ [] ≡ stamp_words s
@@ -64,13 +61,13 @@ protocol_length : (p : Protocol) → length (protocol_words p) ≡ 2
 protocol_length Rfc3164 = refl
 protocol_length (Rfc5424 v) = refl
 
-level_length : (l : Level) → length (level_words l) ≡ 2
-level_length Unset = refl
-level_length (Set n) = refl
+level_length : (l : Option ℕ) → length (level_words l) ≡ 2
+level_length None = refl
+level_length (Some n) = refl
 
-stamp_length : (s : Stamp) → length (stamp_words s) ≡ 5
-stamp_length Unstamped = refl
-stamp_length (Stamped t) = refl
+stamp_length : (s : Option Timestamp) → length (stamp_words s) ≡ 5
+stamp_length None = refl
+stamp_length (Some t) = refl
 
 pub record_length : (r : Record) (e p : ℕ) → length (record_words r e p) ≡ word_count
 unfolding record_words

@@ -1,4 +1,5 @@
 -- The number of some bytes, from those of its two halves; and what marks say.
+use Rattle.std.specs.Prelude.{Option, Some, None}
 use Prim.Native.Nat.{ℕ, suc, ◌+◌, ◌*◌, ◌^◌, ◌≤◌, ◌<◌}
 use mathlib.Core.Path.{◌≡◌, refl, sym, ap, ◌∙◌}
 use mathlib.Core.Bool.{Bool, true, false, ◌&&◌}
@@ -20,9 +21,7 @@ use Rattle.base.proofs.Tests.{both}
 use Rattle.layout.specs.Layout.{protocol_word, version_word, facility_word, severity_word, timestamp_word, seconds_word, nanos_word, digits_word, offset_word, word_count, record_size}
 use Rattle.layout.specs.Incoming.{number, word_at, marked, signed, narrow, stamped, front_held, marks_held, holds_record, protocol_at, level_at, stamp_at, Holds}
 use Rattle.record.specs.declared.Protocol.TheVariants.{Rfc3164, Rfc5424}
-use Rattle.record.specs.declared.Level.TheVariants.{Unset, Set}
-use Rattle.record.specs.declared.Stamp.{Stamp}
-use Rattle.record.specs.declared.Stamp.TheVariants.{Unstamped, Stamped}
+use Rattle.record.specs.declared.Timestamp.{Timestamp}
 
 pub number_append : (x y : List ℕ) → number (x ++ y) ≡ number x + number y * 256 ^ length x
 unfolding number
@@ -82,7 +81,7 @@ module _ (m n x y : ℕ) (em : x ≡ m) where
   pub protocol_first : x ≡ 0 → Rfc3164 ≡ protocol_at m n
   protocol_first z = rw (← em, z)
 
-  pub level_none : x ≡ 0 → Unset ≡ level_at m n
+  pub level_none : x ≡ 0 → None ≡ level_at m n
   level_none z = rw (← em, z)
 
   module _ (z : x ≡ 0 → ⊥) (en : y ≡ n) where
@@ -95,7 +94,7 @@ module _ (m n x y : ℕ) (em : x ≡ m) where
     pub level_fits : marked 256 m n ≡ true → Fits w8 y
     level_fits h = record { fits = rw en (marked_below 256 m n h (rw em at z)) }
 
-    pub level_some : Set y ≡ level_at m n
+    pub level_some : Some y ≡ level_at m n
     level_some = rw (← em, ← en, ne_eqb x 0 z)
 
 pub ruleset protocol_laws = (protocol_first, version_fits, protocol_second)
@@ -103,11 +102,11 @@ pub ruleset protocol_laws = (protocol_first, version_fits, protocol_second)
 pub ruleset level_laws = (level_none, level_fits, level_some)
 
 pub time_is : (s n d o : ℕ) (a : ℤ) (b : ℤ) → SFits w64 a → SFits w32 b → a ≡ signed s → b ≡ signed o
-    → Stamped (record { seconds = to_z w64 (of_z w64 a); nanos = n; digits = d; offset = to_z w32 (of_z w32 b) }) ≡ stamp_at 1 s n d o
+    → Some (record { seconds = to_z w64 (of_z w64 a); nanos = n; digits = d; offset = to_z w32 (of_z w32 b) }) ≡ stamp_at 1 s n d o
 time_is s n d o a b fa fb ea eb = rw (to_z-of_z w64 a fa, to_z-of_z w32 b fb, ea, eb)
 
 module _ (m s n d o : ℕ) (x : ℕ) (em : x ≡ m) where
-  pub stamp_none : x ≡ 0 → Unstamped ≡ stamp_at m s n d o
+  pub stamp_none : x ≡ 0 → None ≡ stamp_at m s n d o
   stamp_none z = rw (← em, z)
 
   module _ (z : x ≡ 0 → ⊥) where
@@ -120,7 +119,7 @@ module _ (m s n d o : ℕ) (x : ℕ) (em : x ≡ m) where
     pub offset_held : stamped m s n d o ≡ true → (w : ℕ) → w ≡ o → narrow w ≡ true
     offset_held h w e = rw e (stamped_held m s n d o h (rw em at z)).offset
 
-    pub stamp_some : (v y u w : ℕ) → v ≡ s → y ≡ n → u ≡ d → w ≡ o → (r : Stamp) → r ≡ stamp_at 1 v y u w → r ≡ stamp_at m s n d o
+    pub stamp_some : (v y u w : ℕ) → v ≡ s → y ≡ n → u ≡ d → w ≡ o → (r : Option Timestamp) → r ≡ stamp_at 1 v y u w → r ≡ stamp_at m s n d o
     stamp_some v y u w ev ey eu ew r e = e ∙ rw (← em, ne_eqb x 0 z, ev, ey, eu, ew)
 
 -- bytes that hold a record

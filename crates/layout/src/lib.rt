@@ -6,7 +6,7 @@ ghost use Rattle.base.specs.Fills.{filled};
 ghost use Rattle.layout.specs.Layout.{protocol_word, version_word, facility_word, severity_word, timestamp_word, seconds_word, nanos_word, digits_word, offset_word, message_word, word_count, record_size, strict_size, bits, mark, protocol_words, level_words, stamp_words, place_words, front_words, name_words, end_words, record_words, record_bytes, strict_bytes, Room, Puts};
 ghost use Rattle.layout.specs.Incoming.{word_at, signed, marked, narrow, stamped, front_held, marks_held, holds_record, protocol_at, level_at, stamp_at, place_at, span_at, record_at, element_count_at, param_count_at, Holds};
 
-use record::{Level, Place, Protocol, Record, Span, Stamp, StrictRecord, Timestamp};
+use record::{Place, Protocol, Record, Span, StrictRecord, Timestamp};
 
 // The number of each field's first word: a field ends where the next one starts.
 pub const PROTOCOL_WORD: usize = 0;
@@ -131,23 +131,23 @@ fn put_protocol(out: &mut [u8], at: usize, protocol: Protocol) -> usize
     }
 }
 
-fn put_level(out: &mut [u8], at: usize, level: Level) -> usize
+fn put_level(out: &mut [u8], at: usize, level: Option<u8>) -> usize
     requires { Room out.old at (level_words level) }
     ensures { Puts out.old at (level_words level) result out.new }
 {
     match level {
-        Level::Unset => put_two(out, at, 0, 0),
-        Level::Set(n) => put_two(out, at, 1, n as u64),
+        None => put_two(out, at, 0, 0),
+        Some(n) => put_two(out, at, 1, n as u64),
     }
 }
 
-fn put_stamp(out: &mut [u8], at: usize, stamp: Stamp) -> usize
+fn put_stamp(out: &mut [u8], at: usize, stamp: Option<Timestamp>) -> usize
     requires { Room out.old at (stamp_words stamp) }
     ensures { Puts out.old at (stamp_words stamp) result out.new }
 {
     match stamp {
-        Stamp::Unstamped => put_five(out, at, 0, 0, 0, 0, 0),
-        Stamp::Stamped(t) => put_five(
+        None => put_five(out, at, 0, 0, 0, 0, 0),
+        Some(t) => put_five(
             out,
             at,
             1,
@@ -380,16 +380,16 @@ fn protocol_at(s: &[u8]) -> Protocol
 }
 
 // The level whose mark is word `i`.
-fn level_at(s: &[u8], i: usize) -> Level
+fn level_at(s: &[u8], i: usize) -> Option<u8>
     requires record_size_in_bounds { record_size ≤ length s.now }
     requires i_bound { i + 1 < word_count }
     requires i_value { marked 256 (word_at s.now i) (word_at s.now (i + 1)) ≡ true }
     ensures { result ≡ level_at (word_at s.now i) (word_at s.now (i + 1)) }
 {
     if word_at(s, i) == 0 {
-        return Level::Unset;
+        return None;
     }
-    Level::Set(word_at(s, i + 1) as u8)
+    Some(word_at(s, i + 1) as u8)
 }
 
 // An offset from its word, two's complement.
@@ -400,13 +400,13 @@ pub fn offset_of(n: u64) -> i32
     base::narrow(from_bits(n))
 }
 
-fn time_of(s: u64, n: u64, d: u64, o: u64) -> Stamp
+fn time_of(s: u64, n: u64, d: u64, o: u64) -> Option<Timestamp>
     requires n_bound { n < 4294967296 }
     requires d_bound { d < 4294967296 }
     requires o_value { narrow o ≡ true }
     ensures { result ≡ stamp_at 1 s n d o }
 {
-    Stamp::Stamped(Timestamp {
+    Some(Timestamp {
         seconds: from_bits(s),
         nanos: n as u32,
         digits: d as u32,
@@ -414,13 +414,13 @@ fn time_of(s: u64, n: u64, d: u64, o: u64) -> Stamp
     })
 }
 
-fn stamp_at(s: &[u8]) -> Stamp
+fn stamp_at(s: &[u8]) -> Option<Timestamp>
     requires record_size_in_bounds { record_size ≤ length s.now }
     requires offset_word_value { stamped (word_at s.now timestamp_word) (word_at s.now seconds_word) (word_at s.now nanos_word) (word_at s.now digits_word) (word_at s.now offset_word) ≡ true }
     ensures { result ≡ stamp_at (word_at s.now timestamp_word) (word_at s.now seconds_word) (word_at s.now nanos_word) (word_at s.now digits_word) (word_at s.now offset_word) }
 {
     if word_at(s, TIMESTAMP_WORD) == 0 {
-        return Stamp::Unstamped;
+        return None;
     }
     time_of(
         word_at(s, SECONDS_WORD),

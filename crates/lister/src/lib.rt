@@ -8,7 +8,7 @@ ghost use Rattle.frames.specs.States.{Keeps};
 
 use frames::{Options, State, Task};
 use program::{Process, Status, Takes};
-use record::StrictReading;
+use record::{Refusal, StrictReading};
 
 // What is told of a line that has no reading: how far it is right, and that in words too.
 #[derive(Clone, Copy)]
@@ -103,17 +103,24 @@ fn refused(process: &Process, line: &[u8], number: u32, telling: Telling) -> boo
 }
 
 // What the strict reader answers to a frame is written. Where it cannot be, all is done.
-fn answered(process: &Process, frame: &[u8], s: State, r: StrictReading, telling: Telling) -> State
+fn answered(
+    process: &Process,
+    frame: &[u8],
+    s: State,
+    r: Result<StrictReading, Refusal>,
+    telling: Telling,
+) -> State
     ensures { Keeps s result }
 {
     let ok = match r {
-        StrictReading::Read(_, e, p) => write_counts(process, shown(e), shown(p)),
-        StrictReading::Refused(refusal) => refused(
-            process,
-            frame,
-            record::refusal_number(refusal),
-            telling,
-        ),
+        Ok(
+            StrictReading {
+                reading: _,
+                elements: e,
+                params: p,
+            },
+        ) => write_counts(process, shown(e), shown(p)),
+        Err(refusal) => refused(process, frame, record::refusal_number(refusal), telling),
     };
     frames::kept(s, ok)
 }

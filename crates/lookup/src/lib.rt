@@ -4,7 +4,6 @@
 ghost use Rattle.std.specs.Prelude.{◌≡◌, true, ◌&&◌, ◌||◌, [], ◌+◌, ◌≤◌, ◌<◌, eqb, ltb, length, get_or, take, if◌then◌else◌};
 ghost use Rattle.record.specs.Limits.{line_limit};
 ghost use Rattle.record.specs.Params.{rows};
-ghost use Rattle.record.specs.declared.Written.TheVariants.{Refused};
 ghost use Rattle.record.specs.declared.Refusal.TheVariants.{LineTooLong, BadSetting};
 ghost use Rattle.base.specs.Texts.{text_at, same_text};
 ghost use Rattle.output.specs.Fits.{Fits};
@@ -15,7 +14,7 @@ ghost use Rattle.lookup.specs.Lookup.{Found, id_text, Looks};
 ghost use Rattle.lookup.specs.Steps.{adds, bytes_of, found_at, Finds, Gives};
 ghost use Rattle.lookup.specs.Searches.{Asks, search_from, search_of};
 
-use record::{Param, Place, Record, Refusal, Written};
+use record::{Param, Place, Record, Refusal};
 
 // Whether the place has that text.
 fn text_is(line: &[u8], start: usize, len: usize, text: &[u8]) -> bool
@@ -230,24 +229,24 @@ pub fn put_unescaped(out: &mut [u8], at: usize, v: &[u8], loose: bool) -> usize
 }
 
 // Refusal 8, or the value unescaped.
-fn put_value(v: &[u8], loose: bool, out: &mut [u8]) -> Written
+fn put_value(v: &[u8], loose: bool, out: &mut [u8]) -> Result<usize, Refusal>
     ensures { Gives loose (Found.value v.now) out.old result out.new }
 {
     let n = unescaped_len(v, loose);
     if out.len() < n {
-        return Written::Refused(Refusal::OutputShort);
+        return Err(Refusal::OutputShort);
     }
     put_unescaped(out, 0, v, loose);
-    Written::Done(n)
+    Ok(n)
 }
 
 // Refusal 9 where the value is absent.
-fn give(line: &[u8], value: Place, loose: bool, out: &mut [u8]) -> Written
+fn give(line: &[u8], value: Place, loose: bool, out: &mut [u8]) -> Result<usize, Refusal>
     requires { value.start + value.len ≤ length line.now }
     ensures { Gives loose (found_at line.now value) out.old result out.new }
 {
     if !value.present {
-        return Written::Refused(Refusal::NotFound);
+        return Err(Refusal::NotFound);
     }
     let start = value.start;
     let end = start + value.len;
@@ -257,7 +256,7 @@ fn give(line: &[u8], value: Place, loose: bool, out: &mut [u8]) -> Written
 // ---- for the prover alone: `lookup` names the parameter table and so only calls, for a comparison and for an answer too
 
 // By the kind.
-fn give_by(line: &[u8], value: Place, kind: u32, out: &mut [u8]) -> Written
+fn give_by(line: &[u8], value: Place, kind: u32, out: &mut [u8]) -> Result<usize, Refusal>
     requires { value.start + value.len ≤ length line.now }
     ensures { Gives (eqb kind 0) (found_at line.now value) out.old result out.new }
 {
@@ -271,13 +270,13 @@ fn is_early(n: usize, kind: u32) -> bool
     (record::LINE_LIMIT < n) | (1 < kind)
 }
 
-fn early(n: usize) -> Written
+fn early(n: usize) -> Result<usize, Refusal>
     ensures { result ≡ (if ltb line_limit n then Refused LineTooLong else Refused BadSetting) }
 {
     if record::LINE_LIMIT < n {
-        return Written::Refused(Refusal::LineTooLong);
+        return Err(Refusal::LineTooLong);
     }
-    Written::Refused(Refusal::BadSetting)
+    Err(Refusal::BadSetting)
 }
 
 // The service: the unescaped value of the first parameter with that id and that name, into `out`.
@@ -292,7 +291,7 @@ pub fn lookup(
     name: &[u8],
     kind: u32,
     out: &mut [u8],
-) -> Written
+) -> Result<usize, Refusal>
     ensures { Looks line.now r element_count param_count elements.now (rows params.now) id.now name.now kind out.old result out.new }
 {
     let n = line.len();

@@ -11,24 +11,24 @@ ghost use Rattle.exports.specs.Steps.{Left};
 use record::{Param, ReadAnswer, Reading, Refusal};
 
 // What is answered where the record's memory is too short: that refusal in place of a reading.
-fn short(r: Reading) -> ReadAnswer
+fn short(r: Result<Reading, Refusal>) -> ReadAnswer
     ensures { result ≡ short_answer (read_answer_of r) }
 {
     record::read_answer_of(match r {
-        Reading::Refused(_) => r,
-        _ => Reading::Refused(Refusal::OutputShort),
+        Err(_) => r,
+        _ => Err(Refusal::OutputShort),
     })
 }
 
 // What is answered, and the record in `memory` where the number is 0.
-fn leave(r: Reading, memory: &mut [u8]) -> ReadAnswer
+fn leave(r: Result<Reading, Refusal>, memory: &mut [u8]) -> ReadAnswer
     requires { record_size ≤ length memory.old }
     ensures { Left r memory.old result memory.new }
 {
     let (reading, elements, params, whole) = match r {
-        Reading::Read(reading, elements, params) => (reading, elements, params, 0),
-        Reading::Whole(reading) => (reading, 0, 0, 1),
-        Reading::Refused(_) => return record::read_answer_of(r),
+        Ok(Reading::Read(reading, elements, params)) => (reading, elements, params, 0),
+        Ok(Reading::Whole(reading)) => (reading, 0, 0, 1),
+        Err(_) => return record::read_answer_of(r),
     };
     layout::put_record(memory, reading, elements, params);
     ReadAnswer {

@@ -7,7 +7,6 @@ mod fields;
 ghost use Rattle.std.specs.Prelude.{◌≡◌, true, ◌++◌, ◌+◌, ◌-◌, ◌≤◌, leb, ltb, length, take};
 ghost use Rattle.record.specs.Limits.{line_limit};
 ghost use Rattle.record.specs.Params.{rows};
-ghost use Rattle.record.specs.declared.Written.TheVariants.{Done, Refused};
 ghost use Rattle.record.specs.declared.Refusal.TheVariants.{LineTooLong, OutputShort};
 ghost use Rattle.suits.specs.Suits.{record_suits, elements_suit, suits};
 ghost use Rattle.output.specs.Fits.{Fits, Sized};
@@ -16,21 +15,13 @@ ghost use Rattle.message.specs.Message.{head_text, names_text, printed};
 ghost use Rattle.message.specs.Opens.{first_text, close_text, end_text, back_text};
 ghost use Rattle.message.specs.Prints.{Prints};
 ghost use Rattle.message.specs.Rooms.{other_size, fits_in};
-ghost use Rattle.message.specs.declared.Room.TheVariants.{Left};
 
 use crate::elements::{
     counted, elements_room, param_room, put_close, put_first, put_turn, room_for,
 };
 use crate::fields::{front_len, put_front, put_part};
 use output::{put, put_text};
-use record::{Param, Protocol, Record, Refusal, Written};
-
-// What is left of an output's length, or that a text does not fit.
-#[derive(Clone, Copy)]
-pub enum Room {
-    Short,
-    Left(usize),
-}
+use record::{Param, Protocol, Record, Refusal};
 
 fn put_end(out: &mut [u8], at: usize, r: Record, count: usize) -> usize
     requires { Fits out.old at (end_text r.protocol count) }
@@ -76,33 +67,39 @@ fn others_fit(left: usize, line: &[u8], r: Record, ids: &[[usize; 2]]) -> bool
     ensures { result ≡ leb (other_size line.now r ids.now) left }
 {
     let size = front_len(line, r) + end_len(r, ids.len()) + r.message.len;
-    let Room::Left(a) = room_for(left, size) else {
+    let Some(a) = room_for(left, size) else {
         return false;
     };
-    let Room::Left(_) = elements_room(a, ids) else {
+    let Some(_) = elements_room(a, ids) else {
         return false;
     };
     true
 }
 
 // Whether it fits into what the parameters leave.
-fn rest_fits(room: Room, line: &[u8], r: Record, count: usize, elements: &[[usize; 2]]) -> bool
+fn rest_fits(
+    room: Option<usize>,
+    line: &[u8],
+    r: Record,
+    count: usize,
+    elements: &[[usize; 2]],
+) -> bool
     requires line_len_bound { length line.now ≤ line_limit }
     requires r_value { record_suits line.now r ≡ true }
     requires count_in_bounds { count ≤ length elements.now }
     ensures { result ≡ fits_in room (other_size line.now r (take count elements.now)) }
 {
-    let Room::Left(left) = room else {
+    let Some(left) = room else {
         return false;
     };
     others_fit(left, line, r, counted(elements, count))
 }
 
 // All of `n` bytes.
-fn room_of(n: usize) -> Room
+fn room_of(n: usize) -> Option<usize>
     ensures { result ≡ Left n }
 {
-    Room::Left(n)
+    Some(n)
 }
 
 // Whether the record fits into `room` bytes.
@@ -201,22 +198,22 @@ fn is_long(n: usize) -> bool
     record::LINE_LIMIT < n
 }
 
-fn too_long() -> Written
+fn too_long() -> Result<usize, Refusal>
     ensures { result ≡ Refused LineTooLong }
 {
-    Written::Refused(Refusal::LineTooLong)
+    Err(Refusal::LineTooLong)
 }
 
-fn short() -> Written
+fn short() -> Result<usize, Refusal>
     ensures { result ≡ Refused OutputShort }
 {
-    Written::Refused(Refusal::OutputShort)
+    Err(Refusal::OutputShort)
 }
 
-fn done(n: usize) -> Written
+fn done(n: usize) -> Result<usize, Refusal>
     ensures { result ≡ Done n }
 {
-    Written::Done(n)
+    Ok(n)
 }
 
 // The service: the record as text, into `out`.
@@ -228,7 +225,7 @@ pub fn print(
     elements: &[[usize; 2]],
     params: &[Param],
     out: &mut [u8],
-) -> Written
+) -> Result<usize, Refusal>
     ensures { Prints line.now r element_count param_count elements.now (rows params.now) out.old result out.new }
 {
     let n = line.len();

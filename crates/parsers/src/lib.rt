@@ -7,7 +7,6 @@ ghost use Rattle.parsers.specs.Parsers.{alone, or_absent, plain_at, host_at, tag
 ghost use Rattle.parsers.specs.Steps.{is_blank, blanks_from, some_blanks_from, byte_from, colon_from, is_inside, moved, number_from, placed, plain_from, host_from, tag_from};
 ghost use Rattle.parsers.specs.Passed.{digits_passed, text_passed};
 
-use digits::Number;
 use record::Place;
 
 // A text at the front of a part: its length, and how many bytes are passed.
@@ -16,27 +15,6 @@ pub enum Text {
     Fails,
     Absent(usize),
     Given(usize, usize),
-}
-
-// A field of the line, and the position after it.
-#[derive(Clone, Copy)]
-pub enum Field {
-    NoField,
-    IsField(Place, usize),
-}
-
-// A number, and the position after it.
-#[derive(Clone, Copy)]
-pub enum Num {
-    NoNum,
-    IsNum(u32, usize),
-}
-
-// A position.
-#[derive(Clone, Copy)]
-pub enum Pos {
-    NoPos,
-    IsPos(usize),
 }
 
 // Whether the field of `n` bytes is the one byte `b`.
@@ -144,26 +122,26 @@ pub fn blanks_from(s: &[u8], at: usize) -> usize
 }
 
 // The same, where there is at least one.
-pub fn some_blanks_from(s: &[u8], at: usize) -> Pos
+pub fn some_blanks_from(s: &[u8], at: usize) -> Option<usize>
     requires { at ≤ length s.now }
     ensures { result ≡ some_blanks_from s.now at }
 {
     let next = blanks_from(s, at);
     if next == at {
-        return Pos::NoPos;
+        return None;
     }
-    Pos::IsPos(next)
+    Some(next)
 }
 
 // The position after the byte `b`.
-pub fn byte_from(s: &[u8], at: usize, b: u8) -> Pos
+pub fn byte_from(s: &[u8], at: usize, b: u8) -> Option<usize>
     requires { 0 < b }
     ensures { result ≡ byte_from s.now at b }
 {
     if !base::is_at(s, at, b) {
-        return Pos::NoPos;
+        return None;
     }
-    Pos::IsPos(at + 1)
+    Some(at + 1)
 }
 
 // The position after an optional `:`.
@@ -197,18 +175,18 @@ pub fn inside_run(s: &[u8]) -> usize
 }
 
 // Digits that were read at `at`, as a number and the position after it.
-pub fn moved(at: usize, n: Number) -> Num
+pub fn moved(at: usize, n: Option<(u32, usize)>) -> Option<(u32, usize)>
     requires { at + digits_passed n < 2 ^ 64 }
     ensures { result ≡ moved at n }
 {
     match n {
-        Number::Nothing => Num::NoNum,
-        Number::Value { value, len } => Num::IsNum(value, at + len),
+        None => None,
+        Some((value, len)) => Some((value, at + len)),
     }
 }
 
 // The digits at `at`, as a number within 32 bits.
-pub fn number_from(s: &[u8], at: usize) -> Num
+pub fn number_from(s: &[u8], at: usize) -> Option<(u32, usize)>
     requires { at ≤ length s.now }
     ensures { result ≡ number_from s.now at }
 {
@@ -216,32 +194,32 @@ pub fn number_from(s: &[u8], at: usize) -> Num
 }
 
 // A text that was read at `at`, as a place of the line.
-fn placed(at: usize, t: Text) -> Field
+fn placed(at: usize, t: Text) -> Option<(Place, usize)>
     requires { at + text_passed t < 2 ^ 64 }
     ensures { result ≡ placed at t }
 {
     match t {
-        Text::Fails => Field::NoField,
-        Text::Absent(n) => Field::IsField(record::absent(), at + n),
-        Text::Given(len, n) => Field::IsField(record::place_at(at, len), at + n),
+        Text::Fails => None,
+        Text::Absent(n) => Some((record::absent(), at + n)),
+        Text::Given(len, n) => Some((record::place_at(at, len), at + n)),
     }
 }
 
-pub fn plain_from(s: &[u8], at: usize) -> Field
+pub fn plain_from(s: &[u8], at: usize) -> Option<(Place, usize)>
     requires { at ≤ length s.now }
     ensures { result ≡ plain_from s.now at }
 {
     placed(at, plain_at(base::past(s, at)))
 }
 
-pub fn host_from(s: &[u8], at: usize) -> Field
+pub fn host_from(s: &[u8], at: usize) -> Option<(Place, usize)>
     requires { at ≤ length s.now }
     ensures { result ≡ host_from s.now at }
 {
     placed(at, host_at(base::past(s, at)))
 }
 
-pub fn tag_from(s: &[u8], at: usize) -> Field
+pub fn tag_from(s: &[u8], at: usize) -> Option<(Place, usize)>
     requires { at ≤ length s.now }
     ensures { result ≡ tag_from s.now at }
 {

@@ -5,7 +5,6 @@
 
 ghost use Rattle.std.specs.Prelude.{◌≤◌, length};
 
-use digits::Number;
 use program::Process;
 
 // Which part of a line a beginning ends in.
@@ -201,10 +200,10 @@ fn say_version(process: &Process, n: usize) -> bool {
     say(process, b"a space: the version has at most three digits")
 }
 
-fn number_of(number: Number) -> u32 {
+fn number_of(number: Option<(u32, usize)>) -> u32 {
     match number {
-        Number::Value { value, len: _ } => value,
-        Number::Nothing => 0,
+        Some((value, _)) => value,
+        None => 0,
     }
 }
 

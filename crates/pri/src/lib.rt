@@ -4,15 +4,12 @@
 ghost use Rattle.std.specs.Prelude.{◌≡◌};
 ghost use Rattle.pri.specs.Pri.{facility_of, severity_of, no_pri, pri_at};
 
-use digits::Number;
-use record::Level;
-
 // The facility and the severity, and where reading goes on: at 0 where there is no priority.
 #[derive(Clone, Copy)]
 pub struct Pri {
     pub next: usize,
-    pub facility: Level,
-    pub severity: Level,
+    pub facility: Option<u8>,
+    pub severity: Option<u8>,
 }
 
 fn no_pri() -> Pri
@@ -20,25 +17,25 @@ fn no_pri() -> Pri
 {
     Pri {
         next: 0,
-        facility: Level::Unset,
-        severity: Level::Unset,
+        facility: None,
+        severity: None,
     }
 }
 
-fn facility_of(value: u32) -> Level
+fn facility_of(value: u32) -> Option<u8>
     ensures { result ≡ facility_of value }
 {
     let facility = value / 8;
     if 23 < facility {
-        return Level::Unset;
+        return None;
     }
-    Level::Set(facility as u8)
+    Some(facility as u8)
 }
 
-fn severity_of(value: u32) -> Level
+fn severity_of(value: u32) -> Option<u8>
     ensures { result ≡ severity_of value }
 {
-    Level::Set((value % 8) as u8)
+    Some((value % 8) as u8)
 }
 
 // `<`, digits of a value up to 255, `>`.
@@ -48,7 +45,7 @@ pub fn read_pri(s: &[u8]) -> Pri
     if !base::is_at(s, 0, b'<') {
         return no_pri();
     }
-    let Number::Value { value, len } = digits::digits(base::past(s, 1), 255) else {
+    let Some((value, len)) = digits::digits(base::past(s, 1), 255) else {
         return no_pri();
     };
     if !base::is_at(s, len + 1, b'>') {

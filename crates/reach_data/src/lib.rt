@@ -12,7 +12,6 @@ ghost use Rattle.viable.specs.Ids.{any_below};
 ghost use Rattle.reach_data.specs.Pieces.{name_at, name_end_at, value_at, quoted_at, param_at, bracket_at, params_at, plain_at, data_at, is_mark, text_at, message_at};
 
 use base::is_at;
-use viable::Went;
 
 // Where the bytes of a name from `at` on end.
 fn name_end(s: &[u8], at: usize) -> usize
@@ -31,35 +30,32 @@ fn name_end(s: &[u8], at: usize) -> usize
 }
 
 // A name of up to 32 bytes.
-fn name(s: &[u8], at: usize) -> Went
+fn name(s: &[u8], at: usize) -> Result<usize, usize>
     ensures { result ≡ name_at s.now at }
 {
     let end = name_end(s, at);
     if end == at {
-        return Went::Stuck(at);
+        return Err(at);
     }
     if 32 < end - at {
-        return Went::Stuck(at + 32);
+        return Err(at + 32);
     }
-    Went::Past(end)
+    Ok(end)
 }
 
 // A parameter's name and its `=`.
-fn name_equals(s: &[u8], at: usize) -> Went
+fn name_equals(s: &[u8], at: usize) -> Result<usize, usize>
     ensures { result ≡ name_end_at s.now at }
 {
-    let w = name(s, at);
-    let Went::Past(n) = w else {
-        return w;
-    };
+    let n = name(s, at)?;
     if !is_at(s, n, b'=') {
-        return Went::Stuck(n);
+        return Err(n);
     }
-    Went::Past(n + 1)
+    Ok(n + 1)
 }
 
 // A value and its closing quote, byte by byte.
-fn value(s: &[u8], at: usize) -> Went
+fn value(s: &[u8], at: usize) -> Result<usize, usize>
     ensures { result ≡ value_at s.now at }
 {
     let mut paired = false;
@@ -71,14 +67,14 @@ fn value(s: &[u8], at: usize) -> Went
         let b = s[i];
         if more == 0 {
             if !paired & (b == b'"') {
-                return Went::Past(i + 1);
+                return Ok(i + 1);
             }
             if !paired & (b == b']') {
-                return Went::Stuck(i);
+                return Err(i);
             }
             let l = utf8::lead_of(b);
             if l.len == 0 {
-                return Went::Stuck(i);
+                return Err(i);
             }
             paired = !paired & (b == b'\\');
             more = l.len - 1;
@@ -87,7 +83,7 @@ fn value(s: &[u8], at: usize) -> Went
             i += 1;
         } else {
             if (b < low) | (high < b) {
-                return Went::Stuck(i);
+                return Err(i);
             }
             paired = false;
             more -= 1;
@@ -96,65 +92,59 @@ fn value(s: &[u8], at: usize) -> Went
             i += 1;
         }
     }
-    Went::Stuck(i)
+    Err(i)
 }
 
 // A value and both its quotes.
-fn quoted(s: &[u8], at: usize) -> Went
+fn quoted(s: &[u8], at: usize) -> Result<usize, usize>
     ensures { result ≡ quoted_at s.now at }
 {
     if !is_at(s, at, b'"') {
-        return Went::Stuck(at);
+        return Err(at);
     }
     value(s, at + 1)
 }
 
 // A parameter, after its space.
-fn param(s: &[u8], at: usize) -> Went
+fn param(s: &[u8], at: usize) -> Result<usize, usize>
     ensures { result ≡ param_at s.now at }
 {
-    let w = name_equals(s, at);
-    let Went::Past(n) = w else {
-        return w;
-    };
+    let n = name_equals(s, at)?;
     quoted(s, n)
 }
 
 // The `]` of an element.
-fn bracket(s: &[u8], at: usize) -> Went
+fn bracket(s: &[u8], at: usize) -> Result<usize, usize>
     ensures { result ≡ bracket_at s.now at }
 {
     if !is_at(s, at, b']') {
-        return Went::Stuck(at);
+        return Err(at);
     }
-    Went::Past(at + 1)
+    Ok(at + 1)
 }
 
 // The parameters of an element, and its `]`.
-fn params(s: &[u8], at: usize) -> Went
+fn params(s: &[u8], at: usize) -> Result<usize, usize>
     ensures { result ≡ params_at s.now at }
 {
     let mut i = at;
     while is_at(s, i, b' ') {
-        let w = param(s, i + 1);
-        let Went::Past(n) = w else {
-            return w;
-        };
+        let n = param(s, i + 1)?;
         i = n;
     }
     bracket(s, i)
 }
 
 // An element after its `[`, whatever its id is, of which the bytes of a name end at `end`.
-fn element(s: &[u8], at: usize, end: usize) -> Went
+fn element(s: &[u8], at: usize, end: usize) -> Result<usize, usize>
     requires { end ≡ at + run sd_name_byte (drop at s.now) }
     ensures { result ≡ plain_at s.now at }
 {
     if end == at {
-        return Went::Stuck(at);
+        return Err(at);
     }
     if 32 < end - at {
-        return Went::Stuck(at + 32);
+        return Err(at + 32);
     }
     params(s, end)
 }
@@ -188,7 +178,7 @@ fn note(starts: &mut [u16], lens: &mut [u8], k: usize, start: usize, len: usize)
 #[derive(Clone, Copy)]
 enum Walk {
     Full,
-    Rowed(usize, Went),
+    Rowed(usize, Result<usize, usize>),
 }
 
 fn note_all(s: &[u8], at: usize, starts: &mut [u16], lens: &mut [u8]) -> Walk
@@ -206,12 +196,12 @@ fn note_all(s: &[u8], at: usize, starts: &mut [u16], lens: &mut [u8]) -> Walk
         note(starts, lens, k, j, id_len(j, end));
         let w = element(s, j, end);
         k += 1;
-        let Went::Past(n) = w else {
+        let Ok(n) = w else {
             return Walk::Rowed(k, w);
         };
         i = n;
     }
-    Walk::Rowed(k, Went::Past(i))
+    Walk::Rowed(k, Ok(i))
 }
 
 // The id of row `k`.
@@ -343,10 +333,10 @@ fn judge<'a>(
     starts: &'a [u16],
     lens: &'a [u8],
     n: usize,
-    w: Went,
+    w: Result<usize, usize>,
     depths: &mut [u8],
     kids: &mut [u16],
-) -> Went
+) -> Result<usize, usize>
     requires { Judging s.now starts.now lens.now depths.old kids.old n w }
     ensures { Judged s.now starts.now lens.now n w result }
 {
@@ -354,14 +344,14 @@ fn judge<'a>(
     if j == n {
         return w;
     }
-    Went::Stuck(id_end(s, starts, lens, j))
+    Err(id_end(s, starts, lens, j))
 }
 
 // What tables tell of the elements, if they have rows enough.
 #[derive(Clone, Copy)]
 enum Tried {
     Short,
-    Told(Went),
+    Told(Result<usize, usize>),
 }
 
 fn tell(
@@ -405,18 +395,18 @@ fn most(s: &[u8], at: usize) -> Tried
     tell(s, at, &mut starts, &mut lens, &mut depths, &mut kids)
 }
 
-fn told_of(tried: Tried) -> Went
+fn told_of(tried: Tried) -> Result<usize, usize>
     ensures { result ≡ told_of tried }
 {
     match tried {
-        Tried::Short => Went::Stuck(0),
+        Tried::Short => Err(0),
         Tried::Told(w) => w,
     }
 }
 
 // The elements, first by small tables. (A function that calls itself is not drawn into its caller by the compiler, nor large tables into it: only lines with many
 // elements pay for them.)
-fn elements(s: &[u8], at: usize, size: usize) -> Went
+fn elements(s: &[u8], at: usize, size: usize) -> Result<usize, usize>
     requires { length s.now ≤ line_limit }
     ensures { result ≡ each_at [] s.now at }
 {
@@ -430,15 +420,15 @@ fn elements(s: &[u8], at: usize, size: usize) -> Went
 }
 
 // How far structured data goes that stands at a place of the line.
-pub fn data(s: &[u8], at: usize) -> Went
+pub fn data(s: &[u8], at: usize) -> Result<usize, usize>
     requires { length s.now ≤ line_limit }
     ensures { result ≡ data_at s.now at }
 {
     if is_at(s, at, b'-') {
-        return Went::Past(at + 1);
+        return Ok(at + 1);
     }
     if !is_at(s, at, b'[') {
-        return Went::Stuck(at);
+        return Err(at);
     }
     elements(s, at, 64)
 }
@@ -446,7 +436,7 @@ pub fn data(s: &[u8], at: usize) -> Went
 // ---- the message
 
 // UTF-8 to the end. An ASCII byte between characters needs no further test.
-fn utf8_to_end(s: &[u8], at: usize) -> Went
+fn utf8_to_end(s: &[u8], at: usize) -> Result<usize, usize>
     ensures { result ≡ utf8_at s.now at }
 {
     let mut more: usize = 0;
@@ -462,7 +452,7 @@ fn utf8_to_end(s: &[u8], at: usize) -> Went
             }
             let l = utf8::lead_of(b);
             if l.len == 0 {
-                return Went::Stuck(i);
+                return Err(i);
             }
             more = l.len - 1;
             low = l.low;
@@ -470,7 +460,7 @@ fn utf8_to_end(s: &[u8], at: usize) -> Went
             i += 1;
         } else {
             if (b < low) | (high < b) {
-                return Went::Stuck(i);
+                return Err(i);
             }
             more -= 1;
             low = 0x80;
@@ -479,9 +469,9 @@ fn utf8_to_end(s: &[u8], at: usize) -> Went
         }
     }
     if more == 0 {
-        return Went::Past(i);
+        return Ok(i);
     }
-    Went::Stuck(i)
+    Err(i)
 }
 
 // Whether a byte order mark stands in front.
@@ -492,25 +482,25 @@ fn is_mark(m: &[u8]) -> bool
 }
 
 // A message: any bytes, or a byte order mark and then UTF-8.
-fn text(s: &[u8], at: usize) -> Went
+fn text(s: &[u8], at: usize) -> Result<usize, usize>
     requires { at ≤ length s.now }
     ensures { result ≡ text_at s.now at }
 {
     if !is_mark(base::past(s, at)) {
-        return Went::Past(s.len());
+        return Ok(s.len());
     }
     utf8_to_end(s, at + 3)
 }
 
 // How far what is after the structured data goes: nothing, or a space and a message.
-pub fn message(s: &[u8], at: usize) -> Went
+pub fn message(s: &[u8], at: usize) -> Result<usize, usize>
     ensures { result ≡ message_at s.now at }
 {
     if is_at(s, at, b' ') {
         return text(s, at + 1);
     }
     if at < s.len() {
-        return Went::Stuck(at);
+        return Err(at);
     }
-    Went::Past(at)
+    Ok(at)
 }

@@ -32,13 +32,6 @@ pub enum Protocol {
     Rfc5424(u32),
 }
 
-// A facility or a severity.
-#[derive(Clone, Copy)]
-pub enum Level {
-    Unset,
-    Set(u8),
-}
-
 // An instant, in seconds since 1970-01-01T00:00:00Z and nanoseconds; how many digits its fraction had, 0 to 9; and the offset in minutes at which it is
 // shown.
 #[derive(Clone, Copy)]
@@ -50,17 +43,11 @@ pub struct Timestamp {
 }
 
 #[derive(Clone, Copy)]
-pub enum Stamp {
-    Unstamped,
-    Stamped(Timestamp),
-}
-
-#[derive(Clone, Copy)]
 pub struct Record {
     pub protocol: Protocol,
-    pub facility: Level,
-    pub severity: Level,
-    pub timestamp: Stamp,
+    pub facility: Option<u8>,
+    pub severity: Option<u8>,
+    pub timestamp: Option<Timestamp>,
     pub host: Place,
     pub app: Place,
     pub procid: Place,
@@ -109,26 +96,19 @@ pub enum Refusal {
     Unwritable,
 }
 
-// What the loose reader answers: the record and both counts; the whole line as the message, where the rules give no reading; or why not.
+// What the loose reader answers: the record and both counts; or the whole line as the message, where the rules give no reading.
 #[derive(Clone, Copy)]
 pub enum Reading {
     Read(Record, usize, usize),
     Whole(Record),
-    Refused(Refusal),
 }
 
-// What the strict reader answers.
+// What the strict reader answers: the record and both counts.
 #[derive(Clone, Copy)]
-pub enum StrictReading {
-    Read(StrictRecord, usize, usize),
-    Refused(Refusal),
-}
-
-// What printing and lookup answer: the length of what stands in the output, or why not.
-#[derive(Clone, Copy)]
-pub enum Written {
-    Done(usize),
-    Refused(Refusal),
+pub struct StrictReading {
+    pub reading: StrictRecord,
+    pub elements: usize,
+    pub params: usize,
 }
 
 // The same answers as a number (0: done) and values.
@@ -209,9 +189,9 @@ pub fn message_alone(len: usize) -> Record
     let none = absent();
     Record {
         protocol: Protocol::Rfc3164,
-        facility: Level::Unset,
-        severity: Level::Unset,
-        timestamp: Stamp::Unstamped,
+        facility: None,
+        severity: None,
+        timestamp: None,
         host: none,
         app: none,
         procid: none,
@@ -264,25 +244,25 @@ pub fn refusal_number(r: Refusal) -> u32
 }
 
 // A reading's number and values; a refusal has the empty record and zeros.
-pub fn answer_of(r: Reading) -> Answer
+pub fn answer_of(r: Result<Reading, Refusal>) -> Answer
     ensures { result ≡ answer_of r }
 {
     match r {
-        Reading::Read(reading, elements, params) => Answer {
+        Ok(Reading::Read(reading, elements, params)) => Answer {
             number: 0,
             whole: false,
             reading,
             elements,
             params,
         },
-        Reading::Whole(reading) => Answer {
+        Ok(Reading::Whole(reading)) => Answer {
             number: 0,
             whole: true,
             reading,
             elements: 0,
             params: 0,
         },
-        Reading::Refused(refusal) => Answer {
+        Err(refusal) => Answer {
             number: refusal_number(refusal),
             whole: false,
             reading: empty_record(),
@@ -293,17 +273,23 @@ pub fn answer_of(r: Reading) -> Answer
 }
 
 // The same of a strict reading.
-pub fn strict_answer_of(r: StrictReading) -> StrictAnswer
+pub fn strict_answer_of(r: Result<StrictReading, Refusal>) -> StrictAnswer
     ensures { result ≡ strict_answer_of r }
 {
     match r {
-        StrictReading::Read(reading, elements, params) => StrictAnswer {
+        Ok(
+            StrictReading {
+                reading,
+                elements,
+                params,
+            },
+        ) => StrictAnswer {
             number: 0,
             reading,
             elements,
             params,
         },
-        StrictReading::Refused(refusal) => StrictAnswer {
+        Err(refusal) => StrictAnswer {
             number: refusal_number(refusal),
             reading: empty_strict(),
             elements: 0,
@@ -313,7 +299,7 @@ pub fn strict_answer_of(r: StrictReading) -> StrictAnswer
 }
 
 // What a C caller gets of a reading by value.
-pub fn read_answer_of(r: Reading) -> ReadAnswer
+pub fn read_answer_of(r: Result<Reading, Refusal>) -> ReadAnswer
     ensures { result ≡ read_answer_of r }
 {
     let a = answer_of(r);
@@ -325,7 +311,7 @@ pub fn read_answer_of(r: Reading) -> ReadAnswer
 }
 
 // The same of a strict reading.
-pub fn strict_read_answer_of(r: StrictReading) -> ReadAnswer
+pub fn strict_read_answer_of(r: Result<StrictReading, Refusal>) -> ReadAnswer
     ensures { result ≡ strict_read_answer_of r }
 {
     let a = strict_answer_of(r);
@@ -337,12 +323,12 @@ pub fn strict_read_answer_of(r: StrictReading) -> ReadAnswer
 }
 
 // The same of what printing and lookup answer.
-pub fn output_answer_of(w: Written) -> OutputAnswer
+pub fn output_answer_of(w: Result<usize, Refusal>) -> OutputAnswer
     ensures { result ≡ output_answer_of w }
 {
     match w {
-        Written::Done(len) => OutputAnswer { number: 0, len },
-        Written::Refused(refusal) => OutputAnswer {
+        Ok(len) => OutputAnswer { number: 0, len },
+        Err(refusal) => OutputAnswer {
             number: refusal_number(refusal),
             len: 0,
         },

@@ -1,5 +1,5 @@
 -- Writing a record: zeros, its pieces, and the refusals.
-use Rattle.std.specs.Prelude.{if◌then◌else◌}
+use Rattle.std.specs.Prelude.{if◌then◌else◌, Ok, Err}
 use Prim.Native.Nat.{ℕ, suc, ◌+◌, ◌-◌, ◌≤◌, ◌<◌}
 use mathlib.Core.Path.{◌≡◌, refl, sym, ◌∙◌}
 use mathlib.Core.Bool.{Bool, true, false, not}
@@ -17,7 +17,6 @@ use Rattle.base.proofs.Ranges.{orders}
 use Rattle.base.proofs.Tests.{by_test}
 use Rattle.calendar.specs.Calendar.{valid_offset}
 use Rattle.record.specs.declared.Refusal.TheVariants.{OutputShort, UnknownVersion, BadField}
-use Rattle.record.specs.declared.Written.TheVariants.{Done, Refused}
 use Rattle.output.specs.Fits.{Fits}
 use Rattle.output.specs.Output.{Wrote}
 use Rattle.output.proofs.Writes.{Owes, owes_all, owes_more, owes_none, written_front}
@@ -132,7 +131,7 @@ module _ (version gate year variant : ℕ) (offset : ℤ) (f : val.SFits w32 off
   abbrev given : Meaning
   given = meant version gate year (val.to_z w32 (val.of_z w32 offset)) variant host
 
-  pub write_unknown : not t ≡ true → Writes told old (Refused UnknownVersion) old
+  pub write_unknown : not t ≡ true → Writes told old (Err UnknownVersion) old
   unfolding writing
   write_unknown q = record { answer = rw (← et, not-true t q); output = refl }
 
@@ -140,16 +139,16 @@ module _ (version gate year variant : ℕ) (offset : ℤ) (f : val.SFits w32 off
     range_is : in_range told ≡ u
     range_is = sym (rw (to_z-of_z w32 offset f) at eu)
 
-    pub write_bad : not u ≡ true → Writes told old (Refused BadField) old
+    pub write_bad : not u ≡ true → Writes told old (Err BadField) old
     unfolding writing
     write_bad p = record { answer = rw (← et, not-false t q, range_is, not-true u p); output = refl }
 
     module _ (p : not u ≡ false) where
-      pub write_short : length old < record_size → Writes told old (Refused OutputShort) old
+      pub write_short : length old < record_size → Writes told old (Err OutputShort) old
       unfolding writing
       write_short l = record { answer = rw (← et, not-false t q, range_is, not-false u p, lt-ltb (length old) record_size l); output = refl }
 
-      pub write_done : record_size ≤ length old → (new : List ℕ) → new ≡ filled (record_of given) old → Writes told old (Done 32) new
+      pub write_done : record_size ≤ length old → (new : List ℕ) → new ≡ filled (record_of given) old → Writes told old (Ok 32) new
       unfolding writing
       write_done l new e =
           record {

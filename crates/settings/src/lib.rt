@@ -14,7 +14,7 @@ ghost use Rattle.settings.specs.Writes.{Writes};
 ghost use Rattle.settings.specs.Numbers.{settings_answer_of, ReadsNumbers, WritesNumbers};
 ghost use Rattle.settings.specs.Steps.{signed, PairAt, Seeks, FieldsAt, sound, Takes, front_text, host_text, end_text};
 
-use record::{OutputAnswer, Refusal, Span, Written};
+use record::{OutputAnswer, Refusal, Span};
 
 // The settings of a gate. The host is a place in the file, of length 0 where there is none.
 #[derive(Clone, Copy)]
@@ -25,13 +25,6 @@ pub struct Settings {
     pub offset: i32,
     pub variant: u32,
     pub host: Span,
-}
-
-// What a reader answers.
-#[derive(Clone, Copy)]
-pub enum SettingsRead {
-    Read(Settings),
-    Refused(Refusal),
 }
 
 // The same as a C caller gets it: a number (0: read) and the settings, zeros where it is refused.
@@ -214,7 +207,7 @@ fn is_sound(bytes: &[u8], s: Settings) -> bool
 }
 
 // What is answered of the chosen record, which starts at `start` in its file.
-fn take_record(bytes: &[u8], start: usize, greatest: u32) -> SettingsRead
+fn take_record(bytes: &[u8], start: usize, greatest: u32) -> Result<Settings, Refusal>
     requires greatest_le_last_version { greatest ≤ last_version }
     requires bytes_len { length bytes.now ≡ record_size }
     requires record_size_bound { start + record_size < 2 ^ 64 }
@@ -222,23 +215,23 @@ fn take_record(bytes: &[u8], start: usize, greatest: u32) -> SettingsRead
 {
     let s = fields_at(bytes, start);
     if !is_version(greatest, s.version) {
-        return SettingsRead::Refused(Refusal::UnknownVersion);
+        return Err(Refusal::UnknownVersion);
     }
     if !is_sound(bytes, s) {
-        return SettingsRead::Refused(Refusal::BadField);
+        return Err(Refusal::BadField);
     }
-    SettingsRead::Read(s)
+    Ok(s)
 }
 
-fn read_up_to(greatest: u32, file: &[u8], gate: u32) -> SettingsRead
+fn read_up_to(greatest: u32, file: &[u8], gate: u32) -> Result<Settings, Refusal>
     requires { greatest ≤ last_version }
     ensures { Reads greatest file.now gate result }
 {
     if file.len() % RECORD_SIZE != 0 {
-        return SettingsRead::Refused(Refusal::BadLength);
+        return Err(Refusal::BadLength);
     }
     let Found::At(i) = last_of(file, gate) else {
-        return SettingsRead::Refused(Refusal::NotFound);
+        return Err(Refusal::NotFound);
     };
     let start = i * RECORD_SIZE;
     let end = start + RECORD_SIZE;
@@ -246,14 +239,14 @@ fn read_up_to(greatest: u32, file: &[u8], gate: u32) -> SettingsRead
 }
 
 // The settings of a gate: those of its last record.
-pub fn read(file: &[u8], gate: u32) -> SettingsRead
+pub fn read(file: &[u8], gate: u32) -> Result<Settings, Refusal>
     ensures { Reads last_version file.now gate result }
 {
     read_up_to(LAST_VERSION, file, gate)
 }
 
 // The same by the reader that knows version 1 alone.
-pub fn read_version_1(file: &[u8], gate: u32) -> SettingsRead
+pub fn read_version_1(file: &[u8], gate: u32) -> Result<Settings, Refusal>
     ensures { Reads 1 file.now gate result }
 {
     read_up_to(1, file, gate)
@@ -360,20 +353,20 @@ pub fn write(
     variant: u32,
     host: &[u8],
     output: &mut [u8],
-) -> Written
+) -> Result<usize, Refusal>
     ensures { Writes (meant version gate year offset variant host.now) output.old result output.new }
 {
     if !is_version(LAST_VERSION, version) {
-        return Written::Refused(Refusal::UnknownVersion);
+        return Err(Refusal::UnknownVersion);
     }
     if !is_in_range(version, gate, year, offset, variant, host) {
-        return Written::Refused(Refusal::BadField);
+        return Err(Refusal::BadField);
     }
     if output.len() < RECORD_SIZE {
-        return Written::Refused(Refusal::OutputShort);
+        return Err(Refusal::OutputShort);
     }
     put_record(output, version, gate, year, offset, variant, host);
-    Written::Done(RECORD_SIZE)
+    Ok(RECORD_SIZE)
 }
 
 // ---- for C
@@ -393,12 +386,12 @@ fn told_of(s: Settings) -> SettingsAnswer
     }
 }
 
-fn settings_answer_of(r: SettingsRead) -> SettingsAnswer
+fn settings_answer_of(r: Result<Settings, Refusal>) -> SettingsAnswer
     ensures { result ≡ settings_answer_of r }
 {
     match r {
-        SettingsRead::Read(s) => told_of(s),
-        SettingsRead::Refused(f) => SettingsAnswer {
+        Ok(s) => told_of(s),
+        Err(f) => SettingsAnswer {
             number: record::refusal_number(f),
             version: 0,
             gate: 0,

@@ -1,4 +1,5 @@
 -- What a word writes.
+use Rattle.std.specs.Prelude.{◌×◌, Option, Some, None}
 use Prim.Native.Nat.{ℕ, ◌≤◌, ◌<◌}
 use mathlib.Core.Path.{◌≡◌, sym, ap, ◌∙◌}
 use mathlib.Core.Bool.{Bool, true, false}
@@ -16,8 +17,6 @@ use Rattle.base.specs.Choose.{is_at}
 use Rattle.base.proofs.Diffs.{sub_ge, sub_lt}
 use Rattle.base.proofs.Parts.{at_below}
 use Rattle.digits.specs.Digits.{number_at}
-use Rattle.digits.specs.declared.Number.{Number}
-use Rattle.digits.specs.declared.Number.TheVariants.{Nothing, Value}
 use Rattle.settings_words.specs.Words.{no_number, number_of, sign_len, no_offset, minutes_of, offset_of}
 
 -- ---- a number
@@ -27,12 +26,12 @@ module _ (s : List ℕ) where
   unfolding number_of
   number_long l = rw (lt-ltb 10 (length s) l)
 
-  module _ (l : length s ≤ 10) (g : Number) (e : g ≡ number_at no_number s) where
-    pub number_none : g ≡ Nothing → no_number ≡ number_of s
+  module _ (l : length s ≤ 10) (g : Option (ℕ × ℕ)) (e : g ≡ number_at no_number s) where
+    pub number_none : g ≡ None → no_number ≡ number_of s
     unfolding number_of
     number_none z = rw (le-ltb 10 (length s) l, ← e, z)
 
-    module _ (v n : ℕ) (z : g ≡ Value v n) where
+    module _ (v n : ℕ) (z : g ≡ Some (v, n)) where
       pub number_cut : n < length s → no_number ≡ number_of s
       unfolding number_of
       number_cut h = rw (le-ltb 10 (length s) l, ← e, z, lt-ltb n (length s) h)

@@ -7,9 +7,7 @@ ghost use Rattle.settings.specs.Record.{record_size, host_room};
 ghost use Rattle.settings.specs.File.{gate_of};
 ghost use Rattle.settings_words.specs.Words.{Last, number_of, sign_len, no_offset, minutes_of, offset_of, last_variant, first_bad};
 
-use digits::Number;
 use program::{Process, Status, Takes, Wish};
-use record::Written;
 use settings::SettingsAnswer;
 
 // A word of `./settings-write`.
@@ -211,7 +209,7 @@ fn number_of(text: &[u8]) -> u32
     if 10 < text.len() {
         return NO_NUMBER;
     }
-    let Number::Value { value, len } = digits::digits(text, NO_NUMBER) else {
+    let Some((value, len)) = digits::digits(text, NO_NUMBER) else {
         return NO_NUMBER;
     };
     if len < text.len() {
@@ -355,8 +353,8 @@ fn write_record(process: &mut Process, w: Words, host: &[u8], usage: &[u8]) -> S
         w.version, w.gate, w.year, w.offset, w.variant, host, &mut text,
     );
     match written {
-        Written::Refused(_) => refuse(process, first_bad(w), usage),
-        Written::Done(_) => {
+        Err(_) => refuse(process, first_bad(w), usage),
+        Ok(_) => {
             program::say(process, &text);
             program::end(process, b"settings-write", true)
         }

@@ -1,4 +1,5 @@
 -- What the functions answer, by the walks.
+use Rattle.std.specs.Prelude.{Ok, Err}
 use Prim.Native.Nat.{ℕ, zero, suc, ◌+◌, ◌-◌, ◌*◌, ◌≤◌, ◌<◌}
 use mathlib.Core.Path.{◌≡◌, refl, sym, ap, ◌∙◌}
 use mathlib.Core.List.{List, [], ◌∷◌}
@@ -20,7 +21,6 @@ use Rattle.record.specs.Limits.{line_limit}
 use Rattle.record.specs.declared.Refusal.TheVariants.{BadSetting, OutputShort, BadCount, FrameTooLong}
 use Rattle.stream.specs.declared.State.{State}
 use Rattle.stream.specs.declared.State.TheVariants.{Count, Content, Line, Ended}
-use Rattle.stream.specs.declared.Started.TheVariants as started
 use Rattle.stream.specs.declared.Event.TheVariants.{More, Frame, Refused}
 use Rattle.stream.specs.declared.Fed.{Fed}
 use Rattle.stream.specs.declared.Digits.{Digits}
@@ -31,15 +31,15 @@ use Rattle.stream.specs.Steps.{mores, keeps, smallest, to_come, not_lf, Grew, Co
 use Rattle.stream.proofs.Amounts.{keeps_kept, held_length, smallest_left, smallest_right, smallest_le, smallest_gt}
 use Rattle.stream.proofs.Walks.{later_later, shown_ending, event_ending, line_on, line_end, content_on, content_done, count_space, count_bad}
 
-pub start_counted : (kind : ℕ) → kind ≡ 0 → started.Ready (Count 0) ≡ start_of kind
+pub start_counted : (kind : ℕ) → kind ≡ 0 → Ok (Count 0) ≡ start_of kind
 unfolding start_of
 start_counted kind e = rw (eq-eqb kind 0 e)
 
-pub start_lines : (kind : ℕ) → (kind ≡ 0 → ⊥) → kind ≡ 1 → started.Ready (Line 0) ≡ start_of kind
+pub start_lines : (kind : ℕ) → (kind ≡ 0 → ⊥) → kind ≡ 1 → Ok (Line 0) ≡ start_of kind
 unfolding start_of
 start_lines kind z e = rw (ne_eqb kind 0 z, eq-eqb kind 1 e)
 
-pub start_other : (kind : ℕ) → (kind ≡ 0 → ⊥) → (kind ≡ 1 → ⊥) → started.Refused BadSetting ≡ start_of kind
+pub start_other : (kind : ℕ) → (kind ≡ 0 → ⊥) → (kind ≡ 1 → ⊥) → Err BadSetting ≡ start_of kind
 unfolding start_of
 start_other kind z e = rw (ne_eqb kind 0 z, ne_eqb kind 1 e)
 

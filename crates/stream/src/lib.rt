@@ -24,13 +24,6 @@ pub enum State {
     Ended,
 }
 
-// The state at the start of a stream, or why there is none.
-#[derive(Clone, Copy)]
-pub enum Started {
-    Ready(State),
-    Refused(Refusal),
-}
-
 // What a call tells: nothing; a frame, which lies at the buffer's front, and its length; or a refusal.
 #[derive(Clone, Copy)]
 pub enum Event {
@@ -83,16 +76,16 @@ pub struct FinishAnswer {
 }
 
 // The state at the start of a stream, and at its restart. Kind 0 is counted, 1 lines.
-pub fn start(kind: u32) -> Started
+pub fn start(kind: u32) -> Result<State, Refusal>
     ensures { result ≡ start_of kind }
 {
     if kind == 0 {
-        return Started::Ready(State::Count(0));
+        return Ok(State::Count(0));
     }
     if kind == 1 {
-        return Started::Ready(State::Line(0));
+        return Ok(State::Line(0));
     }
-    Started::Refused(Refusal::BadSetting)
+    Err(Refusal::BadSetting)
 }
 
 // At the end of the stream: the content bytes of an unfinished frame.
@@ -398,16 +391,16 @@ fn numbers_of(state: State) -> StreamState
 }
 
 // The state that the numbers are.
-fn state_of(x: StreamState) -> Started
+fn state_of(x: StreamState) -> Result<State, Refusal>
     ensures { result ≡ state_of x }
 {
     let stage = x.stage;
     match stage {
-        1 => Started::Ready(State::Count(x.left)),
-        2 => Started::Ready(State::Content(x.left, x.came)),
-        3 => Started::Ready(State::Line(x.came)),
-        4 => Started::Ready(State::Ended),
-        _ => Started::Refused(Refusal::BadSetting),
+        1 => Ok(State::Count(x.left)),
+        2 => Ok(State::Content(x.left, x.came)),
+        3 => Ok(State::Line(x.came)),
+        4 => Ok(State::Ended),
+        _ => Err(Refusal::BadSetting),
     }
 }
 
@@ -417,11 +410,11 @@ pub fn start_numbers(kind: u32) -> StartAnswer
 {
     let started = start(kind);
     match started {
-        Started::Ready(s) => StartAnswer {
+        Ok(s) => StartAnswer {
             number: 0,
             state: numbers_of(s),
         },
-        Started::Refused(f) => StartAnswer {
+        Err(f) => StartAnswer {
             number: record::refusal_number(f),
             state: StreamState {
                 stage: 0,
@@ -476,8 +469,8 @@ pub fn feed_numbers(x: StreamState, bytes: &[u8], buffer: &mut [u8]) -> FeedAnsw
 {
     let started = state_of(x);
     match started {
-        Started::Refused(f) => return told(0, x, Event::Refused(f)),
-        Started::Ready(s) => {
+        Err(f) => return told(0, x, Event::Refused(f)),
+        Ok(s) => {
             if buffer.len() < record::LINE_LIMIT {
                 return told(0, x, Event::Refused(Refusal::OutputShort));
             }
@@ -492,11 +485,11 @@ pub fn finish_numbers(x: StreamState) -> FinishAnswer
 {
     let started = state_of(x);
     match started {
-        Started::Ready(s) => FinishAnswer {
+        Ok(s) => FinishAnswer {
             number: 0,
             unfinished: finish(s),
         },
-        Started::Refused(f) => FinishAnswer {
+        Err(f) => FinishAnswer {
             number: record::refusal_number(f),
             unfinished: 0,
         },

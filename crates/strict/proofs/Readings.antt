@@ -1,5 +1,5 @@
 -- The reading: each answer of the reader is the one that its contract names.
-use Rattle.std.specs.Prelude.{if◌then◌else◌}
+use Rattle.std.specs.Prelude.{if◌then◌else◌, Result, Ok, Err}
 use Prim.Native.Nat.{ℕ, ◌≤◌, ◌<◌}
 use mathlib.Core.Path.{◌≡◌, refl, sym, ap, ap₂, ◌∙◌}
 use mathlib.Core.Bool.{Bool, true, false}
@@ -24,7 +24,6 @@ use Rattle.grammar.proofs.Data.{data_reads}
 use Rattle.grammar.proofs.Lines.{header_of, parse_sound, none_derived}
 use Rattle.strict_data.specs.Filling.{elements_at, elements_of, Fillable}
 use Rattle.record.specs.declared.StrictReading.{StrictReading}
-use Rattle.record.specs.declared.StrictReading.TheVariants.{Read, Refused}
 use Rattle.record.specs.declared.StrictRecord.{StrictRecord}
 use Rattle.record.specs.declared.Refusal.{Refusal}
 use Rattle.record.specs.declared.Refusal.TheVariants.{LineTooLong, NoReading, TooManyElements, TooManyParams}
@@ -120,7 +119,7 @@ module _ (j : Judged) where
     pub data_refused : record { from = 0; len = 0 } ≡ data_of j
     data_refused = rw z
 
-    pub reading_refused : Refused x ≡ reading_of j
+    pub reading_refused : Err x ≡ reading_of j
     reading_refused = rw z
 
   module _ (r : StrictRecord) (at len n k : ℕ) (z : j ≡ Fitting r at len n k) where
@@ -130,13 +129,13 @@ module _ (j : Judged) where
     pub data_read : record { from = at; len = len } ≡ data_of j
     data_read = rw z
 
-    pub reading_read : Read r n k ≡ reading_of j
+    pub reading_read : Ok (record { reading = r; elements = n; params = k }) ≡ reading_of j
     reading_read = rw z
 
 pub ruleset asked_laws = (fitting_refused, data_refused, reading_refused, fitting_read, data_read, reading_read)
 
 -- no table at hand
-pub answer_is : (line : List ℕ) (e p : ℕ) (j : Judged) → j ≡ judged line e p → (x : StrictReading) → x ≡ reading_of j → x ≡ answered line e p
+pub answer_is : (line : List ℕ) (e p : ℕ) (j : Judged) → j ≡ judged line e p → (x : Result StrictReading Refusal) → x ≡ reading_of j → x ≡ answered line e p
 unfolding answered
 answer_is line e p j q x h = h ∙ ap reading_of q
 
@@ -149,16 +148,16 @@ record Fits (line : List ℕ) (e p : ℕ) (r : StrictRecord) (at len n k : ℕ) 
 
 module _ (line : List ℕ) (e₀ p₀ : List (List ℕ)) where
   module _ (short : length line ≤ line_limit) (r : StrictRecord) (at len n k : ℕ) (w : Divided line r at len n k) where
-    elements_refused : length e₀ < n → StrictReads line e₀ p₀ (Refused TooManyElements) e₀ p₀
+    elements_refused : length e₀ < n → StrictReads line e₀ p₀ (Err TooManyElements) e₀ p₀
     elements_refused l = elements_over w.into_fields short w.derived (rw w.elements_counted at l) refl refl refl
 
-    params_refused : n ≤ length e₀ → length p₀ < k → StrictReads line e₀ p₀ (Refused TooManyParams) e₀ p₀
+    params_refused : n ≤ length e₀ → length p₀ < k → StrictReads line e₀ p₀ (Err TooManyParams) e₀ p₀
     params_refused room l = params_over w.into_fields short w.derived (rw w.elements_counted at room) (rw w.params_counted at l) refl refl refl
 
   -- a refusal leaves the tables
   module _ (x : Refusal) where
     abbrev Refuses : Type 0
-    Refuses = StrictReads line e₀ p₀ (Refused x) e₀ p₀
+    Refuses = StrictReads line e₀ p₀ (Err x) e₀ p₀
 
     refused_fitting : length line ≤ line_limit → (o : Scan) → o ≡ scan_of (parse line) → fitting o (length e₀) (length p₀) ≡ Refuse x → Refuses
     refused_fitting short NoScan eo h =
@@ -234,17 +233,17 @@ module _ (line : List ℕ) (e₀ p₀ : List (List ℕ)) where
           }
 
       fits_read : (e₁ p₁ : List (List ℕ)) → e₁ ≡ filled (element_rows at (elements_at line at)) e₀ → p₁ ≡ filled (param_rows 0 at (elements_at line at)) p₀
-          → StrictReads line e₀ p₀ (Read r n k) e₁ p₁
+          → StrictReads line e₀ p₀ (Ok (record { reading = r; elements = n; params = k })) e₁ p₁
       fits_read e₁ p₁ ee ep =
           let w = c.division in
           let d = w.into_fields in
           accepted d c.short w.derived (rw w.elements_counted at c.room) (rw w.params_counted at c.space)
-          (λ i. Read (w.record_is i) (w.elements_counted i) (w.params_counted i))
+          (λ i. Ok (record { reading = w.record_is i; elements = w.elements_counted i; params = w.params_counted i }))
           (ee ∙ ap₂ (λ (a : ℕ) (es : List Element). filled (element_rows a es) e₀) w.data_starts same_elements)
           (ep ∙ ap₂ (λ (a : ℕ) (es : List Element). filled (param_rows 0 a es) p₀) w.data_starts same_elements)
 
   module _ (j : Judged) (q : j ≡ judged line (length e₀) (length p₀)) where
-    pub read_refused : (x : Refusal) → j ≡ Refuse x → StrictReads line e₀ p₀ (Refused x) e₀ p₀
+    pub read_refused : (x : Refusal) → j ≡ Refuse x → StrictReads line e₀ p₀ (Err x) e₀ p₀
     read_refused x z = refused_reads x (sym q ∙ z)
 
     module _ (r : StrictRecord) (at len n k : ℕ) (z : j ≡ Fitting r at len n k) where
@@ -252,11 +251,11 @@ module _ (line : List ℕ) (e₀ p₀ : List (List ℕ)) where
       fill_there = fits_fill r at len n k (fits r at len n k (sym q ∙ z))
 
       pub read_done : (e₁ p₁ : List (List ℕ)) → e₁ ≡ filled (element_rows at (elements_at line at)) e₀ → p₁ ≡ filled (param_rows 0 at (elements_at line at)) p₀
-          → StrictReads line e₀ p₀ (Read r n k) e₁ p₁
+          → StrictReads line e₀ p₀ (Ok (record { reading = r; elements = n; params = k })) e₁ p₁
       read_done = fits_read r at len n k (fits r at len n k (sym q ∙ z))
 
 -- What is asked of a judgement is right for the tables: as they are where the line is refused, and filled where it is read.
-pub record Served (line : List ℕ) (e₀ p₀ : List (List ℕ)) (reads : Bool) (d : Data) (x : StrictReading) : Type 0 where
+pub record Served (line : List ℕ) (e₀ p₀ : List (List ℕ)) (reads : Bool) (d : Data) (x : Result StrictReading Refusal) : Type 0 where
   pub as_they_are : reads ≡ false → StrictReads line e₀ p₀ x e₀ p₀
   pub room : reads ≡ true → Fillable line d.from d.len e₀ p₀
   pub filled_in : reads ≡ true → (e₁ p₁ : List (List ℕ)) → e₁ ≡ filled (element_rows d.from (elements_at line d.from)) e₀ → p₁ ≡ filled (param_rows 0 d.from (elements_at line d.from)) p₀
@@ -272,7 +271,7 @@ served line e₀ p₀ (Fitting r at len n k) c =
     }
 
 -- What is answered with no table at hand is what a reading into tables of those sizes answers.
-pub record Answers (line : List ℕ) (e₀ p₀ : List (List ℕ)) (r : StrictReading) : Type 0 where
+pub record Answers (line : List ℕ) (e₀ p₀ : List (List ℕ)) (r : Result StrictReading Refusal) : Type 0 where
   pub elements : List (List ℕ)
   pub params : List (List ℕ)
   pub reads : StrictReads line e₀ p₀ r elements params

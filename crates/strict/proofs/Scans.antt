@@ -1,4 +1,5 @@
 -- The first pass: what its pieces answer, and the division that they make.
+use Rattle.std.specs.Prelude.{Some, None}
 use Prim.Native.Nat.{ℕ, ◌+◌, ◌-◌, ◌^◌, ◌≤◌, ◌<◌}
 use mathlib.Core.Path.{◌≡◌, refl, sym, ap, ◌∙◌}
 use mathlib.Core.Bool.{true, false}
@@ -19,13 +20,10 @@ use Rattle.grammar.proofs.Header.{full_reads, header_then, HeaderOk, header_read
 use Rattle.grammar.proofs.Data.{data_reads}
 use Rattle.strict_header.specs.Header.{header_at, heading, text_place}
 use Rattle.strict_header.specs.declared.HeaderAt.{HeaderAt}
-use Rattle.strict_header.specs.declared.Heading.{Heading}
-use Rattle.strict_header.specs.declared.Heading.TheVariants.{NoHeader, IsHeader}
 use Rattle.strict_header.proofs.Callers.{header_none, header_some, header_within, prival_to}
 use Rattle.strict_header.proofs.Steps.{finds_ok}
 use Rattle.strict_data.specs.Counts.{counts_of, tail_of}
 use Rattle.strict_data.specs.declared.Counts.{Counts}
-use Rattle.strict_data.specs.declared.Counts.TheVariants.{NoData, IsData}
 use Rattle.strict_data.specs.declared.Tail.{Tail}
 use Rattle.strict_data.specs.declared.Tail.TheVariants.{NoTail, NoMessage, IsMessage}
 use Rattle.strict_data.proofs.Answers.{FindsTail, finds_data, misses_data, finds_message, finds_none, misses_tail}
@@ -84,17 +82,17 @@ unfolding message choose at_end
 message_there [] m b e = let z : true ≡ false = cc in clash z
 message_there (x ∷ v) m b e = omega arith
 
-module _ (s : List ℕ) (f : Heading) (e : f ≡ heading (header s)) where
-  pub scan_no_header : f ≡ NoHeader → NoScan ≡ scan_of (parse s)
+module _ (s : List ℕ) (f : Option HeaderAt) (e : f ≡ heading (header s)) where
+  pub scan_no_header : f ≡ None → NoScan ≡ scan_of (parse s)
   scan_no_header h = no_header s (header_none s f e h).is
 
-  module _ (x : HeaderAt) (h : f ≡ IsHeader x) (u : List ℕ) (eu : u ≡ drop x.next s) (g : Counts) (eg : g ≡ counts_of (structured u)) where
-    pub scan_no_data : g ≡ NoData → NoScan ≡ scan_of (parse s)
+  module _ (x : HeaderAt) (h : f ≡ Some x) (u : List ℕ) (eu : u ≡ drop x.next s) (g : Option Counts) (eg : g ≡ counts_of (structured u)) where
+    pub scan_no_data : g ≡ None → NoScan ≡ scan_of (parse s)
     scan_no_data z =
         let w = header_some s f e x h in
         no_data_lem s w.value x.next w.is (rw (← eu) (misses_data (structured u) g eg z))
 
-    module _ (len n k : ℕ) (hg : g ≡ IsData len n k) (v : List ℕ) (ev : v ≡ drop len u) (t : Tail) (et : t ≡ tail_of (message v)) where
+    module _ (len n k : ℕ) (hg : g ≡ Some (record { len = len; elements = n; params = k })) (v : List ℕ) (ev : v ≡ drop len u) (t : Tail) (et : t ≡ tail_of (message v)) where
       pub scan_no_tail : t ≡ NoTail → NoScan ≡ scan_of (parse s)
       scan_no_tail z =
           let w = header_some s f e x h in

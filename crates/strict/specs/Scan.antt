@@ -1,24 +1,23 @@
 -- For private contracts alone: what the first pass keeps of a line that the parser of `grammar` divides: the record, where the structured data stands, and the counts;
 -- and what is answered before a table is touched.
-use Rattle.std.specs.Prelude.{ℕ, ◌/◌, ◌%◌, Bool, true, false, List, [], ltb, length, if◌then◌else◌}
+use Rattle.std.specs.Prelude.{ℕ, ◌/◌, ◌%◌, Bool, true, false, List, [], ltb, length, if◌then◌else◌, Some, Result, Ok, Err}
 use Rattle.record.specs.Limits.{line_limit}
 use Rattle.grammar.specs.Line.{Division, data_then}
 use Rattle.grammar.specs.Parse.{Parsed, parse}
 use Rattle.grammar.specs.Parse.Parsed.{failed, found}
 use Rattle.grammar.specs.Reading.{record_of, data_at, param_count}
 use Rattle.strict_header.specs.declared.HeaderAt.{HeaderAt}
-use Rattle.record.specs.declared.Level.TheVariants.{Set}
 use Rattle.record.specs.declared.Protocol.TheVariants.{Rfc5424}
 use Rattle.record.specs.declared.Span.{Span}
 use Rattle.record.specs.declared.StrictRecord.{StrictRecord}
 use Rattle.record.specs.declared.StrictReading.{StrictReading}
-use Rattle.record.specs.declared.StrictReading.TheVariants.{Read, Refused}
 use Rattle.record.specs.declared.Refusal.TheVariants.{LineTooLong, NoReading, TooManyElements, TooManyParams}
 use Rattle.strict.specs.declared.Judged.{Judged}
 use Rattle.strict.specs.declared.Judged.TheVariants.{Refuse, Fitting}
 use Rattle.strict.specs.declared.Data.{Data}
 use Rattle.strict.specs.declared.Scan.{Scan}
 use Rattle.strict.specs.declared.Scan.TheVariants.{NoScan, IsScan}
+use Rattle.record.specs.declared.Refusal.{Refusal}
 
 -- the record of a header and a message
 unfoldable pub record_with : HeaderAt → Span → Bool → StrictRecord
@@ -26,8 +25,8 @@ record_with h message present =
     record {
       common = record {
         protocol = Rfc5424 h.version;
-        facility = Set (h.prival / 8);
-        severity = Set (h.prival % 8);
+        facility = Some (h.prival / 8);
+        severity = Some (h.prival % 8);
         timestamp = h.timestamp;
         host = h.host;
         app = h.app;
@@ -63,10 +62,10 @@ abbrev pub data_of : Judged → Data
 data_of (Refuse f) = record { from = 0; len = 0 }
 data_of (Fitting r at len n k) = record { from = at; len = len }
 
-abbrev pub reading_of : Judged → StrictReading
-reading_of (Refuse f) = Refused f
-reading_of (Fitting r at len n k) = Read r n k
+abbrev pub reading_of : Judged → Result StrictReading Refusal
+reading_of (Refuse f) = Err f
+reading_of (Fitting r at len n k) = Ok (record { reading = r; elements = n; params = k })
 
 -- what reading answers to tables of `e` and `p` entries
-unfoldable pub answered : List ℕ → ℕ → ℕ → StrictReading
+unfoldable pub answered : List ℕ → ℕ → ℕ → Result StrictReading Refusal
 answered line e p = reading_of (judged line e p)

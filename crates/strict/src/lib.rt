@@ -8,9 +8,9 @@ ghost use Rattle.grammar.specs.Reading.{StrictReads};
 ghost use Rattle.record.specs.Params.{rows};
 ghost use Rattle.strict.specs.Scan.{record_with, scan_of, judged, is_fitting, data_of, reading_of, answered};
 
-use record::{Level, Param, Protocol, Record, Refusal, Span, StrictReading, StrictRecord};
+use record::{Param, Protocol, Record, Refusal, Span, StrictReading, StrictRecord};
 use strict_data::{Counts, Tail};
-use strict_header::{HeaderAt, Heading};
+use strict_header::HeaderAt;
 
 // What a line holds before its rows are stored: the record, where the structured data stands and how many bytes it takes, and both counts.
 #[derive(Clone, Copy)]
@@ -39,8 +39,8 @@ fn record_of(h: HeaderAt, message: Span, present: bool) -> StrictRecord
     let msgid = h.msgid;
     let common = Record {
         protocol: Protocol::Rfc5424(h.version),
-        facility: Level::Set((h.prival / 8) as u8),
-        severity: Level::Set((h.prival % 8) as u8),
+        facility: Some((h.prival / 8) as u8),
+        severity: Some((h.prival % 8) as u8),
         timestamp,
         host,
         app,
@@ -60,16 +60,18 @@ fn scan_line(line: &[u8]) -> Scan
     requires { length line.now ≤ line_limit }
     ensures { result ≡ scan_of (parse.parse line.now) }
 {
-    let Heading::IsHeader(h) = strict_header::read_header(line) else {
+    let Some(h) = strict_header::read_header(line) else {
         return Scan::NoScan;
     };
     let at = h.next;
     let s = base::past(line, at);
-    let Counts::IsData {
-        len,
-        elements,
-        params,
-    } = strict_data::count_data(s)
+    let Some(
+        Counts {
+            len,
+            elements,
+            params,
+        },
+    ) = strict_data::count_data(s)
     else {
         return Scan::NoScan;
     };
@@ -141,24 +143,32 @@ fn data_of(judged: Judged) -> Data
     }
 }
 
-fn reading_of(judged: Judged) -> StrictReading
+fn reading_of(judged: Judged) -> Result<StrictReading, Refusal>
     ensures { result ≡ reading_of judged }
 {
     match judged {
-        Judged::Refuse(refusal) => StrictReading::Refused(refusal),
-        Judged::Fitting(r, _, _, e, p) => StrictReading::Read(r, e, p),
+        Judged::Refuse(refusal) => Err(refusal),
+        Judged::Fitting(r, _, _, e, p) => Ok(StrictReading {
+            reading: r,
+            elements: e,
+            params: p,
+        }),
     }
 }
 
 // What reading answers to tables of `e` and `p` entries, with no table at hand.
-pub fn answer(line: &[u8], e: usize, p: usize) -> StrictReading
+pub fn answer(line: &[u8], e: usize, p: usize) -> Result<StrictReading, Refusal>
     ensures { result ≡ answered line.now e p }
 {
     reading_of(judge(line, e, p))
 }
 
 // Reads a line strictly. On a refusal the tables keep their entries, and entries past the counts are kept always.
-pub fn read(line: &[u8], elements: &mut [[usize; 2]], params: &mut [Param]) -> StrictReading
+pub fn read(
+    line: &[u8],
+    elements: &mut [[usize; 2]],
+    params: &mut [Param],
+) -> Result<StrictReading, Refusal>
     ensures { StrictReads line.now elements.old (rows params.old) result elements.new (rows params.new) }
 {
     let e = elements.len();

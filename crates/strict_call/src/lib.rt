@@ -3,7 +3,6 @@
 
 ghost use Rattle.std.specs.Prelude.{◌≡◌, ◌≤◌, length};
 ghost use Rattle.record.specs.Params.{rows};
-ghost use Rattle.record.specs.declared.StrictReading.TheVariants.{Refused};
 ghost use Rattle.layout.specs.Layout.{strict_size};
 ghost use Rattle.exports.specs.Exports.{LeavesStrict};
 ghost use Rattle.exports.specs.Steps.{StrictTold, StrictShort, StrictLeft};
@@ -30,28 +29,40 @@ fn told(line: &[u8], refusal: Refusal) -> ReadAnswer
 }
 
 // What is answered where the record's memory is too short: 8 in place of 0.
-fn short(line: &[u8], r: StrictReading) -> ReadAnswer
+fn short(line: &[u8], r: Result<StrictReading, Refusal>) -> ReadAnswer
     ensures { StrictShort line.now r result }
 {
     match r {
-        StrictReading::Read(_, _, _) => {
+        Ok(
+            StrictReading {
+                reading: _,
+                elements: _,
+                params: _,
+            },
+        ) => {
             return ReadAnswer {
                 number: 8,
                 whole: 0,
                 reach: 0,
             };
         }
-        StrictReading::Refused(refusal) => return told(line, refusal),
+        Err(refusal) => return told(line, refusal),
     }
 }
 
 // What is answered, and the record in `memory` where the number is 0.
-fn leave(line: &[u8], r: StrictReading, memory: &mut [u8]) -> ReadAnswer
+fn leave(line: &[u8], r: Result<StrictReading, Refusal>, memory: &mut [u8]) -> ReadAnswer
     requires { strict_size ≤ length memory.old }
     ensures { StrictLeft line.now r memory.old result memory.new }
 {
     match r {
-        StrictReading::Read(read, elements, params) => {
+        Ok(
+            StrictReading {
+                reading: read,
+                elements,
+                params,
+            },
+        ) => {
             layout::put_strict(memory, read, elements, params);
             return ReadAnswer {
                 number: 0,
@@ -59,7 +70,7 @@ fn leave(line: &[u8], r: StrictReading, memory: &mut [u8]) -> ReadAnswer
                 reach: 0,
             };
         }
-        StrictReading::Refused(refusal) => return told(line, refusal),
+        Err(refusal) => return told(line, refusal),
     }
 }
 

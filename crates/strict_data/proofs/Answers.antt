@@ -1,4 +1,5 @@
 -- What the answers of the readers say of what the parser finds.
+use Rattle.std.specs.Prelude.{Some, None}
 use Prim.Native.Nat.{ℕ}
 use mathlib.Core.Path.{◌≡◌, refl}
 use mathlib.Core.Bool.{true, false}
@@ -19,7 +20,6 @@ use Rattle.strict_data.specs.declared.Block.TheVariants.{NoBlock, IsBlock}
 use Rattle.strict_data.specs.declared.Item.{Item}
 use Rattle.strict_data.specs.declared.Item.TheVariants.{NoItem, IsItem}
 use Rattle.strict_data.specs.declared.Counts.{Counts}
-use Rattle.strict_data.specs.declared.Counts.TheVariants.{NoData, IsData}
 use Rattle.strict_data.specs.declared.Tail.{Tail}
 use Rattle.strict_data.specs.declared.Tail.TheVariants.{NoTail, NoMessage, IsMessage}
 
@@ -79,12 +79,12 @@ pub record FindsData (o : Parsed (List Element)) (m n k : ℕ) : Type 0 where
   pub counted : n ≡ length value
   pub params_counted : k ≡ param_count value
 
-module _ (o : Parsed (List Element)) (g : Counts) (e : g ≡ counts_of o) where
-  pub finds_data : {m n k : ℕ} → g ≡ IsData m n k → FindsData o m n k
+module _ (o : Parsed (List Element)) (g : Option Counts) (e : g ≡ counts_of o) where
+  pub finds_data : {m n k : ℕ} → g ≡ Some (record { len = m; elements = n; params = k }) → FindsData o m n k
   finds_data {m} {n} {k} h =
       told counts_of o g e (λ q _. let z : true ≡ false = cc in clash z) (λ es l q r. record { value = es; is = cc; counted = cc; params_counted = cc })
 
-  pub misses_data : g ≡ NoData → o ≡ failed
+  pub misses_data : g ≡ None → o ≡ failed
   misses_data h = told counts_of o g e (λ _ r. r) (λ es l q _. let z : true ≡ false = cc in clash z)
 
 -- ---- the message

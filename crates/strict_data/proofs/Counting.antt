@@ -1,4 +1,5 @@
 -- The walks over parameters and over elements: their steps, and what they count.
+use Rattle.std.specs.Prelude.{Option, Some, None}
 use Prim.Native.Nat.{ℕ, suc, ◌+◌, ◌-◌, ◌^◌, ◌≤◌, ◌<◌}
 use mathlib.Core.Path.{◌≡◌, refl, sym, ap, ap₂, ◌∙◌}
 use mathlib.Core.Bool.{Bool, true, false, not}
@@ -32,7 +33,6 @@ use Rattle.strict_data.specs.declared.Block.TheVariants.{NoBlock, IsBlock}
 use Rattle.strict_data.specs.declared.Item.{Item}
 use Rattle.strict_data.specs.declared.Item.TheVariants.{NoItem, IsItem}
 use Rattle.strict_data.specs.declared.Counts.{Counts}
-use Rattle.strict_data.specs.declared.Counts.TheVariants.{NoData, IsData}
 use Rattle.strict_data.proofs.Answers.{finds, misses, finds_block, misses_block, FindsItem, finds_item, misses_item, FindsData, finds_data, misses_data}
 use Rattle.strict_data.proofs.Differing.{all_differ}
 use Rattle.strict_data.proofs.Pieces.{name_within}
@@ -214,17 +214,17 @@ unfolding elements_start
 start_items s = refl
 
 module _ (s : List ℕ) (i n k : ℕ) (w : Elements s i n k) where
-  ended_here : many 91 element s ≡ found w.items i → IsData i n k ≡ counts_of (many 91 element s)
+  ended_here : many 91 element s ≡ found w.items i → Some (record { len = i; elements = n; params = k }) ≡ counts_of (many 91 element s)
   ended_here e = rw (e, w.counted, w.params_counted)
 
-  pub elements_out : length s ≤ i → IsData i n k ≡ counts_of (many 91 element s)
+  pub elements_out : length s ≤ i → Some (record { len = i; elements = n; params = k }) ≡ counts_of (many 91 element s)
   elements_out h = ended_here (passed_all 90 element s w.items i w.passed h)
 
-  pub elements_other : (get_or s i 0 ≡ 91 → ⊥) → IsData i n k ≡ counts_of (many 91 element s)
+  pub elements_other : (get_or s i 0 ≡ 91 → ⊥) → Some (record { len = i; elements = n; params = k }) ≡ counts_of (many 91 element s)
   elements_other e = ended_here (passed_other 90 element s w.items i w.passed e)
 
   module _ (e : get_or s i 0 ≡ 91) (u : List ℕ) (eu : u ≡ drop (i + 1) s) (g : Item) (eg : g ≡ item_of (element u)) where
-    pub elements_bad : g ≡ NoItem → NoData ≡ counts_of (many 91 element s)
+    pub elements_bad : g ≡ NoItem → None ≡ counts_of (many 91 element s)
     elements_bad h = rw (passed_bad 90 element s w.items i w.passed e (ap element (sym eu) ∙ misses_item (element u) g eg h))
 
     module _ (m c n' : ℕ) (h : g ≡ IsItem m c n') (l : i < length s) where
@@ -275,20 +275,20 @@ not_same true false e = clash (sym e)
 not_same false true e = clash e
 
 module _ (s : List ℕ) (t : Bool) (et : t ≡ is_at s 0 45) where
-  pub data_nil : t ≡ true → IsData 1 0 0 ≡ counts_of (structured s)
+  pub data_nil : t ≡ true → Some (record { len = 1; elements = 0; params = 0 }) ≡ counts_of (structured s)
   unfolding structured listed choose only
   data_nil h = rw (← et, h)
 
-  module _ (h : t ≡ false) (g : Counts) (eg : g ≡ counts_of (many 91 element s)) where
-    pub data_bad : g ≡ NoData → NoData ≡ counts_of (structured s)
+  module _ (h : t ≡ false) (g : Option Counts) (eg : g ≡ counts_of (many 91 element s)) where
+    pub data_bad : g ≡ None → None ≡ counts_of (structured s)
     unfolding structured listed choose only
     data_bad b = rw (← et, h, misses_data (many 91 element s) g eg b)
 
-    module _ (m n k : ℕ) (b : g ≡ IsData m n k) where
+    module _ (m n k : ℕ) (b : g ≡ Some (record { len = m; elements = n; params = k })) where
       all_here : FindsData (many 91 element s) m n k
       all_here = finds_data (many 91 element s) g eg b
 
-      pub data_empty : n ≡ 0 → NoData ≡ counts_of (structured s)
+      pub data_empty : n ≡ 0 → None ≡ counts_of (structured s)
       unfolding structured listed choose only
       data_empty z =
           let f = all_here in
@@ -300,14 +300,14 @@ module _ (s : List ℕ) (t : Bool) (et : t ≡ is_at s 0 45) where
             let e : elements_in s ≡ all_here.value = ap elements_of all_here.is in
             ap ids_differ (sym e) ∙ sym (all_differ s g m n k eg b) ∙ sym er ∙ not_same r x q
 
-        pub data_repeats : not r ≡ true → NoData ≡ counts_of (structured s)
+        pub data_repeats : not r ≡ true → None ≡ counts_of (structured s)
         unfolding structured listed choose only
         data_repeats q =
             let f = all_here in
             let d = tells false q in
             rw (← et, h, f.is, le-leb 1 (length f.value) (omega (arith, f.counted)), d)
 
-        pub data_is : not r ≡ false → IsData m n k ≡ counts_of (structured s)
+        pub data_is : not r ≡ false → Some (record { len = m; elements = n; params = k }) ≡ counts_of (structured s)
         unfolding structured listed choose only
         data_is q =
             let f = all_here in
@@ -317,5 +317,5 @@ module _ (s : List ℕ) (t : Bool) (et : t ≡ is_at s 0 45) where
 pub ruleset data_laws = (data_nil, data_bad, data_empty, data_repeats, data_is)
 
 -- what is counted lies within the text
-pub data_within : (s : List ℕ) (g : Counts) (m n k : ℕ) → g ≡ counts_of (structured s) → g ≡ IsData m n k → m ≤ length s
+pub data_within : (s : List ℕ) (g : Option Counts) (m n k : ℕ) → g ≡ counts_of (structured s) → g ≡ Some (record { len = m; elements = n; params = k }) → m ≤ length s
 data_within s g m n k e h = let f = finds_data (structured s) g e h in found_within data_reads s f.value m f.is

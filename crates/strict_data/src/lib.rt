@@ -18,15 +18,12 @@ ghost use Rattle.strict_data.specs.Filling.{elements_at, Fillable};
 
 use record::Param;
 
-// The structured data at the front of a part: how many bytes, elements and parameters.
+// @@Counts
 #[derive(Clone, Copy)]
-pub enum Counts {
-    NoData,
-    IsData {
-        len: usize,
-        elements: usize,
-        params: usize,
-    },
+pub struct Counts {
+    pub len: usize,
+    pub elements: usize,
+    pub params: usize,
 }
 
 // What stands after the structured data: nothing, or a space and a message of so many bytes.
@@ -213,7 +210,7 @@ fn note_id(starts: &mut [u16], lens: &mut [u8], k: usize, start: usize, len: usi
 }
 
 // The elements up to what is none, and the places of the first of their ids, as many as the tables have entries for.
-fn elements(s: &[u8], starts: &mut [u16], lens: &mut [u8]) -> Counts
+fn elements(s: &[u8], starts: &mut [u16], lens: &mut [u8]) -> Option<Counts>
     requires { Noting s.now starts.old lens.old }
     ensures value { result ≡ counts_of (parse.many 91 parse.element s.now) }
     ensures listed { Listed s.now (parse.many 91 parse.element s.now) starts.old lens.old starts.new lens.new }
@@ -225,25 +222,25 @@ fn elements(s: &[u8], starts: &mut [u16], lens: &mut [u8]) -> Counts
         let b = s[i];
         let j = i + 1;
         if b != b'[' {
-            return Counts::IsData {
+            return Some(Counts {
                 len: i,
                 elements,
                 params: all,
-            };
+            });
         }
         let Item::IsItem { len, params, id } = element(base::past(s, j)) else {
-            return Counts::NoData;
+            return None;
         };
         note_id(starts, lens, elements, j, id);
         i = j + len;
         elements += 1;
         all += params;
     }
-    Counts::IsData {
+    Some(Counts {
         len: i,
         elements,
         params: all,
-    }
+    })
 }
 
 // Whether the ids of the first `count` elements differ. Their places are noted in a second pass, and a tree of them is made, in tables that take all.
@@ -324,38 +321,35 @@ fn ids_differ<'a>(s: &'a [u8], count: usize, starts: &'a [u16], lens: &'a [u8]) 
 }
 
 // Reads the structured data at the front of a part, and counts what is in it.
-pub fn count_data(s: &[u8]) -> Counts
+pub fn count_data(s: &[u8]) -> Option<Counts>
     requires { length s.now ≤ line_limit }
     ensures { result ≡ counts_of (parse.structured s.now) }
 {
     if base::is_at(s, 0, b'-') {
-        return Counts::IsData {
+        return Some(Counts {
             len: 1,
             elements: 0,
             params: 0,
-        };
+        });
     }
     let mut starts = [0u16; 8];
     let mut lens = [0u8; 8];
-    let Counts::IsData {
+    let Counts {
         len,
         elements,
         params,
-    } = elements(s, &mut starts, &mut lens)
-    else {
-        return Counts::NoData;
-    };
+    } = elements(s, &mut starts, &mut lens)?;
     if elements == 0 {
-        return Counts::NoData;
+        return None;
     }
     if !ids_differ(s, elements, &starts, &lens) {
-        return Counts::NoData;
+        return None;
     }
-    Counts::IsData {
+    Some(Counts {
         len,
         elements,
         params,
-    }
+    })
 }
 
 // Whether the message is one of any bytes, or a byte order mark and then UTF-8.

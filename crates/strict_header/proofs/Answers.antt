@@ -1,4 +1,5 @@
 -- The answers of the code and what was found.
+use Rattle.std.specs.Prelude.{◌×◌, Some, None}
 use Prim.Native.Nat.{ℕ, ◌+◌}
 use mathlib.Core.Path.{◌≡◌, refl, sym, ap, ◌∙◌}
 use mathlib.Core.Bool.{true, false}
@@ -8,14 +9,11 @@ use lib.IntN.{ℤ}
 use lib.ListN.{length}
 use Rattle.base.proofs.Tests.{clash}
 use Rattle.digits.specs.Digits.{decimal}
-use Rattle.digits.specs.declared.Number.{Number}
-use Rattle.digits.specs.declared.Number.TheVariants.{Nothing, Value}
 use Rattle.grammar.specs.Parse.{Parsed, Reader, Three, Names}
 use Rattle.grammar.specs.Parse.Parsed.{failed, found}
 use Rattle.grammar.specs.Line.{Offset, Timestamp}
 use Rattle.grammar.specs.Reading.{place_of, offset_of, nanos_of, digits_of, stamp_of}
 use Rattle.record.specs.declared.Place.{Place}
-use Rattle.record.specs.declared.Stamp.{Stamp}
 use Rattle.strict_header.specs.Pieces.{value_of, pair_of, triple_of, offset_at, ending_at, stamp_at, field_at, ids_at, names_at}
 use Rattle.strict_header.specs.declared.PairAt.{PairAt}
 use Rattle.strict_header.specs.declared.PairAt.TheVariants.{NoPair, IsPair}
@@ -59,14 +57,14 @@ module _ {A R : Type 0} (m : Parsed A → R) {p : Reader A} {s : List ℕ} where
         go (found a l) q g = let f = k a l g in record { value = a; is = q ∙ ap (found a) f.0; has = f.1 }
 
 module _ {A : Type 0} (f : A → ℕ) {p : Reader A} {s : List ℕ} where
-  pub value_found : {v n : ℕ} → Finds (λ a. f a ≡ v) n p s → Value v n ≡ (value_of f) (p s)
+  pub value_found : {v n : ℕ} → Finds (λ a. f a ≡ v) n p s → Some (v, n) ≡ (value_of f) (p s)
   value_found w = found_answer (value_of f) w (λ a h. rw h)
 
-  module _ {r : Number} (e : r ≡ (value_of f) (p s)) where
-    pub value_none : r ≡ Nothing → Fails p s
+  module _ {r : (Option (ℕ × ℕ))} (e : r ≡ (value_of f) (p s)) where
+    pub value_none : r ≡ None → Fails p s
     value_none h = none_found (value_of f) e (λ a n q. let z : true ≡ false = cc in clash z)
 
-    pub value_some : {v n : ℕ} → r ≡ Value v n → Finds (λ a. f a ≡ v) n p s
+    pub value_some : {v n : ℕ} → r ≡ Some (v, n) → Finds (λ a. f a ≡ v) n p s
     value_some h = some_found (value_of f) e (λ q. let z : true ≡ false = cc in clash z) (λ a k q. (cc, cc))
 
 abbrev pub Pair : ℕ → ℕ → List ℕ × List ℕ → Type 0
@@ -123,14 +121,14 @@ module _ {p : Reader (Option (List ℕ) × Offset)} {s : List ℕ} where
     ending_some h = some_found ending_at e (λ q. let z : true ≡ false = cc in clash z) (λ a k q. (cc, ((cc, cc), cc)))
 
 module _ {p : Reader (Option Timestamp)} {s : List ℕ} where
-  pub stamp_found : {x : Stamp} {n : ℕ} → Finds (λ t. stamp_of t ≡ x) n p s → IsStamp x n ≡ stamp_at (p s)
+  pub stamp_found : {x : (Option Timestamp)} {n : ℕ} → Finds (λ t. stamp_of t ≡ x) n p s → IsStamp x n ≡ stamp_at (p s)
   stamp_found w = found_answer stamp_at w (λ a h. rw h)
 
   module _ {r : StampAt} (e : r ≡ stamp_at (p s)) where
     pub stamp_none : r ≡ NoStamp → Fails p s
     stamp_none h = none_found stamp_at e (λ a n q. let z : true ≡ false = cc in clash z)
 
-    pub stamp_some : {x : Stamp} {n : ℕ} → r ≡ IsStamp x n → Finds (λ t. stamp_of t ≡ x) n p s
+    pub stamp_some : {x : (Option Timestamp)} {n : ℕ} → r ≡ IsStamp x n → Finds (λ t. stamp_of t ≡ x) n p s
     stamp_some h = some_found stamp_at e (λ q. let z : true ≡ false = cc in clash z) (λ a k q. (cc, cc))
 
 module _ (at : ℕ) {p : Reader (List ℕ)} {s : List ℕ} where

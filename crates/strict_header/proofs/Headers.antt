@@ -1,4 +1,5 @@
 -- The whole header.
+use Rattle.std.specs.Prelude.{Some, None}
 use Prim.Native.Nat.{ℕ, ◌+◌, ◌-◌, ◌^◌, ◌≤◌, ◌<◌}
 use mathlib.Core.Path.{◌≡◌, refl, sym, ap, ◌∙◌}
 use mathlib.Core.List.{List, [], ◌∷◌, ◌++◌}
@@ -14,8 +15,6 @@ use Rattle.grammar.proofs.Header.{pri_reads, version_reads, full_reads, timestam
 use Rattle.record.specs.Places.{place}
 use Rattle.record.specs.declared.Place.{Place}
 use Rattle.record.specs.declared.Timestamp as instant
-use Rattle.record.specs.declared.Stamp.{Stamp}
-use Rattle.record.specs.declared.Stamp.TheVariants.{Stamped}
 use Rattle.strict_header.specs.Pieces.{pair_of, stamp_at, text_at, names_at}
 use Rattle.strict_header.specs.Header.{text_place, header_at, heading}
 use Rattle.strict_header.specs.declared.PairAt.{PairAt}
@@ -24,7 +23,6 @@ use Rattle.strict_header.specs.declared.StampAt.{StampAt}
 use Rattle.strict_header.specs.declared.StampAt.TheVariants.{NoStamp, IsStamp}
 use Rattle.strict_header.specs.declared.NamesAt.{NamesAt}
 use Rattle.strict_header.specs.declared.NamesAt.TheVariants.{NoNames, AreNames}
-use Rattle.strict_header.specs.declared.Heading.TheVariants.{NoHeader, IsHeader}
 use Rattle.strict_header.proofs.Steps.{Fails, Finds, finds_so, finds_within, finds_ok, next_failed, next_not, next_found}
 use Rattle.strict_header.proofs.Answers.{Pair, pair_none, pair_some, stamp_none, stamp_some, names_none, names_some}
 use Rattle.strict_header.proofs.Fields.{place_after}
@@ -49,7 +47,7 @@ module _ (s : List ℕ) (f : PairAt) (ef : f ≡ pair_of (pri_version s)) (x y n
   pub start_within : n ≤ length s
   start_within = finds_within (pair_some ef hf) start_reads
 
-module _ (s : List ℕ) (f : StampAt) (ef : f ≡ stamp_at (timestamp s)) (x : Stamp) (n : ℕ) (hf : f ≡ IsStamp x n) where
+module _ (s : List ℕ) (f : StampAt) (ef : f ≡ stamp_at (timestamp s)) (x : Option Timestamp) (n : ℕ) (hf : f ≡ IsStamp x n) where
   stamp_text_lem : Finds (λ o. (stamp_of o ≡ x) × (length (timestamp_then o []) + 1 ≡ n)) n timestamp s
   stamp_text_lem = finds_so (finds_ok (stamp_some ef hf) timestamp_reads) (λ o w. (w.0, sym (w.2 ∙ stamp_size o w.1)))
 
@@ -69,29 +67,29 @@ names_within s at f e h i p m n k = finds_within (names_some at e k) names_reads
 
 -- ---- the place of the timestamp's text
 
-pub text_stamped : (x : Stamp) (t : instant.Timestamp) (at n : ℕ) → x ≡ Stamped t → (r : Place) → r ≡ place at (n - 1) → r ≡ text_at x at n
+pub text_stamped : (x : Option Timestamp) (t : instant.Timestamp) (at n : ℕ) → x ≡ Some t → (r : Place) → r ≡ place at (n - 1) → r ≡ text_at x at n
 text_stamped x t at n e r q = rw e q
 
-text_is : (o : Option Timestamp) (x : Stamp) (at n : ℕ) → stamp_of o ≡ x → length (timestamp_then o []) + 1 ≡ n → text_at x at n ≡ text_place at o
+text_is : (o : Option Timestamp) (x : Option Timestamp) (at n : ℕ) → stamp_of o ≡ x → length (timestamp_then o []) + 1 ≡ n → text_at x at n ≡ text_place at o
 text_is none x at n e l = rw (← e)
 text_is (some t) x at n e l = let q : n - 1 ≡ length (timestamp_then (some t) []) = omega arith in rw (← e, q)
 
 -- ---- the header
 
 module _ (s : List ℕ) (f : PairAt) (ef : f ≡ pair_of (pri_version s)) where
-  no_header : Fails header s → NoHeader ≡ heading (header s)
+  no_header : Fails header s → None ≡ heading (header s)
   no_header w = rw w.is
 
-  pub header_no_start : f ≡ NoPair → NoHeader ≡ heading (header s)
+  pub header_no_start : f ≡ NoPair → None ≡ heading (header s)
   unfolding header
   header_no_start e = no_header (next_failed (pair_none ef e) _)
 
   module _ (u v a : ℕ) (hf : f ≡ IsPair u v a) (r₁ : List ℕ) (e₁ : r₁ ≡ drop a s) (g : StampAt) (eg : g ≡ stamp_at (timestamp r₁)) where
-    pub header_no_stamp : g ≡ NoStamp → NoHeader ≡ heading (header s)
+    pub header_no_stamp : g ≡ NoStamp → None ≡ heading (header s)
     unfolding header
     header_no_stamp e = no_header (next_not (pair_some ef hf) e₁ (next_failed (stamp_none eg e) _))
 
-    module _ (x : Stamp) (b : ℕ) (hg : g ≡ IsStamp x b) (r₂ : List ℕ) (e₂ : r₂ ≡ drop b r₁) where
+    module _ (x : Option Timestamp) (b : ℕ) (hg : g ≡ IsStamp x b) (r₂ : List ℕ) (e₂ : r₂ ≡ drop b r₁) where
       pub names_place : length s < 2 ^ 64 → a + b + length r₂ < 2 ^ 64
       names_place h =
           let p = start_within s f ef u v a hf in
@@ -100,12 +98,12 @@ module _ (s : List ℕ) (f : PairAt) (ef : f ≡ pair_of (pri_version s)) where
           place_after r₁ r₂ a b q e₂ (omega arith)
 
       module _ (k : NamesAt) (ek : k ≡ names_at (a + b) (names r₂)) where
-        pub header_no_names : k ≡ NoNames → NoHeader ≡ heading (header s)
+        pub header_no_names : k ≡ NoNames → None ≡ heading (header s)
         unfolding header
         header_no_names e = no_header (next_not (pair_some ef hf) e₁ (next_not (stamp_some eg hg) e₂ (names_none (a + b) ek e)))
 
         pub header_is : (h i p m : Place) (c : ℕ) → k ≡ AreNames h i p m c → (t : Place) → t ≡ text_at x a b
-            → IsHeader (record { prival = u; version = v; timestamp = x; timestamp_text = t; host = h; app = i; procid = p; msgid = m; next = a + (b + c) }) ≡ heading (header s)
+            → Some (record { prival = u; version = v; timestamp = x; timestamp_text = t; host = h; app = i; procid = p; msgid = m; next = a + (b + c) }) ≡ heading (header s)
         unfolding header header_at
         header_is h i p m c hk t et =
             let w = next_found (start_text_lem s f ef u v a hf) e₁ (next_found (stamp_text_lem r₁ g eg x b hg) e₂ (names_some (a + b) {p = names} ek hk)) in

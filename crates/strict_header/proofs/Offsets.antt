@@ -1,5 +1,5 @@
 -- Offsets from UTC.
-use Rattle.std.specs.Prelude.{if◌then◌else◌}
+use Rattle.std.specs.Prelude.{if◌then◌else◌, ◌×◌, Option, Some, None}
 use Prim.Native.Nat.{ℕ, zero, suc, ◌+◌, ◌-◌, ◌*◌, ◌≤◌}
 use mathlib.Core.Path.{◌≡◌, refl, sym, ap, ◌∙◌}
 use mathlib.Core.Bool.{Bool, true, false, not, ◌&&◌, ◌||◌}
@@ -19,8 +19,6 @@ use Rattle.base.proofs.Parts.{at_below}
 use Rattle.base.proofs.Diffs.{sub_ge, sub_lt}
 use Rattle.calendar.specs.Calendar.{offset_limit}
 use Rattle.digits.specs.Digits.{decimal, fixed_at}
-use Rattle.digits.specs.declared.Number.{Number}
-use Rattle.digits.specs.declared.Number.TheVariants.{Nothing, Value}
 use Rattle.grammar.specs.Line.{Offset}
 use Rattle.grammar.specs.Parse.{always, never, choose, behind, ◌next◌, into, fixed, two, is_zone, zone, east_of, west_of, offset}
 use Rattle.grammar.specs.Reading.{offset_of}
@@ -34,28 +32,28 @@ use Rattle.strict_header.proofs.Dates.{two_within, fixed_within}
 
 -- ---- the hour and the minute
 
-module _ (s : List ℕ) (f : Number) (ef : f ≡ fixed_at 2 s) where
-  pub zone_no_hour : f ≡ Nothing → Nothing ≡ value_of minutes_of (zone s)
+module _ (s : List ℕ) (f : Option (ℕ × ℕ)) (ef : f ≡ fixed_at 2 s) where
+  pub zone_no_hour : f ≡ None → None ≡ value_of minutes_of (zone s)
   unfolding zone
   zone_no_hour e = failed_answer (value_of minutes_of) (only_failed (next_failed (value_none decimal (ef ∙ fixed_of 2 s) e) (two 58)) is_zone)
 
-  module _ (h m : ℕ) (ev : f ≡ Value h m) (r : List ℕ) (er : r ≡ drop m s) (g : Number) (eg : g ≡ value_of decimal (two 58 r)) where
-    pub zone_no_minute : g ≡ Nothing → Nothing ≡ value_of minutes_of (zone s)
+  module _ (h m : ℕ) (ev : f ≡ Some (h, m)) (r : List ℕ) (er : r ≡ drop m s) (g : Option (ℕ × ℕ)) (eg : g ≡ value_of decimal (two 58 r)) where
+    pub zone_no_minute : g ≡ None → None ≡ value_of minutes_of (zone s)
     unfolding zone
     zone_no_minute e = failed_answer (value_of minutes_of) (only_failed (next_not (value_some decimal (ef ∙ fixed_of 2 s) ev) er (value_none decimal eg e)) is_zone)
 
-    module _ (k n : ℕ) (eh : g ≡ Value k n) where
+    module _ (k n : ℕ) (eh : g ≡ Some (k, n)) where
       all : Finds (Pair h k) (m + n) (fixed 2 next two 58) s
       all = next_found (value_some decimal (ef ∙ fixed_of 2 s) ev) er (value_some decimal eg eh)
 
       tested : (a : List ℕ × List ℕ) → Pair h k a → (leb h 23 && leb k 59) ≡ is_zone a
       tested a w = rw (w.0, w.1)
 
-      pub zone_not : not (leb h 23 && leb k 59) ≡ true → Nothing ≡ value_of minutes_of (zone s)
+      pub zone_not : not (leb h 23 && leb k 59) ≡ true → None ≡ value_of minutes_of (zone s)
       unfolding zone
       zone_not t = failed_answer (value_of minutes_of) (only_not all is_zone (λ a w. sym (tested a w) ∙ not-true _ t))
 
-      pub zone_is : not (leb h 23 && leb k 59) ≡ false → Value (h * 60 + k) (m + n) ≡ value_of minutes_of (zone s)
+      pub zone_is : not (leb h 23 && leb k 59) ≡ false → Some (h * 60 + k, m + n) ≡ value_of minutes_of (zone s)
       unfolding zone
       zone_is t = value_found minutes_of (finds_so (only_found all is_zone (λ a w. sym (tested a w) ∙ not-false _ t)) (λ a w. rw (w.0, w.1)))
 
@@ -100,7 +98,7 @@ module _ (u d : ℕ) (j : ℤ) (fj : SFits w64 j) (ej : j ≡ sub_ℕ u d) where
 
 pub ruleset minutes_laws = (narrow_fits, minutes_east, minutes_west)
 
-module _ (s : List ℕ) (f : Number) (ef : f ≡ value_of minutes_of (zone s)) (v n : ℕ) (ev : f ≡ Value v n) where
+module _ (s : List ℕ) (f : Option (ℕ × ℕ)) (ef : f ≡ value_of minutes_of (zone s)) (v n : ℕ) (ev : f ≡ Some (v, n)) where
   pub zone_within : n ≤ length s
   zone_within = finds_within (value_some minutes_of ef ev) zone_reads
 
@@ -132,8 +130,8 @@ module _ (s : List ℕ) (z : Bool) (ez : z ≡ is_at s 0 90) where
         (other_failed 90 (always Offset.utc) _ (sym ez ∙ h)
         (other_failed 43 (into east_of zone) _ (sym ee ∙ u.0) (other_failed 45 (into west_of zone) never (sym ew ∙ u.1) (never_failed s))))
 
-    module _ (k : not (e || w) ≡ false) (r : List ℕ) (er : r ≡ drop 1 s) (f : Number) (ef : f ≡ value_of minutes_of (zone r)) where
-      pub offset_bad : f ≡ Nothing → NoOffset ≡ offset_at (offset s)
+    module _ (k : not (e || w) ≡ false) (r : List ℕ) (er : r ≡ drop 1 s) (f : Option (ℕ × ℕ)) (ef : f ≡ value_of minutes_of (zone r)) where
+      pub offset_bad : f ≡ None → NoOffset ≡ offset_at (offset s)
       unfolding offset
       offset_bad q =
           let x = value_none minutes_of ef q in
@@ -143,7 +141,7 @@ module _ (s : List ℕ) (z : Bool) (ez : z ≡ is_at s 0 90) where
           (λ t. first_failed 43 (into east_of zone) _ (sym ee ∙ t) er (into_failed x east_of))
           (λ t. other_failed 43 (into east_of zone) _ (sym ee ∙ t) (first_failed 45 (into west_of zone) never (sym ew ∙ second e w k t) er (into_failed x west_of)))))
 
-      module _ (v n : ℕ) (ev : f ≡ Value v n) where
+      module _ (v n : ℕ) (ev : f ≡ Some (v, n)) where
         pub offset_is : (m : ℤ) → SFits w32 m → m ≡ signed e v → IsOffset (to_z w32 (of_z w32 m)) (n + 1) ≡ offset_at (offset s)
         unfolding offset
         offset_is m fm em =

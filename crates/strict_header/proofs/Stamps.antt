@@ -1,4 +1,5 @@
 -- Timestamps.
+use Rattle.std.specs.Prelude.{◌×◌, Some, None}
 use Prim.Native.Nat.{ℕ, ◌+◌, ◌-◌, ◌^◌, ◌≤◌}
 use mathlib.Core.Path.{◌≡◌, refl, sym, ◌∙◌}
 use mathlib.Core.Bool.{Bool, true, false, not}
@@ -18,16 +19,12 @@ use Rattle.calendar.specs.Calendar.{valid, valid_date, valid_time}
 use Rattle.calendar.specs.Instant.{seconds_of}
 use Rattle.calendar.specs.declared.DateTime.{DateTime}
 use Rattle.digits.specs.Digits.{is_digit, decimal}
-use Rattle.digits.specs.declared.Number.{Number}
-use Rattle.digits.specs.declared.Number.TheVariants.{Nothing, Value}
 use Rattle.digits.proofs.Decimals.{decimal_lt}
 use Rattle.grammar.specs.Abnf.{Repeat}
 use Rattle.grammar.specs.Line.{secfrac_then, SecfracOk}
 use Rattle.grammar.specs.Parse.{always, choose, ◌next◌, into, date, clock, secfrac, offset, timestamp_of, full, timestamp}
 use Rattle.grammar.specs.Reading.{nanos_of, digits_of, stamp_of}
 use Rattle.grammar.proofs.Header.{date_reads, clock_reads, secfrac_reads, offset_reads}
-use Rattle.record.specs.declared.Stamp.{Stamp}
-use Rattle.record.specs.declared.Stamp.TheVariants.{Unstamped, Stamped}
 use Rattle.strict_header.specs.Pieces.{value_of, triple_of, offset_at, ending_at, stamp_at}
 use Rattle.strict_header.specs.declared.TripleAt.{TripleAt}
 use Rattle.strict_header.specs.declared.TripleAt.TheVariants.{NoTriple, IsTriple}
@@ -39,11 +36,12 @@ use Rattle.strict_header.specs.declared.StampAt.{StampAt}
 use Rattle.strict_header.specs.declared.StampAt.TheVariants.{NoStamp, IsStamp}
 use Rattle.strict_header.proofs.Steps.{untold, byte_laws, sum_fits, sums_fit, Finds, finds_so, finds_within, finds_ok, next_within, closed_failed, closed_open, closed_found, into_failed, into_found, next_failed, next_not, next_found, first_found, other_failed, other_found}
 use Rattle.strict_header.proofs.Answers.{failed_answer, value_none, value_some, triple_none, triple_some, offset_none, offset_some, ending_found, ending_none, ending_some, stamp_found, stamp_none, stamp_some}
+use Rattle.record.specs.declared.Timestamp.{Timestamp}
 
 -- ---- the fraction and the offset
 
 module _ (s : List ℕ) where
-  pub secfrac_within : (f : Number) (v n : ℕ) → f ≡ value_of nanos_of (secfrac s) → f ≡ Value v n → n ≤ length s
+  pub secfrac_within : (f : Option (ℕ × ℕ)) (v n : ℕ) → f ≡ value_of nanos_of (secfrac s) → f ≡ Some (v, n) → n ≤ length s
   secfrac_within f v n e h = finds_within (value_some nanos_of e h) secfrac_reads
 
   pub offset_within : (f : OffsetAt) (z : ℤ) (n : ℕ) → f ≡ offset_at (offset s) → f ≡ IsOffset z n → n ≤ length s
@@ -58,11 +56,11 @@ few : (o : Option (List ℕ)) (m : ℕ) → SecfracOk o → m ≡ length (secfra
 few none m h e = omega arith
 few (some f) m h e = omega (arith, length-append f [], h.at_most)
 
-module _ (s : List ℕ) (f : Number) (ef : f ≡ value_of nanos_of (secfrac s)) where
-  pub ending_no_fraction : f ≡ Nothing → NoEnding ≡ ending_at ((secfrac next offset) s)
+module _ (s : List ℕ) (f : Option (ℕ × ℕ)) (ef : f ≡ value_of nanos_of (secfrac s)) where
+  pub ending_no_fraction : f ≡ None → NoEnding ≡ ending_at ((secfrac next offset) s)
   ending_no_fraction e = failed_answer ending_at (next_failed (value_none nanos_of ef e) offset)
 
-  module _ (v m : ℕ) (hf : f ≡ Value v m) where
+  module _ (v m : ℕ) (hf : f ≡ Some (v, m)) where
     pub fraction_few : m ≤ 10
     fraction_few = let w = finds_ok (value_some nanos_of ef hf) secfrac_reads in few w.value m w.has.1 w.has.2
 
@@ -97,7 +95,7 @@ abbrev at : ℕ → ℕ → ℕ → ℕ → ℕ → ℕ → DateTime
 at y m d h i k = record { year = y; month = m; day = d; hour = h; minute = i; second = k }
 
 pub stamp_is : (t : DateTime) (v d : ℕ) (z x : ℤ) → SFits w32 z → SFits w64 x → x ≡ seconds_of t (to_z w32 (of_z w32 z))
-    → Stamped (record { seconds = to_z w64 (of_z w64 x); nanos = v; digits = d; offset = to_z w32 (of_z w32 z) }) ≡ Stamped (record { seconds = seconds_of t z; nanos = v; digits = d; offset = z })
+    → Some (record { seconds = to_z w64 (of_z w64 x); nanos = v; digits = d; offset = to_z w32 (of_z w32 z) }) ≡ Some (record { seconds = seconds_of t z; nanos = v; digits = d; offset = z })
 stamp_is t v d z x fz fx e = rw (to_z-of_z w64 x fx, e, to_z-of_z w32 z fz)
 
 pub four_digits : (t : List ℕ) (y : ℕ) → Repeat 4 4 is_digit t → decimal t ≡ y → y ≤ 9999
@@ -132,7 +130,7 @@ module _ (s : List ℕ) (a : TripleAt) (ea : a ≡ triple_of (date s)) where
             failed_answer stamp_at (into_failed (into_failed (next_not (triple_some ea ha) e₁ (next_not (triple_some eb hb) e₂ (ending_none eo e))) timestamp_of) some)
 
         pub full_is : (v c q : ℕ) (z : ℤ) → o ≡ IsEnding v c z q → SFits w32 z
-            → (x : Stamp) → x ≡ Stamped (record { seconds = seconds_of (at y m d h i k) (to_z w32 (of_z w32 z)); nanos = v; digits = c; offset = to_z w32 (of_z w32 z) })
+            → (x : Option Timestamp) → x ≡ Some (record { seconds = seconds_of (at y m d h i k) (to_z w32 (of_z w32 z)); nanos = v; digits = c; offset = to_z w32 (of_z w32 z) })
             → IsStamp x (n + (l + q)) ≡ stamp_at (into some full s)
         unfolding full
         full_is v c q z ho fz x ex =
@@ -146,14 +144,14 @@ pub ruleset full_laws = (full_valid, full_no_date, full_no_clock, full_no_ending
 
 module _ (s : List ℕ) (t : Bool) (et : t ≡ is_at s 0 45) where
   module _ (h : t ≡ true) (u : Bool) (eu : u ≡ is_at s 1 32) where
-    nil : Finds (λ x. stamp_of x ≡ Unstamped) 1 (choose 45 (always none) (into some full)) s
+    nil : Finds (λ x. stamp_of x ≡ None) 1 (choose 45 (always none) (into some full)) s
     nil = first_found 45 (always none) (into some full) (sym et ∙ h) refl (record { value = none; is = refl; has = refl })
 
     pub nil_open : not u ≡ true → NoStamp ≡ stamp_at (timestamp s)
     unfolding timestamp
     nil_open k = failed_answer stamp_at (closed_open nil 32 (untold u _ eu k))
 
-    pub nil_is : not u ≡ false → IsStamp Unstamped 2 ≡ stamp_at (timestamp s)
+    pub nil_is : not u ≡ false → IsStamp None 2 ≡ stamp_at (timestamp s)
     unfolding timestamp
     nil_is k = stamp_found (closed_found nil 32 (told u _ eu k))
 
@@ -162,7 +160,7 @@ module _ (s : List ℕ) (t : Bool) (et : t ≡ is_at s 0 45) where
     unfolding timestamp
     timestamp_none e = failed_answer stamp_at (closed_failed (other_failed 45 (always none) (into some full) (sym et ∙ h) (stamp_none ef e)) 32)
 
-    module _ (x : Stamp) (n : ℕ) (ex : f ≡ IsStamp x n) (u : Bool) (eu : u ≡ is_at s n 32) where
+    module _ (x : Option Timestamp) (n : ℕ) (ex : f ≡ IsStamp x n) (u : Bool) (eu : u ≡ is_at s n 32) where
       read : Finds (λ t. stamp_of t ≡ x) n (choose 45 (always none) (into some full)) s
       read = other_found 45 (always none) (into some full) (sym et ∙ h) (stamp_some ef ex)
 

@@ -1,17 +1,13 @@
 -- For private contracts alone: what the private readers of the header answer, as functions of what the parser of `grammar` finds: a number or a place for each text, and how many bytes were taken.
-use Rattle.std.specs.Prelude.{ℕ, ◌+◌, ◌-◌, ◌*◌, Bool, not, ◌&&◌, List, leb, length}
+use Rattle.std.specs.Prelude.{ℕ, ◌+◌, ◌-◌, ◌*◌, Bool, not, ◌&&◌, List, leb, length, ◌×◌, Some, None}
 use Rattle.std.proofs.Math.Option.{Option}
 use Rattle.digits.specs.Digits.{decimal}
-use Rattle.digits.specs.declared.Number.{Number}
-use Rattle.digits.specs.declared.Number.TheVariants.{Nothing, Value}
 use Rattle.grammar.specs.Line.{Offset, Timestamp, zero_led}
 use Rattle.grammar.specs.Parse.{Parsed, Three, Names}
 use Rattle.grammar.specs.Parse.Parsed.{failed, found}
 use Rattle.grammar.specs.Reading.{place_of, offset_of, nanos_of, digits_of, stamp_of}
 use Rattle.record.specs.Places.{absent, place}
 use Rattle.record.specs.declared.Place.{Place}
-use Rattle.record.specs.declared.Stamp.{Stamp}
-use Rattle.record.specs.declared.Stamp.TheVariants.{Unstamped, Stamped}
 use Rattle.strict_header.specs.declared.PairAt.{PairAt}
 use Rattle.strict_header.specs.declared.PairAt.TheVariants.{NoPair, IsPair}
 use Rattle.strict_header.specs.declared.TripleAt.{TripleAt}
@@ -34,9 +30,9 @@ abbrev pub plain_to : ℕ → List ℕ → Bool
 plain_to max t = not (zero_led t) && leb (decimal t) max
 
 -- a number of what is found
-abbrev pub value_of : {A : Type 0} → (A → ℕ) → Parsed A → Number
-value_of f failed = Nothing
-value_of f (found a n) = Value (f a) n
+abbrev pub value_of : {A : Type 0} → (A → ℕ) → Parsed A → Option (ℕ × ℕ)
+value_of f failed = None
+value_of f (found a n) = Some (f a, n)
 
 -- the minutes of an hour and a minute
 abbrev pub minutes_of : List ℕ × List ℕ → ℕ
@@ -64,9 +60,9 @@ stamp_at failed = NoStamp
 stamp_at (found t n) = IsStamp (stamp_of t) n
 
 -- the place of a timestamp's text, which starts at `at` and takes `len` bytes with its space
-abbrev pub text_at : Stamp → ℕ → ℕ → Place
-text_at Unstamped at len = absent
-text_at (Stamped t) at len = place at (len - 1)
+abbrev pub text_at : Option Timestamp → ℕ → ℕ → Place
+text_at None at len = absent
+text_at (Some t) at len = place at (len - 1)
 
 -- a field at `at` of the line
 abbrev pub field_at : ℕ → Parsed (List ℕ) → FieldAt

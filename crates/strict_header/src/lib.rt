@@ -15,27 +15,20 @@ ghost use Rattle.strict_header.specs.Header.{heading};
 
 use base::{is_at, past};
 use calendar::DateTime;
-use digits::Number;
-use record::{Place, Stamp, Timestamp};
+use record::{Place, Timestamp};
 
 // What a header holds, and where the structured data starts.
 #[derive(Clone, Copy)]
 pub struct HeaderAt {
     pub prival: u32,
     pub version: u32,
-    pub timestamp: Stamp,
+    pub timestamp: Option<Timestamp>,
     pub timestamp_text: Place,
     pub host: Place,
     pub app: Place,
     pub procid: Place,
     pub msgid: Place,
     pub next: usize,
-}
-
-#[derive(Clone, Copy)]
-pub enum Heading {
-    NoHeader,
-    IsHeader(HeaderAt),
 }
 
 // What the readers of the pieces find: numbers, an offset in minutes, a timestamp or places, and last how many bytes were taken.
@@ -66,7 +59,7 @@ enum EndingAt {
 #[derive(Clone, Copy)]
 enum StampAt {
     NoStamp,
-    IsStamp(Stamp, usize),
+    IsStamp(Option<Timestamp>, usize),
 }
 
 #[derive(Clone, Copy)]
@@ -88,93 +81,68 @@ enum NamesAt {
 }
 
 // A number of at most `max`, with no zero in front of other digits.
-fn number(s: &[u8], max: u32) -> Number
+fn number(s: &[u8], max: u32) -> Option<(u32, usize)>
     requires { max ≤ 999 }
     ensures { result ≡ value_of decimal (parse.only (plain_to max) (parse.repeat 3 is_digit) s.now) }
 {
-    let Number::Value { value, len } = digits::digits(s, max) else {
-        return Number::Nothing;
-    };
+    let (value, len) = digits::digits(s, max)?;
     if is_at(s, 0, b'0') & (1 < len) {
-        return Number::Nothing;
+        return None;
     }
-    Number::Value { value, len }
+    Some((value, len))
 }
 
 // `<`, the priority and `>`.
-fn pri(s: &[u8]) -> Number
+fn pri(s: &[u8]) -> Option<(u32, usize)>
     ensures { result ≡ value_of decimal (parse.pri s.now) }
 {
     if !is_at(s, 0, b'<') {
-        return Number::Nothing;
+        return None;
     }
     let t = past(s, 1);
-    let Number::Value { value, len } = number(t, 191) else {
-        return Number::Nothing;
-    };
+    let (value, len) = number(t, 191)?;
     if !is_at(t, len, b'>') {
-        return Number::Nothing;
+        return None;
     }
-    Number::Value {
-        value,
-        len: len + 2,
-    }
+    Some((value, len + 2))
 }
 
 // The version and its space.
-fn version(s: &[u8]) -> Number
+fn version(s: &[u8]) -> Option<(u32, usize)>
     ensures { result ≡ value_of decimal (parse.version s.now) }
 {
     if is_at(s, 0, b'0') {
-        return Number::Nothing;
+        return None;
     }
-    let Number::Value { value, len } = number(s, 999) else {
-        return Number::Nothing;
-    };
+    let (value, len) = number(s, 999)?;
     if !is_at(s, len, b' ') {
-        return Number::Nothing;
+        return None;
     }
-    Number::Value {
-        value,
-        len: len + 1,
-    }
+    Some((value, len + 1))
 }
 
 fn pri_version(s: &[u8]) -> PairAt
     ensures { result ≡ pair_of (parse.pri_version s.now) }
 {
-    let Number::Value {
-        value: prival,
-        len: m,
-    } = pri(s)
-    else {
+    let Some((prival, m)) = pri(s) else {
         return PairAt::NoPair;
     };
-    let Number::Value {
-        value: version,
-        len: n,
-    } = version(past(s, m))
-    else {
+    let Some((version, n)) = version(past(s, m)) else {
         return PairAt::NoPair;
     };
     PairAt::IsPair(prival, version, m + n)
 }
 
 // The byte `b` and two digits.
-fn two(s: &[u8], b: u8) -> Number
+fn two(s: &[u8], b: u8) -> Option<(u32, usize)>
     requires { 0 < b }
     ensures { result ≡ value_of decimal (parse.two b s.now) }
 {
     if !is_at(s, 0, b) {
-        return Number::Nothing;
+        return None;
     }
-    let Number::Value { value, len } = digits::two_digits(past(s, 1)) else {
-        return Number::Nothing;
-    };
-    Number::Value {
-        value,
-        len: len + 1,
-    }
+    let (value, len) = digits::two_digits(past(s, 1))?;
+    Some((value, len + 1))
 }
 
 // The byte `b` and two digits, twice.
@@ -182,10 +150,10 @@ fn pair(s: &[u8], b: u8) -> PairAt
     requires { 0 < b }
     ensures { result ≡ pair_of (parse.◌next◌ (parse.two b) (parse.two b) s.now) }
 {
-    let Number::Value { value: x, len: m } = two(s, b) else {
+    let Some((x, m)) = two(s, b) else {
         return PairAt::NoPair;
     };
-    let Number::Value { value: y, len: n } = two(past(s, m), b) else {
+    let Some((y, n)) = two(past(s, m), b) else {
         return PairAt::NoPair;
     };
     PairAt::IsPair(x, y, m + n)
@@ -194,11 +162,7 @@ fn pair(s: &[u8], b: u8) -> PairAt
 fn date(s: &[u8]) -> TripleAt
     ensures { result ≡ triple_of (parse.date s.now) }
 {
-    let Number::Value {
-        value: year,
-        len: m,
-    } = digits::four_digits(s)
-    else {
+    let Some((year, m)) = digits::four_digits(s) else {
         return TripleAt::NoTriple;
     };
     let PairAt::IsPair(month, day, n) = pair(past(s, m), b'-') else {
@@ -214,11 +178,7 @@ fn date(s: &[u8]) -> TripleAt
 fn clock(s: &[u8]) -> TripleAt
     ensures { result ≡ triple_of (parse.clock s.now) }
 {
-    let Number::Value {
-        value: hour,
-        len: m,
-    } = two(s, b'T')
-    else {
+    let Some((hour, m)) = two(s, b'T') else {
         return TripleAt::NoTriple;
     };
     let PairAt::IsPair(minute, second, n) = pair(past(s, m), b':') else {
@@ -231,46 +191,26 @@ fn clock(s: &[u8]) -> TripleAt
 }
 
 // The fraction in nanoseconds, 0 where there is none.
-fn secfrac(s: &[u8]) -> Number
+fn secfrac(s: &[u8]) -> Option<(u32, usize)>
     ensures { result ≡ value_of nanos_of (parse.secfrac s.now) }
 {
     if !is_at(s, 0, b'.') {
-        return Number::Value { value: 0, len: 0 };
+        return Some((0, 0));
     }
-    let Number::Value { value, len } = digits::fraction(past(s, 1), 6) else {
-        return Number::Nothing;
-    };
-    Number::Value {
-        value,
-        len: len + 1,
-    }
+    let (value, len) = digits::fraction(past(s, 1), 6)?;
+    Some((value, len + 1))
 }
 
 // The hour and the minute of an offset, in minutes.
-fn zone(s: &[u8]) -> Number
+fn zone(s: &[u8]) -> Option<(u32, usize)>
     ensures { result ≡ value_of minutes_of (parse.zone s.now) }
 {
-    let Number::Value {
-        value: hour,
-        len: m,
-    } = digits::two_digits(s)
-    else {
-        return Number::Nothing;
-    };
-    let Number::Value {
-        value: minute,
-        len: n,
-    } = two(past(s, m), b':')
-    else {
-        return Number::Nothing;
-    };
+    let (hour, m) = digits::two_digits(s)?;
+    let (minute, n) = two(past(s, m), b':')?;
     if !((hour <= 23) & (minute <= 59)) {
-        return Number::Nothing;
+        return None;
     }
-    Number::Value {
-        value: hour * 60 + minute,
-        len: m + n,
-    }
+    Some((hour * 60 + minute, m + n))
 }
 
 // Minutes east of UTC, or west of it.
@@ -295,7 +235,7 @@ fn offset(s: &[u8]) -> OffsetAt
     if !(east | is_at(s, 0, b'-')) {
         return OffsetAt::NoOffset;
     }
-    let Number::Value { value, len } = zone(past(s, 1)) else {
+    let Some((value, len)) = zone(past(s, 1)) else {
         return OffsetAt::NoOffset;
     };
     OffsetAt::IsOffset(minutes(east, value), len + 1)
@@ -305,11 +245,7 @@ fn offset(s: &[u8]) -> OffsetAt
 fn ending(s: &[u8]) -> EndingAt
     ensures { result ≡ ending_at (parse.◌next◌ parse.secfrac parse.offset s.now) }
 {
-    let Number::Value {
-        value: nanos,
-        len: m,
-    } = secfrac(s)
-    else {
+    let Some((nanos, m)) = secfrac(s) else {
         return EndingAt::NoEnding;
     };
     let OffsetAt::IsOffset(minutes, n) = offset(past(s, m)) else {
@@ -318,11 +254,11 @@ fn ending(s: &[u8]) -> EndingAt
     EndingAt::IsEnding(nanos, digits::after_point(m), minutes, m + n)
 }
 
-fn stamp(local: DateTime, nanos: u32, digits: u32, offset: i32) -> Stamp
+fn stamp(local: DateTime, nanos: u32, digits: u32, offset: i32) -> Option<Timestamp>
     requires { valid local ≡ true }
     ensures { result ≡ Stamp.Stamped (record { seconds = seconds_of local offset; nanos = nanos; digits = digits; offset = offset }) }
 {
-    Stamp::Stamped(Timestamp {
+    Some(Timestamp {
         seconds: calendar::seconds_of(local, offset),
         nanos,
         digits,
@@ -363,7 +299,7 @@ fn timestamp(s: &[u8]) -> StampAt
         if !is_at(s, 1, b' ') {
             return StampAt::NoStamp;
         }
-        return StampAt::IsStamp(Stamp::Unstamped, 2);
+        return StampAt::IsStamp(None, 2);
     }
     let StampAt::IsStamp(stamp, len) = full(s) else {
         return StampAt::NoStamp;
@@ -450,33 +386,33 @@ fn names(s: &[u8], at: usize) -> NamesAt
 }
 
 // The place of a timestamp's text, which starts at `at` and takes `len` bytes with its space.
-fn text_place(stamp: Stamp, at: usize, len: usize) -> Place
+fn text_place(stamp: Option<Timestamp>, at: usize, len: usize) -> Place
     requires { 1 ≤ len }
     ensures { result ≡ text_at stamp at len }
 {
     match stamp {
-        Stamp::Unstamped => record::absent(),
-        Stamp::Stamped(_) => record::place_at(at, len - 1),
+        None => record::absent(),
+        Some(_) => record::place_at(at, len - 1),
     }
 }
 
 // The header of a line, PRI to MSGID, with the space after it.
-pub fn read_header(line: &[u8]) -> Heading
+pub fn read_header(line: &[u8]) -> Option<HeaderAt>
     ensures { result ≡ heading (parse.header line.now) }
 {
     let PairAt::IsPair(prival, version, at) = pri_version(line) else {
-        return Heading::NoHeader;
+        return None;
     };
     let s = past(line, at);
     let StampAt::IsStamp(timestamp, len) = timestamp(s) else {
-        return Heading::NoHeader;
+        return None;
     };
     let t = past(s, len);
     let NamesAt::AreNames(host, app, procid, msgid, more) = names(t, at + len) else {
-        return Heading::NoHeader;
+        return None;
     };
     let next = at + (len + more);
-    Heading::IsHeader(HeaderAt {
+    Some(HeaderAt {
         prival,
         version,
         timestamp,

@@ -1,4 +1,5 @@
 -- What the tests answer, from what the code knows at each return and each turn.
+use Rattle.std.specs.Prelude.{Option, Some}
 use Prim.Native.Nat.{ℕ, ◌+◌, ◌-◌, ◌%◌, ◌^◌, ◌≤◌, ◌<◌}
 use mathlib.Core.Path.{◌≡◌, sym, ap, ◌∙◌}
 use mathlib.Core.List.{List, []}
@@ -13,17 +14,16 @@ use borrow.Author.Tests.{le-leb, lt-leb, le-ltb, lt-ltb, leb-true, leb-false, no
 use Rattle.base.proofs.Tests.{by_test}
 use Rattle.calendar.specs.Calendar.{valid_offset}
 use Rattle.calendar.specs.Instant.{shown, is_shown}
-use Rattle.calendar.specs.declared.Shown.{Shown}
 use Rattle.digits.proofs.Fractions.{unit_some}
 use Rattle.record.specs.Params.{row_of}
 use Rattle.record.specs.declared.Param.{Param}
 use Rattle.record.specs.declared.Record.{Record}
 use Rattle.record.specs.declared.Timestamp.{Timestamp}
-use Rattle.record.specs.declared.Stamp.TheVariants.{Stamped}
 use Rattle.suits.specs.Suits.{place_suits, fraction_suits, stamp_suits, record_suits, elements_suit, param_suits}
 use Rattle.suits.specs.Checks.{head_suits, check_at}
 use Rattle.suits.specs.declared.Check.{Check}
 use Rattle.suits.proofs.Rows.{row_step, rows_ended}
+use Rattle.calendar.specs.declared.DateTime.{DateTime}
 
 -- a place whose start is tested first
 pub place_past : (n start len : ℕ) → n < start → false ≡ leb (start + len) n
@@ -53,18 +53,18 @@ pub ruleset fraction_laws = (nanos_over, digits_over, digits_show, unit_some)
 
 -- a timestamp's numbers
 module _ (t : Timestamp) (f : Bool) (ef : f ≡ fraction_suits t.nanos t.digits) where
-  pub time_fraction : not f ≡ true → false ≡ stamp_suits (Stamped t)
+  pub time_fraction : not f ≡ true → false ≡ stamp_suits (Some t)
   time_fraction h = rw (← ef, not-true f h)
 
   module _ (h : not f ≡ false) (fo : SFits w32 t.offset) (n : Bool) (e : n ≡ valid_offset (to_z w32 (of_z w32 t.offset))) where
     offset : n ≡ valid_offset t.offset
     offset = rw (to_z-of_z w32 t.offset fo) at e
 
-    pub time_far : not n ≡ true → false ≡ stamp_suits (Stamped t)
+    pub time_far : not n ≡ true → false ≡ stamp_suits (Some t)
     time_far k = rw (← ef, not-false f h, ← offset, not-true n k)
 
     pub time_shown : not n ≡ false → SFits w64 t.seconds
-        → (s : Shown) → s ≡ shown (to_z w64 (of_z w64 t.seconds)) (to_z w32 (of_z w32 t.offset)) → (b : Bool) → b ≡ is_shown s → b ≡ stamp_suits (Stamped t)
+        → (s : Option DateTime) → s ≡ shown (to_z w64 (of_z w64 t.seconds)) (to_z w32 (of_z w32 t.offset)) → (b : Bool) → b ≡ is_shown s → b ≡ stamp_suits (Some t)
     time_shown k fs s es b eb =
         rw (← ef, not-false f h, ← offset, not-false n k, eb, es, to_z-of_z w64 t.seconds fs, to_z-of_z w32 t.offset fo)
 

@@ -3,13 +3,11 @@
 
 ghost use Rattle.std.specs.Prelude.{◌≡◌, ◌+◌, ◌≤◌, ◌<◌, leb, length, take};
 ghost use Rattle.record.specs.Params.{row_of, rows};
-ghost use Rattle.record.specs.declared.Stamp.TheVariants as stamp;
 ghost use Rattle.record.specs.declared.Refusal.TheVariants.{Unsuitable};
-ghost use Rattle.record.specs.declared.Written.TheVariants.{Refused};
 ghost use Rattle.suits.specs.Suits.{level_suits, fraction_suits, stamp_suits, record_suits, elements_suit, param_suits, suits};
 ghost use Rattle.suits.specs.Checks.{head_suits, check_at};
 
-use record::{Level, Param, Record, Refusal, Stamp, Timestamp, Written};
+use record::{Param, Record, Refusal, Timestamp};
 
 // Whether the place ends within `n` bytes. (The sum may not fit.)
 fn place_suits(n: usize, start: usize, len: usize) -> bool
@@ -21,12 +19,12 @@ fn place_suits(n: usize, start: usize, len: usize) -> bool
     len <= n - start
 }
 
-fn level_suits(most: u8, level: Level) -> bool
+fn level_suits(most: u8, level: Option<u8>) -> bool
     ensures { result ≡ level_suits most level }
 {
     match level {
-        Level::Unset => true,
-        Level::Set(n) => n <= most,
+        None => true,
+        Some(n) => n <= most,
     }
 }
 
@@ -56,12 +54,12 @@ fn time_suits(t: Timestamp) -> bool
     calendar::is_shown(calendar::shown_at(t.seconds, t.offset))
 }
 
-fn stamp_suits(stamp: Stamp) -> bool
+fn stamp_suits(stamp: Option<Timestamp>) -> bool
     ensures { result ≡ stamp_suits stamp }
 {
     match stamp {
-        Stamp::Unstamped => true,
-        Stamp::Stamped(t) => time_suits(t),
+        None => true,
+        Some(t) => time_suits(t),
     }
 }
 
@@ -212,8 +210,8 @@ pub fn is_suitable(
 }
 
 // The answer where they do not suit, for callers that name the table and so only call.
-pub fn unsuitable() -> Written
+pub fn unsuitable() -> Result<usize, Refusal>
     ensures { result ≡ Refused Unsuitable }
 {
-    Written::Refused(Refusal::Unsuitable)
+    Err(Refusal::Unsuitable)
 }

@@ -13,7 +13,6 @@ ghost use Rattle.tallier.specs.Frames.{told_of, TalliesReading, Tallies, Onward}
 use frames::{Options, State, Task};
 use program::{Process, Status, Takes};
 use record::{Refusal, StrictReading};
-use tally::Added;
 
 // What becomes of a frame: it is added, or passed over since it is not read, or its record is refused by the tally.
 #[derive(Clone, Copy)]
@@ -25,27 +24,33 @@ pub enum Tallied {
 
 // ---- frames
 
-fn told_of(a: Added) -> Tallied
+fn told_of(a: Result<(), Refusal>) -> Tallied
     ensures { result ≡ told_of a }
 {
     match a {
-        Added::Done => Tallied::Added,
-        Added::Refused(f) => Tallied::Refused(f),
+        Ok(()) => Tallied::Added,
+        Err(f) => Tallied::Refused(f),
     }
 }
 
 // What the strict reader answered, in the tally.
-fn add_reading(tally: &mut [[u32; 9]; 25], reading: StrictReading) -> Tallied
+fn add_reading(tally: &mut [[u32; 9]; 25], reading: Result<StrictReading, Refusal>) -> Tallied
     ensures { TalliesReading tally.old reading result tally.new }
 {
     match reading {
-        StrictReading::Read(r, _, _) => {
+        Ok(
+            StrictReading {
+                reading: r,
+                elements: _,
+                params: _,
+            },
+        ) => {
             let common = r.common;
             let facility = common.facility;
             let severity = common.severity;
             return told_of(tally::add(tally, facility, severity));
         }
-        StrictReading::Refused(_) => return Tallied::Passed,
+        Err(_) => return Tallied::Passed,
     }
 }
 

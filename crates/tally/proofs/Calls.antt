@@ -1,5 +1,5 @@
 -- What the functions answer, return by return.
-use Rattle.std.specs.Prelude.{if◌then◌else◌}
+use Rattle.std.specs.Prelude.{if◌then◌else◌, Unit, tt, Option, Some, None, Result, Ok, Err}
 use Prim.Native.Nat.{ℕ, suc, ◌+◌, ◌*◌, ◌≤◌, ◌<◌}
 use mathlib.Core.Path.{◌≡◌, refl, sym, ap, subst, ◌∙◌}
 use mathlib.Core.Bool.{Bool, true, false, ◌&&◌}
@@ -10,16 +10,8 @@ use lib.Dec.{eqb, leb}
 use lib.ListN.{length, get_or, set}
 use borrow.Author.Tests.{lt-ltb, le-ltb, le-leb, lt-leb, eq-eqb, ne_eqb}
 use Rattle.record.specs.Refusals.{refusal_number}
-use Rattle.record.specs.declared.Level.{Level}
-use Rattle.record.specs.declared.Level.TheVariants.{Unset, Set}
 use Rattle.record.specs.declared.Refusal.{Refusal}
 use Rattle.record.specs.declared.Refusal.TheVariants.{Unsuitable, OutputShort, CellFull}
-use Rattle.tally.specs.declared.Added.{Added}
-use Rattle.tally.specs.declared.Added.TheVariants.{Done, Refused}
-use Rattle.tally.specs.declared.CellRead.{CellRead}
-use Rattle.tally.specs.declared.CellRead.TheVariants as cells
-use Rattle.tally.specs.declared.SumRead.{SumRead}
-use Rattle.tally.specs.declared.SumRead.TheVariants as sums
 use Rattle.tally.specs.declared.CellAnswer.{CellAnswer}
 use Rattle.tally.specs.declared.SumAnswer.{SumAnswer}
 use Rattle.tally.specs.Tally.{Tally, no_facility, no_severity, row_count, full, cell, is_row, is_column, is_cell, place_of, row_of, column_of, addition, raised, after, Adds, sum_of, row_sum, column_sum, cell_read, row_read, column_read}
@@ -28,19 +20,19 @@ use Rattle.tally.specs.Numbers.{place_in, or_short, addition_in, cell_read_in, r
 -- ---- places
 
 module _ (none n : ℕ) where
-  pub place_there : n < none → n ≡ place_of none (Set n)
+  pub place_there : n < none → n ≡ place_of none (Some n)
   place_there h = rw (lt-ltb n none h)
 
-  pub place_past : none ≤ n → none + 1 ≡ place_of none (Set n)
+  pub place_past : none ≤ n → none + 1 ≡ place_of none (Some n)
   place_past h = rw (le-ltb n none h, add-one)
 
 pub ruleset place_laws = (place_there, place_past)
 
-module _ (none : ℕ) (level : Level) where
-  pub level_unset : level ≡ Unset → none ≡ place_of none level
+module _ (none : ℕ) (level : Option ℕ) where
+  pub level_unset : level ≡ None → none ≡ place_of none level
   level_unset e = rw e
 
-  pub level_set : (n r : ℕ) → level ≡ Set n → r ≡ place_of none (Set n) → r ≡ place_of none level
+  pub level_set : (n r : ℕ) → level ≡ Some n → r ≡ place_of none (Some n) → r ≡ place_of none level
   level_set n r e q = q ∙ rw e
 
 pub ruleset level_laws = (level_unset, level_set)
@@ -50,7 +42,7 @@ module _ (none mark n : ℕ) where
   mark_none e = rw e
 
   module _ (z : (eqb mark 0 && eqb n 0) ≡ false) where
-    pub mark_given : (r : ℕ) → mark ≡ 1 → r ≡ place_of none (Set n) → r ≡ place_in none mark n
+    pub mark_given : (r : ℕ) → mark ≡ 1 → r ≡ place_of none (Some n) → r ≡ place_in none mark n
     mark_given r e q = q ∙ rw (z, eq-eqb mark 1 e)
 
     pub mark_other : (mark ≡ 1 → ⊥) → none + 1 ≡ place_in none mark n
@@ -80,42 +72,42 @@ module _ {A : Type 0} (there : Bool) (t : Tally) (short a : A) where
 -- ---- an addition
 
 module _ (t : Tally) (i j : ℕ) where
-  pub add_no_row : no_facility < i → AddsIn t i j (Refused Unsuitable) t
+  pub add_no_row : no_facility < i → AddsIn t i j (Err Unsuitable) t
   unfolding addition_in addition
   add_no_row h = record { answers = rw (lt-leb i no_facility h); leaves = refl }
 
   module _ (p : i ≤ no_facility) where
-    pub add_no_column : no_severity < j → AddsIn t i j (Refused Unsuitable) t
+    pub add_no_column : no_severity < j → AddsIn t i j (Err Unsuitable) t
     unfolding addition_in addition
     add_no_column h = record { answers = rw (le-leb i no_facility p, lt-leb j no_severity h); leaves = refl }
 
     module _ (q : j ≤ no_severity) where
-      pub add_short : length t ≤ no_facility → AddsIn t i j (Refused OutputShort) t
+      pub add_short : length t ≤ no_facility → AddsIn t i j (Err OutputShort) t
       unfolding addition_in
-      add_short l = record { answers = sym (or_short_lem (is_cell i j) t (Refused OutputShort) (addition t i j) (there i j p q) l); leaves = refl }
+      add_short l = record { answers = sym (or_short_lem (is_cell i j) t (Err OutputShort) (addition t i j) (there i j p q) l); leaves = refl }
 
       module _ (l : no_facility < length t) where
-        added : (a : Added) → a ≡ (if eqb (cell t i j) full then Refused CellFull else Done) → a ≡ addition_in t i j
+        added : (a : Result Unit Refusal) → a ≡ (if eqb (cell t i j) full then Err CellFull else Ok tt) → a ≡ addition_in t i j
         unfolding addition_in addition
-        added a e = e ∙ sym (rw (there i j p q)) ∙ sym (or_enough (is_cell i j) t (Refused OutputShort) (addition t i j) l)
+        added a e = e ∙ sym (rw (there i j p q)) ∙ sym (or_enough (is_cell i j) t (Err OutputShort) (addition t i j) l)
 
-        pub add_full : cell t i j ≡ full → AddsIn t i j (Refused CellFull) t
-        add_full f = record { answers = added (Refused CellFull) (rw (eq-eqb (cell t i j) full f)); leaves = refl }
+        pub add_full : cell t i j ≡ full → AddsIn t i j (Err CellFull) t
+        add_full f = record { answers = added (Err CellFull) (rw (eq-eqb (cell t i j) full f)); leaves = refl }
 
-        pub add_done : (cell t i j ≡ full → ⊥) → (n : ℕ) → n ≡ suc (cell t i j) → AddsIn t i j Done (set t i (set (get_or t i []) j n))
+        pub add_done : (cell t i j ≡ full → ⊥) → (n : ℕ) → n ≡ suc (cell t i j) → AddsIn t i j Ok tt (set t i (set (get_or t i []) j n))
         unfolding raised
-        add_done f n e = record { answers = added Done (rw (ne_eqb (cell t i j) full f)); leaves = rw e }
+        add_done f n e = record { answers = added Ok tt (rw (ne_eqb (cell t i j) full f)); leaves = rw e }
 
 pub ruleset add_laws = (add_no_row, add_no_column, add_short, add_full, add_done)
 
 -- rows of the right number
-pub add_whole : (t : Tally) (facility severity : Level) (i j : ℕ) (a : Added) (new : Tally) → length t ≡ row_count → i ≡ row_of facility → j ≡ column_of severity
+pub add_whole : (t : Tally) (facility severity : Option ℕ) (i j : ℕ) (a : Result Unit Refusal) (new : Tally) → length t ≡ row_count → i ≡ row_of facility → j ≡ column_of severity
     → AddsIn t i j a new → Adds t facility severity a new
 unfolding addition_in
 add_whole t f s i j a new l p q h =
     let n : no_facility < length t = omega arith in
     record {
-      answers = h.answers ∙ or_enough (is_cell i j) t (Refused OutputShort) (addition t i j) n ∙ rw (p, q);
+      answers = h.answers ∙ or_enough (is_cell i j) t (Err OutputShort) (addition t i j) n ∙ rw (p, q);
       leaves = h.leaves ∙ rw (p, q);
     }
 
@@ -144,63 +136,63 @@ pub ruleset sum_laws = (sum_none, sum_one, sum_all)
 -- ---- the reads
 
 module _ (t : Tally) (i j : ℕ) where
-  pub cell_no_row : no_facility < i → cells.Refused Unsuitable ≡ cell_read_in t i j
+  pub cell_no_row : no_facility < i → Err Unsuitable ≡ cell_read_in t i j
   unfolding cell_read_in cell_read
   cell_no_row h = rw (lt-leb i no_facility h)
 
   module _ (p : i ≤ no_facility) where
-    pub cell_no_column : no_severity < j → cells.Refused Unsuitable ≡ cell_read_in t i j
+    pub cell_no_column : no_severity < j → Err Unsuitable ≡ cell_read_in t i j
     unfolding cell_read_in cell_read
     cell_no_column h = rw (le-leb i no_facility p, lt-leb j no_severity h)
 
     module _ (q : j ≤ no_severity) where
-      pub cell_short : length t ≤ no_facility → cells.Refused OutputShort ≡ cell_read_in t i j
+      pub cell_short : length t ≤ no_facility → Err OutputShort ≡ cell_read_in t i j
       unfolding cell_read_in
-      cell_short l = sym (or_short_lem (is_cell i j) t (cells.Refused OutputShort) (cell_read t i j) (there i j p q) l)
+      cell_short l = sym (or_short_lem (is_cell i j) t (Err OutputShort) (cell_read t i j) (there i j p q) l)
 
-      pub cell_read_lem : no_facility < length t → cells.Count (cell t i j) ≡ cell_read_in t i j
+      pub cell_read_lem : no_facility < length t → Ok (cell t i j) ≡ cell_read_in t i j
       unfolding cell_read_in cell_read
-      cell_read_lem l = sym (rw (there i j p q)) ∙ sym (or_enough (is_cell i j) t (cells.Refused OutputShort) (cell_read t i j) l)
+      cell_read_lem l = sym (rw (there i j p q)) ∙ sym (or_enough (is_cell i j) t (Err OutputShort) (cell_read t i j) l)
 
 pub ruleset cell_laws = (cell_no_row, cell_no_column, cell_short, cell_read_lem)
 
 -- a sum at place k, of which `last` is the last
 module _ (t : Tally) (sum : ℕ → ℕ) (last k : ℕ) where
-  abbrev read : SumRead
-  read = if leb k last then sums.Sum (sum k) else sums.Refused Unsuitable
+  abbrev read : Result ℕ Refusal
+  read = if leb k last then Ok (sum k) else Err Unsuitable
 
-  sum_nowhere : last < k → sums.Refused Unsuitable ≡ or_short (leb k last) t (sums.Refused OutputShort) read
+  sum_nowhere : last < k → Err Unsuitable ≡ or_short (leb k last) t (Err OutputShort) read
   sum_nowhere h = rw (lt-leb k last h)
 
-  sum_short : k ≤ last → length t ≤ no_facility → sums.Refused OutputShort ≡ or_short (leb k last) t (sums.Refused OutputShort) read
-  sum_short h l = sym (or_short_lem (leb k last) t (sums.Refused OutputShort) read (le-leb k last h) l)
+  sum_short : k ≤ last → length t ≤ no_facility → Err OutputShort ≡ or_short (leb k last) t (Err OutputShort) read
+  sum_short h l = sym (or_short_lem (leb k last) t (Err OutputShort) read (le-leb k last h) l)
 
-  sum_read : k ≤ last → no_facility < length t → (s : ℕ) → s ≡ sum k → sums.Sum s ≡ or_short (leb k last) t (sums.Refused OutputShort) read
-  sum_read h l s q = ap sums.Sum q ∙ sym (rw (le-leb k last h)) ∙ sym (or_enough (leb k last) t (sums.Refused OutputShort) read l)
+  sum_read : k ≤ last → no_facility < length t → (s : ℕ) → s ≡ sum k → Ok s ≡ or_short (leb k last) t (Err OutputShort) read
+  sum_read h l s q = ap Ok q ∙ sym (rw (le-leb k last h)) ∙ sym (or_enough (leb k last) t (Err OutputShort) read l)
 
 module _ (t : Tally) (i : ℕ) where
-  pub row_nowhere : no_facility < i → sums.Refused Unsuitable ≡ row_read_in t i
+  pub row_nowhere : no_facility < i → Err Unsuitable ≡ row_read_in t i
   unfolding row_read_in row_read
   row_nowhere = sum_nowhere t (row_sum t) no_facility i
 
-  pub row_short : i ≤ no_facility → length t ≤ no_facility → sums.Refused OutputShort ≡ row_read_in t i
+  pub row_short : i ≤ no_facility → length t ≤ no_facility → Err OutputShort ≡ row_read_in t i
   unfolding row_read_in row_read
   row_short = sum_short t (row_sum t) no_facility i
 
-  pub row_read_lem : i ≤ no_facility → no_facility < length t → (s : ℕ) → s ≡ row_sum t i → sums.Sum s ≡ row_read_in t i
+  pub row_read_lem : i ≤ no_facility → no_facility < length t → (s : ℕ) → s ≡ row_sum t i → Ok s ≡ row_read_in t i
   unfolding row_read_in row_read
   row_read_lem = sum_read t (row_sum t) no_facility i
 
 module _ (t : Tally) (j : ℕ) where
-  pub column_nowhere : no_severity < j → sums.Refused Unsuitable ≡ column_read_in t j
+  pub column_nowhere : no_severity < j → Err Unsuitable ≡ column_read_in t j
   unfolding column_read_in column_read
   column_nowhere = sum_nowhere t (column_sum t) no_severity j
 
-  pub column_short : j ≤ no_severity → length t ≤ no_facility → sums.Refused OutputShort ≡ column_read_in t j
+  pub column_short : j ≤ no_severity → length t ≤ no_facility → Err OutputShort ≡ column_read_in t j
   unfolding column_read_in column_read
   column_short = sum_short t (column_sum t) no_severity j
 
-  pub column_read_lem : j ≤ no_severity → no_facility < length t → (s : ℕ) → s ≡ column_sum t j → sums.Sum s ≡ column_read_in t j
+  pub column_read_lem : j ≤ no_severity → no_facility < length t → (s : ℕ) → s ≡ column_sum t j → Ok s ≡ column_read_in t j
   unfolding column_read_in column_read
   column_read_lem = sum_read t (column_sum t) no_severity j
 
@@ -213,48 +205,48 @@ module _ (t : Tally) (l : length t ≡ row_count) where
   enough : no_facility < length t
   enough = omega arith
 
-  pub cell_whole : (i j : ℕ) (a : CellRead) → a ≡ cell_read_in t i j → a ≡ cell_read t i j
+  pub cell_whole : (i j : ℕ) (a : Result ℕ Refusal) → a ≡ cell_read_in t i j → a ≡ cell_read t i j
   unfolding cell_read_in
-  cell_whole i j a q = q ∙ or_enough (is_cell i j) t (cells.Refused OutputShort) (cell_read t i j) enough
+  cell_whole i j a q = q ∙ or_enough (is_cell i j) t (Err OutputShort) (cell_read t i j) enough
 
-  pub row_whole : (i : ℕ) (a : SumRead) → a ≡ row_read_in t i → a ≡ row_read t i
+  pub row_whole : (i : ℕ) (a : Result ℕ Refusal) → a ≡ row_read_in t i → a ≡ row_read t i
   unfolding row_read_in
-  row_whole i a q = q ∙ or_enough (is_row i) t (sums.Refused OutputShort) (row_read t i) enough
+  row_whole i a q = q ∙ or_enough (is_row i) t (Err OutputShort) (row_read t i) enough
 
-  pub column_whole : (j : ℕ) (a : SumRead) → a ≡ column_read_in t j → a ≡ column_read t j
+  pub column_whole : (j : ℕ) (a : Result ℕ Refusal) → a ≡ column_read_in t j → a ≡ column_read t j
   unfolding column_read_in
-  column_whole j a q = q ∙ or_enough (is_column j) t (sums.Refused OutputShort) (column_read t j) enough
+  column_whole j a q = q ∙ or_enough (is_column j) t (Err OutputShort) (column_read t j) enough
 
 pub ruleset whole_laws = (cell_whole, row_whole, column_whole)
 
 -- ---- in numbers
 
-module _ (r : CellRead) where
-  pub cell_counted : (n : ℕ) → r ≡ cells.Count n → record { number = 0; count = n } ≡ cell_answer_of r
+module _ (r : Result ℕ Refusal) where
+  pub cell_counted : (n : ℕ) → r ≡ Ok n → record { number = 0; count = n } ≡ cell_answer_of r
   cell_counted n e = rw e
 
-  pub cell_refused : (f : Refusal) (n : ℕ) → r ≡ cells.Refused f → n ≡ refusal_number f → record { number = n; count = 0 } ≡ cell_answer_of r
+  pub cell_refused : (f : Refusal) (n : ℕ) → r ≡ Err f → n ≡ refusal_number f → record { number = n; count = 0 } ≡ cell_answer_of r
   cell_refused f n e q = rw (e, q)
 
-module _ (r : SumRead) where
-  pub sum_summed : (n : ℕ) → r ≡ sums.Sum n → record { number = 0; sum = n } ≡ sum_answer_of r
+module _ (r : Result ℕ Refusal) where
+  pub sum_summed : (n : ℕ) → r ≡ Ok n → record { number = 0; sum = n } ≡ sum_answer_of r
   sum_summed n e = rw e
 
-  pub sum_refused : (f : Refusal) (n : ℕ) → r ≡ sums.Refused f → n ≡ refusal_number f → record { number = n; sum = 0 } ≡ sum_answer_of r
+  pub sum_refused : (f : Refusal) (n : ℕ) → r ≡ Err f → n ≡ refusal_number f → record { number = n; sum = 0 } ≡ sum_answer_of r
   sum_refused f n e q = rw (e, q)
 
 pub ruleset answer_laws = (cell_counted, cell_refused, sum_summed, sum_refused)
 
-pub cell_told : (r s : CellRead) (a : CellAnswer) → r ≡ s → a ≡ cell_answer_of r → a ≡ cell_answer_of s
+pub cell_told : (r s : Result ℕ Refusal) (a : CellAnswer) → r ≡ s → a ≡ cell_answer_of r → a ≡ cell_answer_of s
 cell_told r s a e q = q ∙ rw e
 
-pub sum_told : (r s : SumRead) (a : SumAnswer) → r ≡ s → a ≡ sum_answer_of r → a ≡ sum_answer_of s
+pub sum_told : (r s : Result ℕ Refusal) (a : SumAnswer) → r ≡ s → a ≡ sum_answer_of r → a ≡ sum_answer_of s
 sum_told r s a e q = q ∙ rw e
 
-pub add_told : (t : Tally) (fm f sm s i j n : ℕ) (a : Added) (new : Tally) → i ≡ place_in no_facility fm f → j ≡ place_in no_severity sm s
+pub add_told : (t : Tally) (fm f sm s i j n : ℕ) (a : Result Unit Refusal) (new : Tally) → i ≡ place_in no_facility fm f → j ≡ place_in no_severity sm s
     → AddsIn t i j a new → n ≡ added_number a → AddsNumbers t fm f sm s n new
 add_told t fm f sm s i j n a new p q h e =
-    let g : AddsAt t i j n new = record { told = e ∙ ap added_number h.answers; leaves = h.leaves ∙ ap (λ (x : Added). after x t i j) h.answers } in
+    let g : AddsAt t i j n new = record { told = e ∙ ap added_number h.answers; leaves = h.leaves ∙ ap (λ (x : Result Unit Refusal). after x t i j) h.answers } in
     record { adds = subst (λ (x : ℕ). AddsAt t x (place_in no_severity sm s) n new) p (subst (λ (x : ℕ). AddsAt t i x n new) q g) }
 
 pub ruleset told_laws = (cell_told, sum_told, add_told)

@@ -5,28 +5,7 @@ ghost use Rattle.std.specs.Prelude.{◌≡◌, suc, ◌≤◌, ◌<◌, length};
 ghost use Rattle.tally.specs.Tally.{no_facility, column_count, full, cell, place_of, Adds, row_sum, column_sum, cell_read, row_read, column_read};
 ghost use Rattle.tally.specs.Numbers.{place_in, added_number, cell_answer_of, sum_answer_of, AddsNumbers, cell_read_in, row_read_in, column_read_in, AddsIn};
 
-use record::{Level, Refusal};
-
-// What an addition answers.
-#[derive(Clone, Copy)]
-pub enum Added {
-    Done,
-    Refused(Refusal),
-}
-
-// What the read of a cell answers.
-#[derive(Clone, Copy)]
-pub enum CellRead {
-    Count(u32),
-    Refused(Refusal),
-}
-
-// What the read of a row sum or of a column sum answers.
-#[derive(Clone, Copy)]
-pub enum SumRead {
-    Sum(u64),
-    Refused(Refusal),
-}
+use record::Refusal;
 
 // The answers as a C caller gets them: a number (0: done) and the value, which is 0 where the call is refused.
 #[repr(C)]
@@ -58,13 +37,13 @@ fn place(none: usize, n: usize) -> usize
     if n < none { n } else { none + 1 }
 }
 
-fn place_of(none: usize, level: Level) -> usize
+fn place_of(none: usize, level: Option<u8>) -> usize
     requires { none < 255 }
     ensures { result ≡ place_of none level }
 {
     match level {
-        Level::Unset => none,
-        Level::Set(n) => place(none, n as usize),
+        None => none,
+        Some(n) => place(none, n as usize),
     }
 }
 
@@ -91,39 +70,39 @@ fn one_more(n: u32) -> u32
     n + 1
 }
 
-fn add_at(rows: &mut [[u32; 9]], i: usize, j: usize) -> Added
+fn add_at(rows: &mut [[u32; 9]], i: usize, j: usize) -> Result<(), Refusal>
     ensures { AddsIn rows.old i j result rows.new }
 {
     if NO_FACILITY < i {
-        return Added::Refused(Refusal::Unsuitable);
+        return Err(Refusal::Unsuitable);
     }
     if NO_SEVERITY < j {
-        return Added::Refused(Refusal::Unsuitable);
+        return Err(Refusal::Unsuitable);
     }
     if rows.len() <= NO_FACILITY {
-        return Added::Refused(Refusal::OutputShort);
+        return Err(Refusal::OutputShort);
     }
     let n = rows[i][j];
     if n == u32::MAX {
-        return Added::Refused(Refusal::CellFull);
+        return Err(Refusal::CellFull);
     }
     rows[i][j] = one_more(n);
-    Added::Done
+    Ok(())
 }
 
-fn cell_at(rows: &[[u32; 9]], i: usize, j: usize) -> CellRead
+fn cell_at(rows: &[[u32; 9]], i: usize, j: usize) -> Result<u32, Refusal>
     ensures { result ≡ cell_read_in rows.now i j }
 {
     if NO_FACILITY < i {
-        return CellRead::Refused(Refusal::Unsuitable);
+        return Err(Refusal::Unsuitable);
     }
     if NO_SEVERITY < j {
-        return CellRead::Refused(Refusal::Unsuitable);
+        return Err(Refusal::Unsuitable);
     }
     if rows.len() <= NO_FACILITY {
-        return CellRead::Refused(Refusal::OutputShort);
+        return Err(Refusal::OutputShort);
     }
-    CellRead::Count(rows[i][j])
+    Ok(rows[i][j])
 }
 
 fn wide(n: u32) -> u64
@@ -169,34 +148,38 @@ fn column_sum(rows: &[[u32; 9]], j: usize) -> u64
     sum
 }
 
-fn row_at(rows: &[[u32; 9]], i: usize) -> SumRead
+fn row_at(rows: &[[u32; 9]], i: usize) -> Result<u64, Refusal>
     ensures { result ≡ row_read_in rows.now i }
 {
     if NO_FACILITY < i {
-        return SumRead::Refused(Refusal::Unsuitable);
+        return Err(Refusal::Unsuitable);
     }
     if rows.len() <= NO_FACILITY {
-        return SumRead::Refused(Refusal::OutputShort);
+        return Err(Refusal::OutputShort);
     }
-    SumRead::Sum(row_sum(rows, i))
+    Ok(row_sum(rows, i))
 }
 
-fn column_at(rows: &[[u32; 9]], j: usize) -> SumRead
+fn column_at(rows: &[[u32; 9]], j: usize) -> Result<u64, Refusal>
     ensures { result ≡ column_read_in rows.now j }
 {
     if NO_SEVERITY < j {
-        return SumRead::Refused(Refusal::Unsuitable);
+        return Err(Refusal::Unsuitable);
     }
     if rows.len() <= NO_FACILITY {
-        return SumRead::Refused(Refusal::OutputShort);
+        return Err(Refusal::OutputShort);
     }
-    SumRead::Sum(column_sum(rows, j))
+    Ok(column_sum(rows, j))
 }
 
 // ---- the services
 
 // One record more of a facility and a severity, as a record has them.
-pub fn add(tally: &mut [[u32; 9]; 25], facility: Level, severity: Level) -> Added
+pub fn add(
+    tally: &mut [[u32; 9]; 25],
+    facility: Option<u8>,
+    severity: Option<u8>,
+) -> Result<(), Refusal>
     ensures { Adds tally.old facility severity result tally.new }
 {
     let i = place_of(NO_FACILITY, facility);
@@ -205,21 +188,21 @@ pub fn add(tally: &mut [[u32; 9]; 25], facility: Level, severity: Level) -> Adde
 }
 
 // What a cell holds.
-pub fn cell(tally: &[[u32; 9]; 25], row: usize, column: usize) -> CellRead
+pub fn cell(tally: &[[u32; 9]; 25], row: usize, column: usize) -> Result<u32, Refusal>
     ensures { result ≡ cell_read tally.now row column }
 {
     cell_at(tally, row, column)
 }
 
 // The sum of a row's cells.
-pub fn row(tally: &[[u32; 9]; 25], row: usize) -> SumRead
+pub fn row(tally: &[[u32; 9]; 25], row: usize) -> Result<u64, Refusal>
     ensures { result ≡ row_read tally.now row }
 {
     row_at(tally, row)
 }
 
 // The sum of a column's cells.
-pub fn column(tally: &[[u32; 9]; 25], column: usize) -> SumRead
+pub fn column(tally: &[[u32; 9]; 25], column: usize) -> Result<u64, Refusal>
     ensures { result ≡ column_read tally.now column }
 {
     column_at(tally, column)
@@ -227,33 +210,33 @@ pub fn column(tally: &[[u32; 9]; 25], column: usize) -> SumRead
 
 // ---- for C: include/khamdoriem.h declares these functions, docs/INTERFACE.md says what they answer
 
-fn added_number(a: Added) -> u32
+fn added_number(a: Result<(), Refusal>) -> u32
     ensures { result ≡ added_number a }
 {
     match a {
-        Added::Done => 0,
-        Added::Refused(f) => record::refusal_number(f),
+        Ok(()) => 0,
+        Err(f) => record::refusal_number(f),
     }
 }
 
-fn cell_answer_of(r: CellRead) -> CellAnswer
+fn cell_answer_of(r: Result<u32, Refusal>) -> CellAnswer
     ensures { result ≡ cell_answer_of r }
 {
     match r {
-        CellRead::Count(count) => CellAnswer { number: 0, count },
-        CellRead::Refused(f) => CellAnswer {
+        Ok(count) => CellAnswer { number: 0, count },
+        Err(f) => CellAnswer {
             number: record::refusal_number(f),
             count: 0,
         },
     }
 }
 
-fn sum_answer_of(r: SumRead) -> SumAnswer
+fn sum_answer_of(r: Result<u64, Refusal>) -> SumAnswer
     ensures { result ≡ sum_answer_of r }
 {
     match r {
-        SumRead::Sum(sum) => SumAnswer { number: 0, sum },
-        SumRead::Refused(f) => SumAnswer {
+        Ok(sum) => SumAnswer { number: 0, sum },
+        Err(f) => SumAnswer {
             number: record::refusal_number(f),
             sum: 0,
         },

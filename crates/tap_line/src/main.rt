@@ -2,20 +2,20 @@
 #![tactic(auto)]
 
 use program::{Process, Status, Takes};
-use record::{Reading, Record, Stamp, Written};
+use record::{Reading, Record, Refusal};
 use std::process::ExitCode;
 
 fn write_seconds(process: &mut Process, r: Record) -> bool {
     let stamp = r.timestamp;
-    let Stamp::Stamped(t) = stamp else {
+    let Some(t) = stamp else {
         return false;
     };
     let seconds = base::split(t.seconds);
     program::say_decimal(process, seconds.up) & program::say(process, b"\n")
 }
 
-fn write_printed(process: &mut Process, w: Written, out: &[u8]) -> bool {
-    let Written::Done(n) = w else {
+fn write_printed(process: &mut Process, w: Result<usize, Refusal>, out: &[u8]) -> bool {
+    let Ok(n) = w else {
         return false;
     };
     if out.len() < n {
@@ -31,7 +31,7 @@ fn read_line(
     year: u32,
     offset: i32,
     elements: &mut [[usize; 2]],
-) -> Reading {
+) -> Result<Reading, Refusal> {
     let blank = record::blank();
     let mut params = [blank; 4];
     loose::read(line, variant, year, offset, elements, &mut params)
@@ -44,7 +44,7 @@ fn print_line(
     e: usize,
     elements: &[[usize; 2]],
     out: &mut [u8],
-) -> Written {
+) -> Result<usize, Refusal> {
     let blank = record::blank();
     let params = [blank; 4];
     message::print(line, r, e, 0, elements, &params, out)
@@ -56,7 +56,7 @@ fn show(process: &mut Process) -> bool {
     let mut elements = [[0usize; 2]; 4];
     let mut out = [0u8; 128];
     let reading = read_line(&line, 0, 2023, 60, &mut elements);
-    let Reading::Read(r, e, _) = reading else {
+    let Ok(Reading::Read(r, e, _)) = reading else {
         return false;
     };
     let timed = write_seconds(process, r);

@@ -4,10 +4,9 @@
 ghost use Rattle.std.specs.Prelude.{◌≡◌};
 ghost use Rattle.record.specs.Answers.{output_answer_of};
 ghost use Rattle.record.specs.Params.{rows};
-ghost use Rattle.record.specs.declared.Written.TheVariants.{Refused};
 ghost use Rattle.exports.specs.Exports.{first_refusal, ServesPrint, ServesLookup};
 
-use record::{OutputAnswer, Param, Refusal, Written};
+use record::{OutputAnswer, Param, Refusal};
 
 // The refusal of bytes that hold no record.
 fn first_refusal(len: usize, kind: u32) -> Refusal
@@ -27,7 +26,7 @@ fn unheld(len: usize, kind: u32) -> OutputAnswer
     ensures { result ≡ output_answer_of (Refused (first_refusal len kind)) }
 {
     let first = first_refusal(len, kind);
-    record::output_answer_of(Written::Refused(first))
+    record::output_answer_of(Err(first))
 }
 
 // Printing of the record that the 216 bytes hold: number and length.

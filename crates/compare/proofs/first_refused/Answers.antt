@@ -5,5 +5,5 @@ use Rattle.compare.proofs.first_refused.Goals as goal
 pub returns-in-Whole : goal.returns-in-Whole
 returns-in-Whole c = search (refusal_laws, rules)
 
-pub returns-in-Refused : goal.returns-in-Refused
-returns-in-Refused c = search (refusal_laws, rules)
+pub returns-in-Err : goal.returns-in-Err
+returns-in-Err c = search (refusal_laws, rules)

@@ -8,5 +8,5 @@ returns-in-Read c = search (refusal_laws, rules)
 pub returns-in-Whole : goal.returns-in-Whole
 returns-in-Whole c = search (refusal_laws, rules)
 
-pub returns-in-Refused : goal.returns-in-Refused
-returns-in-Refused c = search (refusal_laws, rules)
+pub returns-in-Err : goal.returns-in-Err
+returns-in-Err c = search (refusal_laws, rules)

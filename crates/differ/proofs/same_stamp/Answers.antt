@@ -2,5 +2,5 @@ use Rattle.std.proofs.Common.{rules}
 use Rattle.differ.proofs.Fields.{enum_laws}
 use Rattle.differ.proofs.same_stamp.Goals as goal
 
-pub returns-in-Stamped : goal.returns-in-Stamped
-returns-in-Stamped c = search (enum_laws, rules)
+pub returns-in-Some : goal.returns-in-Some
+returns-in-Some c = search (enum_laws, rules)

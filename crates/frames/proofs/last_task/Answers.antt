@@ -2,8 +2,8 @@ use Rattle.std.proofs.Common.{rules}
 use Rattle.frames.proofs.Tasks.{last_laws}
 use Rattle.frames.proofs.last_task.Goals as goal
 
-pub returns-in-Count : goal.returns-in-Count
-returns-in-Count c = search (last_laws, rules)
+pub returns-in-Ok : goal.returns-in-Ok
+returns-in-Ok c = search (last_laws, rules)
 
 pub returns-in-Content : goal.returns-in-Content
 returns-in-Content c = search (last_laws, rules)

@@ -14,5 +14,5 @@ slice_bounds-kept_len-end c = search (turn_laws, rules)
 pub returns-in-Frame : goal.returns-in-Frame
 returns-in-Frame c = search (turn_laws, rules)
 
-pub returns-in-Refused : goal.returns-in-Refused
-returns-in-Refused c = search (turn_laws, rules)
+pub returns-in-Err : goal.returns-in-Err
+returns-in-Err c = search (turn_laws, rules)

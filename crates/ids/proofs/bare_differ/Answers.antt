@@ -2,8 +2,8 @@ use Rattle.std.proofs.Common.{rules}
 use Rattle.ids.proofs.Many.{bare_laws}
 use Rattle.ids.proofs.bare_differ.Goals as goal
 
-pub returns-in-NoData : goal.returns-in-NoData
-returns-in-NoData c = search (bare_laws, rules)
+pub returns-in-None : goal.returns-in-None
+returns-in-None c = search (bare_laws, rules)
 
-pub returns-in-IsData : goal.returns-in-IsData
-returns-in-IsData c = search (bare_laws, rules)
+pub returns-in-Some : goal.returns-in-Some
+returns-in-Some c = search (bare_laws, rules)

@@ -6,11 +6,11 @@ use Rattle.layout.proofs.put_level.Goals as goal
 pub put_two-requires : goal.put_two-requires
 put_two-requires c = search (named, field_words, rules)
 
-pub put_two-requires-in-Set : goal.put_two-requires-in-Set
-put_two-requires-in-Set c = search (named, field_words, rules)
+pub put_two-requires-in-Some : goal.put_two-requires-in-Some
+put_two-requires-in-Some c = search (named, field_words, rules)
 
-pub returns-in-Unset : goal.returns-in-Unset
-returns-in-Unset c = search (named, field_words, rules)
+pub returns-in-None : goal.returns-in-None
+returns-in-None c = search (named, field_words, rules)
 
-pub returns-in-Set : goal.returns-in-Set
-returns-in-Set c = search (named, field_words, rules)
+pub returns-in-Some : goal.returns-in-Some
+returns-in-Some c = search (named, field_words, rules)

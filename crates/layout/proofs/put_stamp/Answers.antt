@@ -6,11 +6,11 @@ use Rattle.layout.proofs.put_stamp.Goals as goal
 pub put_five-requires : goal.put_five-requires
 put_five-requires c = search (named, field_words, rules)
 
-pub put_five-requires-in-Stamped : goal.put_five-requires-in-Stamped
-put_five-requires-in-Stamped c = search (named, field_words, rules)
+pub put_five-requires-in-Some : goal.put_five-requires-in-Some
+put_five-requires-in-Some c = search (named, field_words, rules)
 
-pub returns-in-Unstamped : goal.returns-in-Unstamped
-returns-in-Unstamped c = search (named, field_words, rules)
+pub returns-in-None : goal.returns-in-None
+returns-in-None c = search (named, field_words, rules)
 
-pub returns-in-Stamped : goal.returns-in-Stamped
-returns-in-Stamped c = search (named, field_words, rules)
+pub returns-in-Some : goal.returns-in-Some
+returns-in-Some c = search (named, field_words, rules)

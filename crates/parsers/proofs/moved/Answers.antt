@@ -5,5 +5,5 @@ use Rattle.parsers.proofs.moved.Goals as goal
 pub overflow_add-result : goal.overflow_add-result
 overflow_add-result c = search (moved_laws, rules)
 
-pub returns-in-Value : goal.returns-in-Value
-returns-in-Value c = search (moved_laws, rules)
+pub returns-in-Some : goal.returns-in-Some
+returns-in-Some c = search (moved_laws, rules)

@@ -5,5 +5,5 @@ use Rattle.site.proofs.site_answer_of.Goals as goal
 pub returns-in-Read : goal.returns-in-Read
 returns-in-Read c = search (told_laws, rules)
 
-pub returns-in-Refused : goal.returns-in-Refused
-returns-in-Refused c = search (told_laws, rules)
+pub returns-in-Err : goal.returns-in-Err
+returns-in-Err c = search (told_laws, rules)

@@ -5,8 +5,8 @@ use Rattle.stream.proofs.feed.Goals as goal
 pub returns-then-buffer-lt-LINE_LIMIT : goal.returns-then-buffer-lt-LINE_LIMIT
 returns-then-buffer-lt-LINE_LIMIT c = search (feed_laws, rules)
 
-pub returns-in-Count : goal.returns-in-Count
-returns-in-Count c = search (feed_laws, rules)
+pub returns-in-Ok : goal.returns-in-Ok
+returns-in-Ok c = search (feed_laws, rules)
 
 pub returns-in-Content : goal.returns-in-Content
 returns-in-Content c = search (feed_laws, rules)

@@ -2,8 +2,8 @@ use Rattle.std.proofs.Common.{rules}
 use Rattle.stream.proofs.Numbered.{numbers_laws}
 use Rattle.stream.proofs.numbers_of.Goals as goal
 
-pub returns-in-Count : goal.returns-in-Count
-returns-in-Count c = search (numbers_laws, rules)
+pub returns-in-Ok : goal.returns-in-Ok
+returns-in-Ok c = search (numbers_laws, rules)
 
 pub returns-in-Content : goal.returns-in-Content
 returns-in-Content c = search (numbers_laws, rules)

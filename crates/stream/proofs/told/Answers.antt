@@ -8,5 +8,5 @@ returns-in-More c = search (told_laws, rules)
 pub returns-in-Frame : goal.returns-in-Frame
 returns-in-Frame c = search (told_laws, rules)
 
-pub returns-in-Refused : goal.returns-in-Refused
-returns-in-Refused c = search (told_laws, rules)
+pub returns-in-Err : goal.returns-in-Err
+returns-in-Err c = search (told_laws, rules)

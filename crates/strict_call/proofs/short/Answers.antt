@@ -5,5 +5,5 @@ use Rattle.strict_call.proofs.short.Goals as goal
 pub returns-in-Read : goal.returns-in-Read
 returns-in-Read c = search (strict_laws, rules)
 
-pub returns-in-Refused : goal.returns-in-Refused
-returns-in-Refused c = search (strict_laws, rules)
+pub returns-in-Err : goal.returns-in-Err
+returns-in-Err c = search (strict_laws, rules)

@@ -1,4 +1,4 @@
 use Rattle.suits.proofs.level_suits.Goals as goal
 
-pub returns-in-Set : goal.returns-in-Set
-returns-in-Set c = cc
+pub returns-in-Some : goal.returns-in-Some
+returns-in-Some c = cc

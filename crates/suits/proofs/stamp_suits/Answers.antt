@@ -1,4 +1,4 @@
 use Rattle.suits.proofs.stamp_suits.Goals as goal
 
-pub returns-in-Stamped : goal.returns-in-Stamped
-returns-in-Stamped c = cc
+pub returns-in-Some : goal.returns-in-Some
+returns-in-Some c = cc

@@ -11,5 +11,5 @@ told_of-requires c = search (reading_laws, rules)
 pub returns-in-Read : goal.returns-in-Read
 returns-in-Read c = search (reading_laws, rules)
 
-pub returns-in-Refused : goal.returns-in-Refused
-returns-in-Refused c = search (reading_laws, rules)
+pub returns-in-Err : goal.returns-in-Err
+returns-in-Err c = search (reading_laws, rules)

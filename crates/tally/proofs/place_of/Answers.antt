@@ -11,8 +11,8 @@ overflow_cast-n c = search (level_laws, rules)
 pub place-requires : goal.place-requires
 place-requires c = search (level_laws, rules)
 
-pub returns-in-Unset : goal.returns-in-Unset
-returns-in-Unset c = search (level_laws, rules)
+pub returns-in-None : goal.returns-in-None
+returns-in-None c = search (level_laws, rules)
 
-pub returns-in-Set : goal.returns-in-Set
-returns-in-Set c = search (level_laws, rules)
+pub returns-in-Some : goal.returns-in-Some
+returns-in-Some c = search (level_laws, rules)
