@@ -14,10 +14,7 @@ use record::{Param, ReadAnswer, Reading, Refusal};
 fn short(r: Result<Reading, Refusal>) -> ReadAnswer
     ensures { result ≡ short_answer (read_answer_of r) }
 {
-    record::read_answer_of(match r {
-        Err(_) => r,
-        _ => Err(Refusal::OutputShort),
-    })
+    record::read_answer_of(r.and(Err(Refusal::OutputShort)))
 }
 
 // What is answered, and the record in `memory` where the number is 0.
