@@ -1,5 +1,5 @@
 -- The version of a record that was read is a number of 32 bits, and its counts are far below a word.
-use Rattle.std.specs.Prelude.{◌×◌, Option, Some, None}
+use Rattle.std.specs.Prelude.{Option, Some, None}
 use Prim.Native.Nat.{ℕ, ◌≤◌, ◌<◌}
 use mathlib.Core.Path.{◌≡◌, refl}
 use mathlib.Core.List.{List}

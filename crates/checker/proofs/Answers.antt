@@ -1,5 +1,5 @@
 -- The answers of the service, by its tests.
-use Rattle.std.specs.Prelude.{Unit, Result, Err}
+use Rattle.std.specs.Prelude.{Result, Err}
 use Prim.Native.Nat.{ℕ, ◌≤◌}
 use mathlib.Core.Path.{◌≡◌, refl, sym, ap, ◌∙◌, subst}
 use mathlib.Core.Bool.{Bool, true, false}

@@ -1,5 +1,5 @@
 -- A strict record that comes in as bytes, and the numbers of the answers.
-use Rattle.std.specs.Prelude.{Unit, tt, Result, Ok, Err}
+use Rattle.std.specs.Prelude.{Result, Ok, Err}
 use Prim.Native.Nat.{ℕ, ◌+◌, ◌-◌, ◌*◌, ◌≤◌, ◌<◌}
 use mathlib.Core.Path.{◌≡◌, sym, ap, ◌∙◌}
 use mathlib.Core.Bool.{Bool, true, false, not, ◌&&◌}

@@ -1,5 +1,5 @@
 -- The check as C has it: the strict record and the counts as bytes, and the answer as a number.
-use Rattle.std.specs.Prelude.{ℕ, ◌+◌, ◌≡◌, Bool, true, false, ◌&&◌, List, eqb, leb, ltb, length, if◌then◌else◌, Unit, Result}
+use Rattle.std.specs.Prelude.{ℕ, ◌+◌, ◌≡◌, Bool, true, false, ◌&&◌, List, eqb, leb, ltb, length, if◌then◌else◌, Result}
 use Rattle.record.specs.Limits.{line_limit}
 use Rattle.record.specs.Refusals.{refusal_number}
 use Rattle.record.specs.declared.Refusal.{Refusal}

@@ -1,5 +1,5 @@
 -- For private contracts alone: how far the check is in the walk over the parameters.
-use Rattle.std.specs.Prelude.{ℕ, ◌+◌, ◌-◌, ◌≤◌, ◌<◌, ◌≡◌, Bool, true, false, ◌&&◌, List, length, take, if◌then◌else◌, Unit, tt, Option, Some, None, Result, Ok, Err}
+use Rattle.std.specs.Prelude.{ℕ, ◌+◌, ◌-◌, ◌≤◌, ◌<◌, ◌≡◌, Bool, true, false, ◌&&◌, List, length, take, if◌then◌else◌, Option, Some, None, Result, Ok, Err}
 use Rattle.base.specs.Texts.{all_different}
 use Rattle.record.specs.Limits.{line_limit}
 use Rattle.record.specs.declared.Param.{Param}

@@ -1,5 +1,5 @@
 -- Worked examples, computed: claims of some lines, told yes and told no, and the numbers of the answers.
-use Rattle.std.specs.Prelude.{tt, Some, None, Ok, Err}
+use Rattle.std.specs.Prelude.{Some, None, Ok, Err}
 use Prim.Native.Nat.{ℕ, ◌+◌}
 use mathlib.Core.Path.{◌≡◌, refl}
 use mathlib.Core.Bool.{true, false}

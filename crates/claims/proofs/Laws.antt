@@ -1,5 +1,5 @@
 -- The laws of the check: what the code follows is what the contract asks for, one answer, one claim, and a changed one refused.
-use Rattle.std.specs.Prelude.{if◌then◌else◌, Unit, tt, Result, Ok, Err}
+use Rattle.std.specs.Prelude.{if◌then◌else◌, Result, Ok, Err}
 use Prim.Native.Nat.{ℕ, ◌≤◌, ◌<◌}
 use mathlib.Core.Path.{◌≡◌, refl, sym, ap, ◌∙◌}
 use mathlib.Core.Bool.{Bool, true, false, not}

@@ -1,5 +1,5 @@
 -- The contract of the check: a claim is told yes exactly when it is what the strict grammar gives for the line. No parser and no check is named.
-use Rattle.std.specs.Prelude.{ℕ, ◌≤◌, ◌<◌, ◌≡◌, Bool, true, false, ◌&&◌, List, [], ◌∷◌, map, length, get_or, take, Unit, tt, Result, Ok, Err}
+use Rattle.std.specs.Prelude.{ℕ, ◌≤◌, ◌<◌, ◌≡◌, Bool, true, false, ◌&&◌, List, [], ◌∷◌, map, length, get_or, take, Result, Ok, Err}
 use Rattle.record.specs.Limits.{line_limit}
 use Rattle.record.specs.Refusals.{refusal_number}
 use Rattle.record.specs.declared.StrictRecord.{StrictRecord}

@@ -1,5 +1,5 @@
 -- What a user of the check would ask: the statements, to be read without their proofs. Those of `FollowerIsTold` and `ReaderIsTold` are in crate `followers`.
-use Rattle.std.specs.Prelude.{ℕ, ◌≤◌, ◌≡◌, List, ◌⊎◌, length, take, Unit, tt, Result, Ok, Err}
+use Rattle.std.specs.Prelude.{ℕ, ◌≤◌, ◌≡◌, List, ◌⊎◌, length, take, Result, Ok, Err}
 use Rattle.record.specs.Limits.{line_limit}
 use Rattle.record.specs.declared.StrictRecord.{StrictRecord}
 use Rattle.record.specs.declared.Refusal.TheVariants as refusal

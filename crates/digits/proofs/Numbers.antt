@@ -1,5 +1,5 @@
 -- `number_at`: what it answers, on which text, and the loop that reads it.
-use Rattle.std.specs.Prelude.{if◌then◌else◌, ◌×◌, Option, Some, None}
+use Rattle.std.specs.Prelude.{if◌then◌else◌, Option, Some, None}
 use Prim.Native.Nat.{ℕ, ◌+◌, ◌-◌, ◌*◌, ◌≤◌, ◌<◌}
 use mathlib.Core.Path.{◌≡◌, refl, sym, ap, ◌∙◌}
 use mathlib.Core.Bool.{Bool, true, false, not, and-true, and-false}
@@ -55,8 +55,8 @@ module _ (s : List ℕ) (max i v : ℕ) (p : Passed s max i v) where
   unfolding number_at
   ended a n e = e ∙ rw (← n, ← p.value, le-leb v max p.small, and-true)
 
-  pub ended_text : (a : Option (ℕ × ℕ)) → length s ≤ i → a ≡ (if leb 1 i then Some (v, i) else None) → a ≡ number_at max s
-  ended_text a h e = ended a (runs_out is_digit s _ i p.run_is h) e
+  pub ended_text : (a : Option (ℕ × ℕ)) → length s ≤ i → i ≤ length s → a ≡ (if leb 1 (length s) then Some (v, length s) else None) → a ≡ number_at max s
+  ended_text a h g e = let n : length s ≡ i = omega arith in ended a (runs_out is_digit s _ i p.run_is h) (rw n at e)
 
   module _ (h : i < length s) (d : Bool) (ed : d ≡ is_digit (get_or s i 0)) where
     pub ended_digits : (a : Option (ℕ × ℕ)) → not d ≡ true → a ≡ (if leb 1 i then Some (v, i) else None) → a ≡ number_at max s

@@ -1,5 +1,5 @@
 -- ASCII digits as numbers.
-use Rattle.std.specs.Prelude.{ℕ, ◌+◌, ◌-◌, ◌*◌, ◌^◌, List, [], ◌∷◌, Bool, ◌&&◌, leb, take, if◌then◌else◌, ◌×◌, Option, Some, None}
+use Rattle.std.specs.Prelude.{ℕ, ◌+◌, ◌-◌, ◌*◌, ◌^◌, List, [], ◌∷◌, Bool, ◌&&◌, leb, take, if◌then◌else◌, Option, Some, None}
 use Rattle.base.specs.Choose.{within}
 use Rattle.base.specs.Runs.{run}
 

@@ -21,7 +21,7 @@ fn digit_value(b: u8) -> u32
 
 // What `len` digits that write `value` answer.
 fn written(value: u32, len: usize) -> Option<(u32, usize)>
-    ensures { result ≡ (if leb 1 len then Number.Value value len else Number.Nothing) }
+    ensures { result ≡ (if leb 1 len then Some (value, len) else None) }
 {
     if len < 1 {
         return None;
@@ -33,10 +33,8 @@ fn written(value: u32, len: usize) -> Option<(u32, usize)>
 pub fn digits(s: &[u8], max: u32) -> Option<(u32, usize)>
     ensures { result ≡ number_at max s.now }
 {
-    let mut i = 0;
     let mut value: u32 = 0;
-    while i < s.len() {
-        let b = s[i];
+    for (i, &b) in s.iter().enumerate() {
         if !is_digit(b) {
             return written(value, i);
         }
@@ -45,27 +43,18 @@ pub fn digits(s: &[u8], max: u32) -> Option<(u32, usize)>
             return None;
         }
         value = wide as u32;
-        i += 1;
     }
-    written(value, i)
+    written(value, s.len())
 }
 
 // The first two bytes of `s`, which are digits. What stands after them does not matter.
 pub fn two_digits(s: &[u8]) -> Option<(u32, usize)>
     ensures { result ≡ fixed_at 2 s.now }
 {
-    if s.len() < 2 {
+    if s.len() < 2 || !is_digit(s[0]) || !is_digit(s[1]) {
         return None;
     }
-    let tens = s[0];
-    let ones = s[1];
-    if !is_digit(tens) {
-        return None;
-    }
-    if !is_digit(ones) {
-        return None;
-    }
-    Some((digit_value(tens) * 10 + digit_value(ones), 2))
+    Some((digit_value(s[0]) * 10 + digit_value(s[1]), 2))
 }
 
 // The first four bytes of `s`, likewise.

@@ -1,5 +1,5 @@
 -- What stands before the structured data: the priority, the timestamp and the names, in print and in the line.
-use Rattle.std.specs.Prelude.{if◌then◌else◌, ◌×◌, Option, Some, None}
+use Rattle.std.specs.Prelude.{if◌then◌else◌, Option, Some, None}
 use Prim.Native.Nat.{ℕ, zero, suc, ◌+◌, ◌*◌, ◌/◌, ◌%◌, ◌^◌, ◌≤◌, ◌<◌}
 use mathlib.Core.Path.{◌≡◌, refl}
 use mathlib.Core.List.{List, [], ◌∷◌}

@@ -1,5 +1,5 @@
 -- A true claim, in tables that hold its counts, suits its line; so it is told yes.
-use Rattle.std.specs.Prelude.{tt, Ok, Err}
+use Rattle.std.specs.Prelude.{Ok, Err}
 use Prim.Native.Nat.{ℕ, ◌+◌, ◌≤◌}
 use mathlib.Core.Path.{◌≡◌, refl, sym, ap, ap₂, ◌∙◌}
 use mathlib.Core.Bool.{true, false, ◌&&◌}

@@ -1,5 +1,5 @@
 -- For private contracts alone: how many bytes an answer passes, which is what the functions that place it in the line require to fit.
-use Rattle.std.specs.Prelude.{ℕ, ◌×◌, Option, Some, None}
+use Rattle.std.specs.Prelude.{ℕ, Option, Some, None}
 use Rattle.parsers.specs.declared.Text.{Text}
 use Rattle.parsers.specs.declared.Text.TheVariants.{Fails, Absent, Given}
 

@@ -1,5 +1,5 @@
 -- Steps of a reader at a position of the line: what was read, and the position after it. `onX x r k` goes on with k, or answers r where x failed.
-use Rattle.std.specs.Prelude.{ℕ, ◌+◌, List, Bool, not, ◌||◌, eqb, get_or, drop, if◌then◌else◌, ◌×◌, Option, Some, None}
+use Rattle.std.specs.Prelude.{ℕ, ◌+◌, List, Bool, not, ◌||◌, eqb, get_or, drop, if◌then◌else◌, Option, Some, None}
 use Rattle.base.specs.Choose.{is_at}
 use Rattle.base.specs.Runs.{run}
 use Rattle.digits.specs.Digits.{number_at}

@@ -1,5 +1,5 @@
 -- pri.rs: `<`, digits, `>`, value 0 to 255, leading zeros allowed. Anything else, `<256>` too, consumes nothing and leaves both absent.
-use Rattle.std.specs.Prelude.{ℕ, ◌+◌, ◌/◌, ◌%◌, List, leb, drop, if◌then◌else◌, ◌×◌, Option, Some, None}
+use Rattle.std.specs.Prelude.{ℕ, ◌+◌, ◌/◌, ◌%◌, List, leb, drop, if◌then◌else◌, Option, Some, None}
 use Rattle.base.specs.Choose.{is_at}
 use Rattle.digits.specs.Digits.{number_at}
 use Rattle.pri.specs.declared.Pri.{Pri}

@@ -1,5 +1,5 @@
 -- The split of a field, by the tests that decide it, and that its parts fill it.
-use Rattle.std.specs.Prelude.{if◌then◌else◌, ◌×◌, Option, Some, None}
+use Rattle.std.specs.Prelude.{if◌then◌else◌, Option, Some, None}
 use Prim.Native.Nat.{ℕ, ◌+◌, ◌-◌, ◌^◌, ◌≤◌, ◌<◌}
 use mathlib.Core.Path.{◌≡◌, refl, sym, ap, ◌∙◌}
 use mathlib.Core.List.{List}

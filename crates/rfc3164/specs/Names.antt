@@ -1,5 +1,5 @@
 -- rfc3164.rs: the split of a field, and host and tag.
-use Rattle.std.specs.Prelude.{ℕ, ◌+◌, List, Bool, not, ◌&&◌, ◌||◌, leb, eqb, length, take, drop, if◌then◌else◌, ◌×◌, Option, Some, None}
+use Rattle.std.specs.Prelude.{ℕ, ◌+◌, List, Bool, not, ◌&&◌, ◌||◌, leb, eqb, length, take, drop, if◌then◌else◌, Option, Some, None}
 use Rattle.base.specs.Choose.{is_at}
 use Rattle.base.specs.Runs.{run}
 use Rattle.record.specs.Places.{absent, place}

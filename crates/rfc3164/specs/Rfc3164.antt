@@ -1,6 +1,6 @@
 -- rfc3164.rs: priority, blanks, timestamp, optional one space and host, optional one space and tag, blanks, optional `:`, blanks, optional
 -- structured data, blanks, message. The text ends where the trimmed line ends; `start` is where that starts.
-use Rattle.std.specs.Prelude.{ℕ, ◌+◌, ◌-◌, List, length, drop, ℤ, ◌×◌, Option, Some, None}
+use Rattle.std.specs.Prelude.{ℕ, ◌+◌, ◌-◌, List, length, drop, ℤ, Option, Some, None}
 use Rattle.record.specs.Places.{absent}
 use Rattle.record.specs.declared.Place.{Place}
 use Rattle.record.specs.declared.Protocol.TheVariants.{Rfc3164}

@@ -1,5 +1,5 @@
 -- For private contracts alone: steps of the reading, by positions of the line.
-use Rattle.std.specs.Prelude.{ℕ, ◌+◌, ◌≤◌, List, Bool, ◌&&◌, eqb, length, ◌×◌, Option, Some, None}
+use Rattle.std.specs.Prelude.{ℕ, ◌+◌, ◌≤◌, List, Bool, ◌&&◌, eqb, length, Option, Some, None}
 use Rattle.base.specs.Choose.{is_at}
 use Rattle.record.specs.Places.{absent}
 use Rattle.record.specs.declared.Span.{Span}

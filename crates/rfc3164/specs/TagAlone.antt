@@ -1,5 +1,5 @@
 -- A tag and no host: the Rust has a branch for it, with a note that it should not happen. It does not. (To be read: no contract rests on it.)
-use Rattle.std.specs.Prelude.{ℕ, ◌+◌, ◌≡◌, List, Bool, true, not, ◌||◌, drop, if◌then◌else◌, ◌×◌, Option, Some, None}
+use Rattle.std.specs.Prelude.{ℕ, ◌+◌, ◌≡◌, List, Bool, true, not, ◌||◌, drop, if◌then◌else◌, Option, Some, None}
 use Rattle.base.specs.Choose.{is_at}
 use Rattle.parsers.specs.Unread.{is_unread}
 use Rattle.rfc3164.specs.Names.{split_of, no_names, with_tag, only_field}

@@ -1,6 +1,6 @@
 -- rfc5424.rs: priority, at once the version (32 bits), then timestamp, host, app, process id, message id, each after at least one blank, then
 -- optional blanks, structured data, optional blanks, message. The text ends where the trimmed line ends; `start` is where that starts.
-use Rattle.std.specs.Prelude.{ℕ, ◌+◌, ◌-◌, List, length, drop, ◌×◌, Option, Some, None}
+use Rattle.std.specs.Prelude.{ℕ, ◌+◌, ◌-◌, List, length, drop, Option, Some, None}
 use Rattle.record.specs.declared.Place.{Place}
 use Rattle.record.specs.declared.Protocol.TheVariants.{Rfc5424}
 use Rattle.pri.specs.Pri.{pri_at}

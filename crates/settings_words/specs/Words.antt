@@ -1,5 +1,5 @@
 -- Which record of a file counts, what a word writes, and which word is wrong.
-use Rattle.std.specs.Prelude.{ℕ, ◌≡◌, Bool, true, not, List, eqb, ltb, ℤ, length, drop, if◌then◌else◌, ◌×◌, Option, Some, None}
+use Rattle.std.specs.Prelude.{ℕ, ◌≡◌, Bool, true, not, List, eqb, ltb, ℤ, length, drop, if◌then◌else◌, Option, Some, None}
 use Rattle.std.proofs.Math.IntN.{sub_ℕ}
 use Rattle.base.specs.Choose.{is_at}
 use Rattle.calendar.specs.Calendar.{last_year, valid_offset}

@@ -6,10 +6,8 @@ use mathlib.Core.List.{List, ◌∷◌, ◌++◌}
 use native.Mathlib.Omega.{arith}
 use lib.Dec.{eqb}
 use lib.ListN.{length, drop}
-use borrow.Author.Tests.{ne_eqb}
 use Rattle.base.proofs.Tests.{by_if}
 use Rattle.record.specs.Limits.{line_limit}
-use Rattle.record.specs.Refusals.{refusal_number}
 use Rattle.record.specs.declared.Refusal.{Refusal}
 use Rattle.record.specs.declared.Refusal.TheVariants.{BadSetting, OutputShort}
 use Rattle.stream.specs.declared.State.{State}
@@ -19,7 +17,7 @@ use Rattle.stream.specs.declared.Event.TheVariants.{More, Frame, Refused}
 use Rattle.stream.specs.declared.Fed.{Fed}
 use Rattle.stream.specs.declared.StreamState.{StreamState}
 use Rattle.stream.specs.declared.FeedAnswer.{FeedAnswer}
-use Rattle.stream.specs.Machine.{Says, unfinished}
+use Rattle.stream.specs.Machine.{Says}
 use Rattle.stream.specs.Feeds.{Served, short, fed}
 use Rattle.stream.specs.Numbers as N
 use Rattle.stream.specs.Numbers.{numbers_of, state_of, start_answer_of, feed_answer, feed_answer_of, Splits, no_state, splits, OneAnswer, finish_answer_of}
@@ -42,37 +40,6 @@ numbers_back (Content left n) = refl
 numbers_back (Line n) = refl
 numbers_back Ended = refl
 
-module _ (s : State) where
-  pub numbers_count : (v : ℕ) → s ≡ Count v → record { stage = 1; left = v; came = 0 } ≡ numbers_of s
-  numbers_count v e = rw e
-
-  pub numbers_content : (left n : ℕ) → s ≡ Content left n → record { stage = 2; left = left; came = n } ≡ numbers_of s
-  numbers_content left n e = rw e
-
-  pub numbers_line : (n : ℕ) → s ≡ Line n → record { stage = 3; left = 0; came = n } ≡ numbers_of s
-  numbers_line n e = rw e
-
-  pub numbers_ended : s ≡ Ended → record { stage = 4; left = 0; came = 0 } ≡ numbers_of s
-  numbers_ended e = rw e
-
-pub ruleset numbers_laws = (numbers_count, numbers_content, numbers_line, numbers_ended)
-
-module _ (x : StreamState) where
-  pub state_count : x.stage ≡ 1 → Ok (Count x.left) ≡ state_of x
-  state_count e = rw e
-
-  pub state_content : x.stage ≡ 2 → Ok (Content x.left x.came) ≡ state_of x
-  state_content e = rw e
-
-  pub state_line : x.stage ≡ 3 → Ok (Line x.came) ≡ state_of x
-  state_line e = rw e
-
-  pub state_ended : x.stage ≡ 4 → Ok Ended ≡ state_of x
-  state_ended e = rw e
-
-  pub state_none : (x.stage ≡ 1 → ⊥) → (x.stage ≡ 2 → ⊥) → (x.stage ≡ 3 → ⊥) → (x.stage ≡ 4 → ⊥) → Err BadSetting ≡ state_of x
-  state_none a b c d = rw (ne_eqb x.stage 1 a, ne_eqb x.stage 2 b, ne_eqb x.stage 3 c, ne_eqb x.stage 4 d)
-
 -- numbers that are no state are refused with 2
 pub no_other : (x : StreamState) (f : Refusal) → state_of x ≡ Err f → f ≡ BadSetting
 no_other x f =
@@ -82,44 +49,7 @@ no_other x f =
     (λ e. by_if P (eqb x.stage 3) _ _ (λ e h. never _ (Line x.came) f refl h)
     (λ e. by_if P (eqb x.stage 4) _ _ (λ e h. never _ Ended f refl h) (λ e h. cc))))
 
-pub ruleset state_laws = (state_count, state_content, state_line, state_ended, state_none)
-
--- ---- the start and the end
-
-module _ (u t : Result State Refusal) (e : t ≡ u) where
-  pub start_ready : (s : State) (x : StreamState) → t ≡ Ok s → x ≡ numbers_of s → record { number = 0; state = x } ≡ start_answer_of u
-  start_ready s x h q = rw (← e, h, q)
-
-  pub start_refused : (f : Refusal) (n : ℕ) → t ≡ Err f → n ≡ refusal_number f → record { number = n; state = record { stage = 0; left = 0; came = 0 } } ≡ start_answer_of u
-  start_refused f n h q = rw (← e, h, q)
-
-  pub finish_ready : (s : State) (n : ℕ) → t ≡ Ok s → n ≡ unfinished s → record { number = 0; unfinished = n } ≡ finish_answer_of u
-  finish_ready s n h q = rw (← e, h, q)
-
-  pub finish_refused : (f : Refusal) (n : ℕ) → t ≡ Err f → n ≡ refusal_number f → record { number = n; unfinished = 0 } ≡ finish_answer_of u
-  finish_refused f n h q = rw (← e, h, q)
-
-pub ruleset started_laws = (start_ready, start_refused)
-
-pub ruleset finished_laws = (finish_ready, finish_refused)
-
 -- ---- bytes
-
-module _ (taken : ℕ) (x : StreamState) (event : Event) where
-  pub told_more : event ≡ More → record { number = 0; frame = 0; taken = taken; len = 0; state = x } ≡ feed_answer taken x event
-  told_more e = rw e
-
-  pub told_frame : (n : ℕ) → event ≡ Frame n → record { number = 0; frame = 1; taken = taken; len = n; state = x } ≡ feed_answer taken x event
-  told_frame n e = rw e
-
-  pub told_refused : (f : Refusal) (n : ℕ) → event ≡ Refused f → n ≡ refusal_number f
-      → record { number = n; frame = 0; taken = taken; len = 0; state = x } ≡ feed_answer taken x event
-  told_refused f n e q = rw (e, q)
-
-pub ruleset told_laws = (told_more, told_frame, told_refused)
-
-pub told_fed : (r : Fed) (x : StreamState) (a : FeedAnswer) → x ≡ numbers_of r.state → a ≡ feed_answer r.taken x r.event → a ≡ feed_answer_of r
-told_fed r x a e q = q ∙ rw e
 
 module _ (x : StreamState) (bytes old : List ℕ) (t : Result State Refusal) (e : t ≡ state_of x) (a : FeedAnswer) where
   pub splits_none : (f : Refusal) → t ≡ Err f → a ≡ feed_answer 0 x (Refused f) → Splits x bytes old a old
@@ -131,9 +61,10 @@ module _ (x : StreamState) (bytes old : List ℕ) (t : Result State Refusal) (e 
     pub splits_short : length old < line_limit → a ≡ feed_answer 0 x (Refused OutputShort) → Splits x bytes old a old
     splits_short l q = N.short s (sym e ∙ h) l q refl
 
-    pub splits_fed : line_limit ≤ length old → (r : Fed) (new : List ℕ) → Served s bytes old r new → a ≡ feed_answer_of r → Splits x bytes old a new
-    splits_fed l r new (short m u v) q = absurd (omega arith)
-    splits_fed l r new (fed m f) q = splits s (sym e ∙ h) l r f q
+    pub splits_fed : line_limit ≤ length old → (r : Fed) (new : List ℕ) (y : StreamState) → Served s bytes old r new → y ≡ numbers_of r.state → a ≡ feed_answer r.taken y r.event
+        → Splits x bytes old a new
+    splits_fed l r new y (short m u v) q o = absurd (omega arith)
+    splits_fed l r new y (fed m f) q o = splits s (sym e ∙ h) l r f (o ∙ rw q)
 
 pub ruleset splits_laws = (splits_none, splits_short, splits_fed)
 

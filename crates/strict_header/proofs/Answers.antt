@@ -1,5 +1,5 @@
 -- The answers of the code and what was found.
-use Rattle.std.specs.Prelude.{◌×◌, Some, None}
+use Rattle.std.specs.Prelude.{Some, None}
 use Prim.Native.Nat.{ℕ, ◌+◌}
 use mathlib.Core.Path.{◌≡◌, refl, sym, ap, ◌∙◌}
 use mathlib.Core.Bool.{true, false}

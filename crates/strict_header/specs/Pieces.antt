@@ -1,5 +1,5 @@
 -- For private contracts alone: what the private readers of the header answer, as functions of what the parser of `grammar` finds: a number or a place for each text, and how many bytes were taken.
-use Rattle.std.specs.Prelude.{ℕ, ◌+◌, ◌-◌, ◌*◌, Bool, not, ◌&&◌, List, leb, length, ◌×◌, Some, None}
+use Rattle.std.specs.Prelude.{ℕ, ◌+◌, ◌-◌, ◌*◌, Bool, not, ◌&&◌, List, leb, length, Some, None}
 use Rattle.std.proofs.Math.Option.{Option}
 use Rattle.digits.specs.Digits.{decimal}
 use Rattle.grammar.specs.Line.{Offset, Timestamp, zero_led}

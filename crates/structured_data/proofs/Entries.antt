@@ -34,20 +34,20 @@ module _ (s : List ℕ) (e start : ℕ) (u : List ℕ) (eu : u ≡ drop start s)
   pub entry_none : g ≡ None → (b : Row) → b ≡ blank → record { row = b; next = start } ≡ entry_of e start (param_at (drop start s))
   entry_none q b eb = ap (λ (r : Row). record { row = r; next = start }) eb ∙ there None q
 
-  module _ (n v m len : ℕ) (q : g ≡ Some (record { name = n; value = v; value_len = m; len = len })) where
-    pub entry_found : record { row = record { element = e; name_start = start; name_len = n; value_start = start + v; value_len = m }; next = start + len } ≡ entry_of e start (param_at (drop start s))
-    entry_found = there (Some (record { name = n; value = v; value_len = m; len = len })) q
+  module _ (y : Param) (q : g ≡ Some y) where
+    pub entry_found : record { row = record { element = e; name_start = start; name_len = y.name; value_start = start + y.value; value_len = y.value_len }; next = start + y.len } ≡ entry_of e start (param_at (drop start s))
+    entry_found = there (Some y) q
 
     module _ (h : start ≤ length s) (l : length s < 2 ^ 64) where
-      within : (v ≤ len) × (start + len ≤ length s)
+      within : (y.value ≤ y.len) × (start + y.len ≤ length s)
       within =
-          let i = param_lies (drop start s) n v m len (sym (ap param_at (sym eu) ∙ sym eg ∙ q)) in
+          let i = param_lies (drop start s) y.name y.value y.value_len y.len (sym (ap param_at (sym eu) ∙ sym eg ∙ q)) in
           (omega (arith, i.value_inside), omega (arith, i.within_t, length-drop start s))
 
-      pub value_fits : Fits w64 (start + v)
+      pub value_fits : Fits w64 (start + y.value)
       value_fits = record { fits = omega (arith, within) }
 
-      pub behind_fits : Fits w64 (start + len)
+      pub behind_fits : Fits w64 (start + y.len)
       behind_fits = record { fits = omega (arith, within) }
 
 pub ruleset entry_laws = (entry_none, entry_found, value_fits, behind_fits)

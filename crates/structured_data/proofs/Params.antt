@@ -70,10 +70,14 @@ value_within s q end e = go (is_at s q 34) (is_at s (q + 1 + m) 34) refl refl e
 
 pub ruleset value_laws = (value_unquoted, behind_quote, quote_fits, value_fits, value_open, value_closed)
 
+-- a parameter that is there
+abbrev pub param : ℕ → ℕ → ℕ → ℕ → Option Param
+param n v m len = Some (record { name = n; value = v; value_len = m; len = len })
+
 -- A parameter of a name of `n` bytes and a value between the quotes at `q` and `end`
 param_of : ℕ → ℕ → Option ℕ → Option Param
 param_of n q None = None
-param_of n q (Some end) = Some (record { name = n; value = q + 1; value_len = end - (q + 1); len = end + 1 })
+param_of n q (Some end) = param n (q + 1) (end - (q + 1)) (end + 1)
 
 module _ (t : List ℕ) (n : ℕ) (en : n ≡ run is_named t) where
   pub param_unnamed : n ≡ 0 → None ≡ param_at t
@@ -103,11 +107,11 @@ module _ (t : List ℕ) (n : ℕ) (en : n ≡ run is_named t) where
             m : ℕ
             m = quoted_len false (drop (q + 1) t)
 
-            go : (b d : Bool) → (if b && d then Some (record { name = n; value = q + 1; value_len = m; len = q + m + 2 }) else None) ≡ param_of n q (if b && d then Some (q + 1 + m) else None)
+            go : (b d : Bool) → (if b && d then param n (q + 1) m (q + m + 2) else None) ≡ param_of n q (if b && d then Some (q + 1 + m) else None)
             go true true =
                 let l : m ≡ q + 1 + m - (q + 1) = omega arith in
                 let k : q + m + 2 ≡ q + 1 + m + 1 = omega arith in
-                ap₂ (IsParam n (q + 1)) l k
+                ap₂ (λ (j i : ℕ). param n (q + 1) j i) l k
             go true false = refl
             go false d = refl
 
@@ -117,7 +121,7 @@ module _ (t : List ℕ) (n : ℕ) (en : n ≡ run is_named t) where
           param_open h = sym (param_is ∙ ap (param_of n q) (sym eg ∙ h))
 
           module _ (end : ℕ) (h : g ≡ Some end) where
-            pub param_found : Some (record { name = n; value = q + 1; value_len = end - (q + 1); len = end + 1 }) ≡ param_at t
+            pub param_found : param n (q + 1) (end - (q + 1)) (end + 1) ≡ param_at t
             unfolding param_of
             param_found = sym (param_is ∙ ap (param_of n q) (sym eg ∙ h))
 
@@ -203,7 +207,7 @@ module _ (t : List ℕ) (n q m : ℕ) (c : Parts t n q m) where
         anew = value_anew;
       }
 
-pub param_lies : (t : List ℕ) (n v m len : ℕ) → Some (record { name = n; value = v; value_len = m; len = len }) ≡ param_at t → Lies t n v m len
+pub param_lies : (t : List ℕ) (n v m len : ℕ) → param n v m len ≡ param_at t → Lies t n v m len
 unfolding param_at
 param_lies t n v m len e = go (leb 1 n') (is_at t n' 61) (is_at t q 34) (is_at t (q + 1 + m') 34) refl refl refl refl e
   where
@@ -217,13 +221,14 @@ param_lies t n v m len e = go (leb 1 n') (is_at t n' 61) (is_at t q 34) (is_at t
     m' = quoted_len false (drop (q + 1) t)
 
     go : (a b c d : Bool) → leb 1 n' ≡ a → is_at t n' 61 ≡ b → is_at t q 34 ≡ c → is_at t (q + 1 + m') 34 ≡ d
-        → Some (record { name = n; value = v; value_len = m; len = len }) ≡ (if a && b && c && d then Some (record { name = n'; value = q + 1; value_len = m'; len = q + m' + 2 }) else None)
+        → param n v m len ≡ (if a && b && c && d then param n' (q + 1) m' (q + m' + 2) else None)
         → Lies t n v m len
     go true true true true a b c d e =
-        let p : n ≡ n' = cc in
-        let r : v ≡ q + 1 = cc in
-        let k : m ≡ m' = cc in
-        let j : len ≡ q + m' + 2 = cc in
+        let y : ◌≡◌ {A = Param} (record { name = n; value = v; value_len = m; len = len }) (record { name = n'; value = q + 1; value_len = m'; len = q + m' + 2 }) = cc in
+        let p : n ≡ n' = ap (λ (x : Param). x.name) y in
+        let r : v ≡ q + 1 = ap (λ (x : Param). x.value) y in
+        let k : m ≡ m' = ap (λ (x : Param). x.value_len) y in
+        let j : len ≡ q + m' + 2 = ap (λ (x : Param). x.len) y in
         rw (p, r, k, j) (parts_lie t n' q m' (record { name = refl; some = leb-true 1 n' a; equals = b; blanks = refl; opens = c; value = refl; closes = d }))
     go true true true false a b c d e = clash (cc)
     go true true false _ a b c d e = clash (cc)

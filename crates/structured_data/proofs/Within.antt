@@ -41,12 +41,12 @@ data_in rules s at h =
     (λ q. omega (arith, elements_within rules 0 0 at (drop at s), length-drop at s)))
 
 pub data_within : (rules : Rules) (s : List ℕ) (at : ℕ) → at ≤ length s → (g : Option Counts) → g ≡ counts_of (data_from rules s at)
-    → (e p n : ℕ) → g ≡ Some (record { elements = e; params = p; next = n }) → n ≤ length s
-data_within rules s at h g eg e p n z = go (data_from rules s at) (data_in rules s at h) (sym eg ∙ z)
+    → (c : Counts) → g ≡ Some c → c.next ≤ length s
+data_within rules s at h g eg c z = go (data_from rules s at) (data_in rules s at h) (sym eg ∙ z)
   where
-    go : (d : Data) → DataIn (length s) d → counts_of d ≡ Some (record { elements = e; params = p; next = n }) → n ≤ length s
+    go : (d : Data) → DataIn (length s) d → counts_of d ≡ Some c → c.next ≤ length s
     go no_data i q = let m : ◌≡◌ {A = ℕ} 0 1 = cc in absurd (omega arith)
-    go (is_data rows) i q = let m : rows.next ≡ n = cc in omega arith
+    go (is_data rows) i q = let m : rows.next ≡ c.next = cc in omega arith
 
 pub rows_within : (rules : Rules) (s : List ℕ) (at : ℕ) (rows : Rows) → data_from rules s at ≡ is_data rows → at ≤ length s → rows.next ≤ length s
 rows_within rules s at rows e h = rw e at (data_in rules s at h)

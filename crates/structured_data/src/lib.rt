@@ -18,7 +18,7 @@ pub enum Rules {
     Rfc5424Rules,
 }
 
-// @@Param
+// A parameter at the front of a part: the length of its name, the start and the length of its value, and the length of all.
 #[derive(Clone, Copy)]
 pub struct Param {
     pub name: usize,
@@ -37,7 +37,7 @@ struct Walk {
 // A parameter's entry, and the position after it: where it would have started, if there is none.
 #[derive(Clone, Copy)]
 struct Entry {
-    row: Option<Param>,
+    row: record::Param,
     next: usize,
 }
 
@@ -57,7 +57,7 @@ struct Turn {
     dead: usize,
 }
 
-// @@Counts
+// The counts of elements and parameters, and the position after them.
 #[derive(Clone, Copy)]
 pub struct Counts {
     pub elements: usize,
@@ -65,29 +65,18 @@ pub struct Counts {
     pub next: usize,
 }
 
+// Whether a name or an id may have the byte. Letters are asked for first.
 fn is_named(b: u8) -> bool
     ensures { result ≡ is_named b }
 {
-    !((b == b']') | (b == b'='))
+    94 <= b || (b != b']' && b != b'=')
 }
 
-// How many bytes at the front of `s` may be a name's. Letters are asked for first.
+// How many bytes at the front of `s` may be a name's.
 fn name_run(s: &[u8]) -> usize
     ensures { result ≡ run is_named s.now }
 {
-    let mut i = 0;
-    while i < s.len() {
-        let b = s[i];
-        if 94 <= b {
-            i += 1;
-        } else {
-            if !is_named(b) {
-                return i;
-            }
-            i += 1;
-        }
-    }
-    i
+    s.iter().take_while(|b| is_named(**b)).count()
 }
 
 // How many bytes of a value come before the quote that ends it: a backslash is passed with what it takes.
@@ -132,10 +121,7 @@ pub fn param_at(s: &[u8]) -> Option<Param>
     ensures { result ≡ param_at s.now }
 {
     let name = name_run(s);
-    if name == 0 {
-        return None;
-    }
-    if !base::is_at(s, name, b'=') {
+    if name == 0 || !base::is_at(s, name, b'=') {
         return None;
     }
     let quote = parsers::blanks_from(s, name + 1);
@@ -206,15 +192,7 @@ fn entry_from(s: &[u8], e: usize, start: usize) -> Entry
     requires { start ≤ length s.now }
     ensures { result ≡ entry_of e start (param_at (drop start s.now)) }
 {
-    let Some(
-        Param {
-            name,
-            value,
-            value_len,
-            len,
-        },
-    ) = param_at(base::past(s, start))
-    else {
+    let Some(param) = param_at(base::past(s, start)) else {
         return Entry {
             row: record::blank(),
             next: start,
@@ -223,17 +201,17 @@ fn entry_from(s: &[u8], e: usize, start: usize) -> Entry
     let row = record::Param {
         element: e,
         name_start: start,
-        name_len: name,
-        value_start: start + value,
-        value_len,
+        name_len: param.name,
+        value_start: start + param.value,
+        value_len: param.value_len,
     };
     Entry {
         row,
-        next: start + len,
+        next: start + param.len,
     }
 }
 
-fn row_of(entry: Entry) -> Option<Param>
+fn row_of(entry: Entry) -> record::Param
     ensures { result ≡ entry.row }
 {
     let row = entry.row;
@@ -424,7 +402,7 @@ fn turn_from(rules: Rules, s: &[u8], at: usize, id: usize, walk: Walk, dead: usi
 
 // The counts of a list that started at `at`, and ended at `next`.
 fn counts_at(at: usize, elements: usize, params: usize, next: usize) -> Option<Counts>
-    ensures { result ≡ (if eqb next at then NoData else IsData elements params next) }
+    ensures { result ≡ (if eqb next at then None else Some (record { elements = elements; params = params; next = next })) }
 {
     if next == at {
         return None;

@@ -1,5 +1,5 @@
 -- What a reader left has a cell of a tally (specs/Tallied.antt).
-use Rattle.std.specs.Prelude.{if◌then◌else◌, tt, Option, Some, None, Ok, Err}
+use Rattle.std.specs.Prelude.{if◌then◌else◌, Option, Some, None, Ok, Err}
 use Prim.Native.Nat.{ℕ, suc, ◌<◌}
 use mathlib.Core.Path.{◌≡◌, sym, ap, ◌∙◌}
 use mathlib.Core.Bool.{true}

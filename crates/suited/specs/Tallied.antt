@@ -1,6 +1,6 @@
 -- What a reader left has a cell of a tally: its facility and severity, added as they stand, are never refused with 7. To be read without its proof, which is
 -- in proofs/Tallied.antt.
-use Rattle.std.specs.Prelude.{ℕ, ◌≡◌, List, Unit, Result}
+use Rattle.std.specs.Prelude.{ℕ, ◌≡◌, List, Result}
 use Rattle.record.specs.declared.Record.{Record}
 use Rattle.tally.specs.Tally.{Tally, Adds}
 use Rattle.tally.specs.Numbers.{added_number}

@@ -1,5 +1,5 @@
 -- What a frame does to a tally, and the statements of specs/Frames.antt.
-use Rattle.std.specs.Prelude.{if◌then◌else◌, Unit, tt, Option, Result, Ok, Err}
+use Rattle.std.specs.Prelude.{if◌then◌else◌, Option, Result, Ok, Err}
 use Prim.Native.Nat.{ℕ, suc, ◌≤◌}
 use mathlib.Core.Path.{◌≡◌, refl, sym, ap, ◌∙◌}
 use mathlib.Core.Bool.{true, false}

@@ -1,5 +1,5 @@
 -- Which cell a frame raises. The statements are to be read without their proofs, which are in proofs/Counted.antt.
-use Rattle.std.specs.Prelude.{ℕ, suc, ◌≡◌, Bool, true, false, List, [], ◌∷◌, length, if◌then◌else◌, Unit, tt, Result, Ok, Err}
+use Rattle.std.specs.Prelude.{ℕ, suc, ◌≡◌, Bool, true, false, List, [], ◌∷◌, length, if◌then◌else◌, Result, Ok, Err}
 use Rattle.record.specs.declared.StrictReading.{StrictReading}
 use Rattle.grammar.specs.Reading.{StrictReads}
 use Rattle.strict.specs.Scan.{answered}

@@ -1,5 +1,5 @@
 -- Worked examples, computed from the definitions: every number of a tally from both sides.
-use Rattle.std.specs.Prelude.{tt, Some, None, Ok, Err}
+use Rattle.std.specs.Prelude.{Some, None, Ok, Err}
 use Prim.Native.Nat.{ℕ}
 use mathlib.Core.Path.{◌≡◌, refl}
 use mathlib.Core.List.{[], ◌∷◌, ◌++◌, map}

@@ -1,5 +1,5 @@
 -- Calls in numbers: on 25 rows they are additions, and they leave one result.
-use Rattle.std.specs.Prelude.{if◌then◌else◌, Unit, tt, Option, Some, None, Result, Ok, Err}
+use Rattle.std.specs.Prelude.{if◌then◌else◌, Option, Some, None, Result, Ok, Err}
 use Prim.Native.Nat.{ℕ, suc, ◌≤◌, ◌<◌}
 use mathlib.Core.Path.{◌≡◌, refl, sym, ap, subst, ◌∙◌}
 use mathlib.Core.Bool.{◌&&◌}

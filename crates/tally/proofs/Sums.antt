@@ -1,5 +1,5 @@
 -- Sums, a cell raised, and the statements of specs/Counts.antt.
-use Rattle.std.specs.Prelude.{if◌then◌else◌, Unit, tt, Option, Result, Ok, Err}
+use Rattle.std.specs.Prelude.{if◌then◌else◌, Option, Result, Ok, Err}
 use Prim.Native.Nat.{ℕ, zero, suc, ◌+◌, ◌≤◌, ◌<◌}
 use mathlib.Core.Path.{◌≡◌, refl, sym, ap, ap₂, subst, ◌∙◌}
 use mathlib.Core.Bool.{Bool, true, false, ◌&&◌}

@@ -1,5 +1,5 @@
 -- Additions one behind the other, from the empty tally: the statements, to be read without their proofs, which are in proofs/Sums.antt.
-use Rattle.std.specs.Prelude.{ℕ, suc, ◌≤◌, ◌<◌, ◌≡◌, ◌&&◌, [], eqb, length, get_or, if◌then◌else◌, Unit, tt, Option, Some, None, Result, Ok, Err}
+use Rattle.std.specs.Prelude.{ℕ, suc, ◌≤◌, ◌<◌, ◌≡◌, ◌&&◌, [], eqb, length, get_or, if◌then◌else◌, Option, Some, None, Result, Ok, Err}
 use Rattle.record.specs.declared.Refusal.{Refusal}
 use Rattle.tally.specs.Tally.{Tally, row_count, column_count, full, empty, cell, place_of, row_of, column_of, Adds, sum_of, row_sum, column_sum}
 use Rattle.tally.specs.Numbers.{place_in, AddsNumbers}

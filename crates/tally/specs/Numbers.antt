@@ -1,5 +1,5 @@
 -- Levels, answers and a tally of any number of rows, as a C caller has them.
-use Rattle.std.specs.Prelude.{ℕ, suc, ◌≡◌, Bool, ◌&&◌, eqb, ltb, length, if◌then◌else◌, Unit, tt, Some, Result, Ok, Err}
+use Rattle.std.specs.Prelude.{ℕ, suc, ◌≡◌, Bool, ◌&&◌, eqb, ltb, length, if◌then◌else◌, Some, Result, Ok, Err}
 use Rattle.record.specs.Refusals.{refusal_number}
 use Rattle.record.specs.declared.Refusal.TheVariants.{OutputShort}
 use Rattle.tally.specs.declared.CellAnswer.{CellAnswer}

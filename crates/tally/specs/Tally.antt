@@ -1,5 +1,5 @@
 -- A tally: 25 rows, of facilities 0 to 23 and of none, by 9 columns, of severities 0 to 7 and of none. A cell holds a count of 32 bits.
-use Rattle.std.specs.Prelude.{ℕ, zero, suc, ◌+◌, ◌≡◌, Bool, ◌&&◌, List, [], eqb, leb, ltb, get_or, set, replicate, if◌then◌else◌, Unit, tt, Option, Some, None, Result, Ok, Err}
+use Rattle.std.specs.Prelude.{ℕ, zero, suc, ◌+◌, ◌≡◌, Bool, ◌&&◌, List, [], eqb, leb, ltb, get_or, set, replicate, if◌then◌else◌, Option, Some, None, Result, Ok, Err}
 use Rattle.record.specs.declared.Refusal.TheVariants.{Unsuitable, CellFull}
 use Rattle.record.specs.declared.Refusal.{Refusal}
 

@@ -1,5 +1,5 @@
 -- Worked examples, computed from the definitions: timestamps that are read and printed again.
-use Rattle.std.specs.Prelude.{◌×◌, Some, None}
+use Rattle.std.specs.Prelude.{Some, None}
 use Prim.Native.Nat.{ℕ}
 use mathlib.Core.Path.{◌≡◌, refl}
 use mathlib.Core.List.{List, [], ◌∷◌, map}

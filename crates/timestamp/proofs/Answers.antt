@@ -1,6 +1,6 @@
 -- What an answered timestamp is: below a second, with digits that show it, at an offset within bounds, in a year of 0 to 9999, and the position behind it
 -- in the line.
-use Rattle.std.specs.Prelude.{◌×◌, Option, Some, None}
+use Rattle.std.specs.Prelude.{Option, Some, None}
 use Prim.Native.Nat.{ℕ, ◌+◌, ◌-◌, ◌%◌, ◌^◌, ◌≤◌}
 use mathlib.Core.Path.{◌≡◌, refl, ap}
 use mathlib.Core.List.{List}

@@ -1,5 +1,5 @@
 -- What holds of a failure, and of whatever a step's answer leads to, holds of the whole.
-use Rattle.std.specs.Prelude.{◌×◌, Option, Some, None}
+use Rattle.std.specs.Prelude.{Option, Some, None}
 use Prim.Native.Nat.{ℕ}
 use mathlib.Core.Path.{◌≡◌, refl}
 use lib.IntN.{ℤ}

@@ -1,5 +1,5 @@
 -- hour:minute:second, each of digits of any count within 32 bits.
-use Rattle.std.specs.Prelude.{ℕ, List, ◌×◌, Option, Some, None}
+use Rattle.std.specs.Prelude.{ℕ, List, Option, Some, None}
 use Rattle.parsers.specs.Steps.{number_from, byte_from, on_read, on_some}
 use Rattle.timestamp.specs.declared.Clock.{Clock}
 

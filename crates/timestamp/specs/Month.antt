@@ -1,5 +1,5 @@
 -- A month's name: three letters in any case.
-use Rattle.std.specs.Prelude.{ℕ, ◌+◌, List, [], ◌∷◌, map, eqb, take, drop, if◌then◌else◌, ◌×◌, Option, Some, None}
+use Rattle.std.specs.Prelude.{ℕ, ◌+◌, List, [], ◌∷◌, map, eqb, take, drop, if◌then◌else◌, Option, Some, None}
 use Rattle.base.specs.Choose.{within}
 use Rattle.base.specs.Texts.{same_text}
 use Rattle.base.specs.Bytes.{bytes}

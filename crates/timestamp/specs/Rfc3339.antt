@@ -1,6 +1,6 @@
 -- Form (c): one byte `-`, or the text up to the next space, which must be there: `YYYY-MM-DD`, `T` or `t`, `hh:mm:ss`, optionally `.` and
 -- 1 to 9 digits, then `Z`, `z`, or sign `hh:mm` with hh 00-23, mm 00-59. (The form holds no space, so it ends where the space is.)
-use Rattle.std.specs.Prelude.{ℕ, ◌+◌, ◌-◌, ◌*◌, List, ◌&&◌, ◌||◌, leb, drop, ℤ, pos, neg_ℤ, if◌then◌else◌, ◌×◌, Option, Some, None}
+use Rattle.std.specs.Prelude.{ℕ, ◌+◌, ◌-◌, ◌*◌, List, ◌&&◌, ◌||◌, leb, drop, ℤ, pos, neg_ℤ, if◌then◌else◌, Option, Some, None}
 use Rattle.base.specs.Choose.{is_at}
 use Rattle.digits.specs.Digits.{fixed_at, fraction_at}
 use Rattle.calendar.specs.Calendar.{valid}

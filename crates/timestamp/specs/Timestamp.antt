@@ -1,5 +1,5 @@
 -- timestamp.rs, RFC 3164: forms (a), (b) and (c) in turn.
-use Rattle.std.specs.Prelude.{ℕ, List, ◌&&◌, ℤ, pos, if◌then◌else◌, ◌×◌, Option, Some, None}
+use Rattle.std.specs.Prelude.{ℕ, List, ◌&&◌, ℤ, pos, if◌then◌else◌, Option, Some, None}
 use Rattle.calendar.specs.Calendar.{valid}
 use Rattle.calendar.specs.Instant.{seconds_of, shown, is_shown}
 use Rattle.calendar.specs.declared.DateTime.{DateTime}

@@ -1,9 +1,0 @@
-use Rattle.std.proofs.Common.{rules}
-use Rattle.stream.proofs.Numbered.{started_laws}
-use Rattle.stream.proofs.start_numbers.Goals as goal
-
-pub returns-in-Ok : goal.returns-in-Ok
-returns-in-Ok c = search (started_laws, rules)
-
-pub returns-in-Err : goal.returns-in-Err
-returns-in-Err c = search (started_laws, rules)
