@@ -268,7 +268,7 @@ fn number_of(a: Result<(), Refusal>) -> u32
 {
     match a {
         Ok(()) => 0,
-        Err(refusal) => record::refusal_number(refusal),
+        Err(refusal) => u32::from(refusal),
     }
 }
 

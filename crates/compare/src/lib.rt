@@ -150,7 +150,7 @@ fn answer_of(c: Compared) -> CompareAnswer
 {
     match c {
         Compared::Refused(line, refusal) => CompareAnswer {
-            number: record::refusal_number(refusal),
+            number: u32::from(refusal),
             line,
             fields: 0,
             pair_line: 0,

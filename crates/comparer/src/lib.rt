@@ -280,7 +280,7 @@ fn put_refused(out: &mut [u8], at: usize, line: u32, refusal: Refusal) -> usize
 {
     let a = put_name(out, at, true, b"refuse");
     let b = put_spaced(out, a, line);
-    put_spaced(out, b, record::refusal_number(refusal))
+    put_spaced(out, b, u32::from(refusal))
 }
 
 fn put_done(out: &mut [u8], at: usize, d: Differences, name: &[u8], value: &[u8]) -> usize
@@ -582,7 +582,7 @@ fn gate_of(record: &[u8; 32]) -> u32 {
 // Says why there are no settings: under 32 bytes came, or reading failed, or the record is refused.
 fn report(process: &mut Process, n: usize, refusal: Refusal) {
     if n == settings::RECORD_SIZE {
-        let number = record::refusal_number(refusal);
+        let number = u32::from(refusal);
         frames::complain(
             process,
             b"compare",

@@ -81,7 +81,7 @@ fn kept_len(crlf: bool, frame: &[u8]) -> usize
 fn refused_task(counted: bool, refusal: Refusal) -> Task
     ensures { result ≡ refused_task counted refusal }
 {
-    let n = record::refusal_number(refusal);
+    let n = u32::from(refusal);
     if n == 12 {
         if counted {
             return Task::Refuse(12);

@@ -120,7 +120,7 @@ fn answered(
                 params: p,
             },
         ) => write_counts(process, shown(e), shown(p)),
-        Err(refusal) => refused(process, frame, record::refusal_number(refusal), telling),
+        Err(refusal) => refused(process, frame, u32::from(refusal), telling),
     };
     frames::kept(s, ok)
 }

@@ -26,7 +26,7 @@ pub struct Span {
     pub len: usize,
 }
 
-#[derive(Clone, Copy)]
+#[derive(Clone, Copy, PartialEq, Eq)]
 pub enum Protocol {
     Rfc3164,
     Rfc5424(u32),
@@ -75,7 +75,7 @@ pub struct Param {
 }
 
 // Why a call is refused, in the order in which it is checked (RULES Numbers).
-#[derive(Clone, Copy)]
+#[derive(Clone, Copy, PartialEq, Eq)]
 pub enum Refusal {
     LineTooLong,
     BadSetting,
@@ -219,27 +219,29 @@ pub fn empty_strict() -> StrictRecord
 }
 
 // The number of a refusal (RULES Numbers).
-pub fn refusal_number(r: Refusal) -> u32
-    ensures { result ≡ refusal_number r }
-{
-    match r {
-        Refusal::LineTooLong => 1,
-        Refusal::BadSetting => 2,
-        Refusal::NotUtf8 => 3,
-        Refusal::NoReading => 4,
-        Refusal::TooManyElements => 5,
-        Refusal::TooManyParams => 6,
-        Refusal::Unsuitable => 7,
-        Refusal::NotFound => 9,
-        Refusal::OutputShort => 8,
-        Refusal::CellFull => 10,
-        Refusal::BadCount => 11,
-        Refusal::FrameTooLong => 12,
-        Refusal::BadLength => 13,
-        Refusal::UnknownVersion => 14,
-        Refusal::BadField => 15,
-        Refusal::WrongClaim => 16,
-        Refusal::Unwritable => 17,
+impl From<Refusal> for u32 {
+    ghost from_gives = { λ r n. n ≡ refusal_number r };
+
+    fn from(r: Refusal) -> u32 {
+        match r {
+            Refusal::LineTooLong => 1,
+            Refusal::BadSetting => 2,
+            Refusal::NotUtf8 => 3,
+            Refusal::NoReading => 4,
+            Refusal::TooManyElements => 5,
+            Refusal::TooManyParams => 6,
+            Refusal::Unsuitable => 7,
+            Refusal::NotFound => 9,
+            Refusal::OutputShort => 8,
+            Refusal::CellFull => 10,
+            Refusal::BadCount => 11,
+            Refusal::FrameTooLong => 12,
+            Refusal::BadLength => 13,
+            Refusal::UnknownVersion => 14,
+            Refusal::BadField => 15,
+            Refusal::WrongClaim => 16,
+            Refusal::Unwritable => 17,
+        }
     }
 }
 
@@ -263,7 +265,7 @@ pub fn answer_of(r: Result<Reading, Refusal>) -> Answer
             params: 0,
         },
         Err(refusal) => Answer {
-            number: refusal_number(refusal),
+            number: u32::from(refusal),
             whole: false,
             reading: empty_record(),
             elements: 0,
@@ -290,7 +292,7 @@ pub fn strict_answer_of(r: Result<StrictReading, Refusal>) -> StrictAnswer
             params,
         },
         Err(refusal) => StrictAnswer {
-            number: refusal_number(refusal),
+            number: u32::from(refusal),
             reading: empty_strict(),
             elements: 0,
             params: 0,
@@ -329,7 +331,7 @@ pub fn output_answer_of(w: Result<usize, Refusal>) -> OutputAnswer
     match w {
         Ok(len) => OutputAnswer { number: 0, len },
         Err(refusal) => OutputAnswer {
-            number: refusal_number(refusal),
+            number: u32::from(refusal),
             len: 0,
         },
     }

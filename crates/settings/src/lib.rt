@@ -392,7 +392,7 @@ fn settings_answer_of(r: Result<Settings, Refusal>) -> SettingsAnswer
     match r {
         Ok(s) => told_of(s),
         Err(f) => SettingsAnswer {
-            number: record::refusal_number(f),
+            number: u32::from(f),
             version: 0,
             gate: 0,
             year: 0,

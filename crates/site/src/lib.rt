@@ -239,7 +239,7 @@ fn site_answer_of(r: Result<SiteReading, Refusal>) -> SiteAnswer
             },
         ) => read_answer(host),
         Err(f) => SiteAnswer {
-            number: record::refusal_number(f),
+            number: u32::from(f),
             holder: 0,
             host_start: 0,
             host_len: 0,

@@ -387,7 +387,7 @@ pub fn start_numbers(kind: u32) -> StartAnswer
             state: StreamState::from(s),
         },
         Err(f) => StartAnswer {
-            number: record::refusal_number(f),
+            number: u32::from(f),
             state: StreamState {
                 stage: 0,
                 left: 0,
@@ -404,7 +404,7 @@ fn told(taken: usize, state: StreamState, event: Event) -> FeedAnswer
     let (number, frame, len) = match event {
         Event::More => (0, 0, 0),
         Event::Frame(len) => (0, 1, len),
-        Event::Refused(f) => (record::refusal_number(f), 0, 0),
+        Event::Refused(f) => (u32::from(f), 0, 0),
     };
     FeedAnswer {
         number,
@@ -441,7 +441,7 @@ pub fn finish_numbers(x: StreamState) -> FinishAnswer
             unfinished: finish(s),
         },
         Err(f) => FinishAnswer {
-            number: record::refusal_number(f),
+            number: u32::from(f),
             unfinished: 0,
         },
     }

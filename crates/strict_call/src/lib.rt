@@ -18,7 +18,7 @@ fn told(line: &[u8], refusal: Refusal) -> ReadAnswer
         _ => 0,
     };
     ReadAnswer {
-        number: record::refusal_number(refusal),
+        number: u32::from(refusal),
         whole: 0,
         reach,
     }

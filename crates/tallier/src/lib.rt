@@ -124,7 +124,7 @@ pub fn put_tally(out: &mut [u8; 8192], tally: &[[u32; 9]; 25]) -> usize
 fn said_of(process: &Process, told: Tallied) -> bool {
     match told {
         Tallied::Refused(f) => {
-            let n = record::refusal_number(f);
+            let n = u32::from(f);
             frames::complain(
                 process,
                 b"tally",

@@ -215,7 +215,7 @@ fn added_number(a: Result<(), Refusal>) -> u32
 {
     match a {
         Ok(()) => 0,
-        Err(f) => record::refusal_number(f),
+        Err(f) => u32::from(f),
     }
 }
 
@@ -225,7 +225,7 @@ fn cell_answer_of(r: Result<u32, Refusal>) -> CellAnswer
     match r {
         Ok(count) => CellAnswer { number: 0, count },
         Err(f) => CellAnswer {
-            number: record::refusal_number(f),
+            number: u32::from(f),
             count: 0,
         },
     }
@@ -237,7 +237,7 @@ fn sum_answer_of(r: Result<u64, Refusal>) -> SumAnswer
     match r {
         Ok(sum) => SumAnswer { number: 0, sum },
         Err(f) => SumAnswer {
-            number: record::refusal_number(f),
+            number: u32::from(f),
             sum: 0,
         },
     }
