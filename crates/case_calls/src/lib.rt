@@ -3,6 +3,7 @@
 
 ghost use Rattle.std.specs.Prelude.{◌≤◌, ◌<◌, length};
 
+use layout::{RECORD_SIZE, STRICT_SIZE};
 use record::{OutputAnswer, Param, Place, ReadAnswer, Record};
 
 // Variant, year and offset.
@@ -15,25 +16,25 @@ pub struct Settings {
 
 // What a reader left: whether the whole line is the message, the bytes of the record, and both tables.
 #[derive(Clone, Copy)]
-pub struct Left {
+pub struct Left<const SIZE: usize> {
     pub whole: u32,
-    memory: [u8; layout::STRICT_SIZE],
+    memory: [u8; SIZE],
     elements: [[usize; 2]; 64],
     params: [Param; 256],
 }
 
-impl Left {
-    fn new() -> Left {
+impl<const SIZE: usize> Left<SIZE> {
+    fn new() -> Left<SIZE> {
         Left {
             whole: 0,
-            memory: [0; layout::STRICT_SIZE],
+            memory: [0; SIZE],
             elements: [[0; 2]; 64],
             params: [record::blank(); 256],
         }
     }
 
     // What is left, or the number of the refusal.
-    fn told(self, a: ReadAnswer) -> Result<Left, u32> {
+    fn told(self, a: ReadAnswer) -> Result<Left<SIZE>, u32> {
         if a.number == 0 {
             Ok(Left {
                 whole: a.whole,
@@ -86,11 +87,11 @@ impl Left {
 }
 
 // A loose reading into tables of `e` and `p` entries.
-pub fn reading(line: &[u8], s: Settings, e: usize, p: usize) -> Result<Left, u32>
+pub fn reading(line: &[u8], s: Settings, e: usize, p: usize) -> Result<Left<RECORD_SIZE>, u32>
     requires elements_fit { e ≤ 64 }
     requires params_fit { p ≤ 256 }
 {
-    let mut left = Left::new();
+    let mut left = Left::<RECORD_SIZE>::new();
     let told = loose_call::khamdoriem_read_loose(
         line,
         s.variant,
@@ -98,14 +99,14 @@ pub fn reading(line: &[u8], s: Settings, e: usize, p: usize) -> Result<Left, u32
         s.offset,
         &mut left.elements[..e],
         &mut left.params[..p],
-        &mut left.memory[..layout::RECORD_SIZE],
+        &mut left.memory,
     );
     left.told(told)
 }
 
 // A strict reading.
-pub fn strict_reading(line: &[u8]) -> Result<Left, u32> {
-    let mut left = Left::new();
+pub fn strict_reading(line: &[u8]) -> Result<Left<STRICT_SIZE>, u32> {
+    let mut left = Left::<STRICT_SIZE>::new();
     let told = strict_call::khamdoriem_read_strict(
         line,
         &mut left.elements,
@@ -136,7 +137,7 @@ pub fn printing<'a>(
     let left = reading(line, s, 64, 256)?;
     let a = text_calls::khamdoriem_print(
         &line[..len],
-        &left.memory[..layout::RECORD_SIZE],
+        &left.memory,
         &left.elements,
         &left.params,
         out,
@@ -156,7 +157,7 @@ pub fn looking<'a>(
     let left = reading(line, s, 64, 256)?;
     let a = text_calls::khamdoriem_lookup(
         line,
-        &left.memory[..layout::RECORD_SIZE],
+        &left.memory,
         &left.elements,
         &left.params,
         id,

@@ -3,7 +3,7 @@ use crate::fields::{Differs, Fields, low_half, up_to};
 use case_calls::{Left, looking, printing, reading};
 
 // What a reader left: whether the whole line is the message, the record's words, and the rows of both tables.
-fn expect_left(fields: &mut Fields, left: &Left) -> Result<(), Differs> {
+fn expect_left(fields: &mut Fields, left: &Left<{ layout::RECORD_SIZE }>) -> Result<(), Differs> {
     fields.expect(u64::from(left.whole))?;
     for i in 0..layout::WORD_COUNT {
         fields.expect(left.word(i))?;

@@ -73,7 +73,7 @@ fn show_message(process: &mut Process, line: &[u8], r: &Record) {
 }
 
 // The rows of both tables.
-fn show_data(process: &mut Process, line: &[u8], left: &Left) {
+fn show_data<const SIZE: usize>(process: &mut Process, line: &[u8], left: &Left<SIZE>) {
     for [start, len] in left.elements() {
         say_text(process, b"  element ", line, *start, *len);
     }
