@@ -154,13 +154,13 @@ fn is_long(n: usize) -> bool
 }
 
 fn too_long() -> Result<(), Refusal>
-    ensures { result ≡ answer.Refused LineTooLong }
+    ensures { result ≡ Err LineTooLong }
 {
     Err(Refusal::LineTooLong)
 }
 
 fn unsuitable() -> Result<(), Refusal>
-    ensures { result ≡ answer.Refused Unsuitable }
+    ensures { result ≡ Err Unsuitable }
 {
     Err(Refusal::Unsuitable)
 }

@@ -215,9 +215,9 @@ fn stamp_stands(line: &[u8], at: usize, zone: usize, t: Timestamp) -> bool
 // The same where it is claimed to stand, with its length.
 fn stamp_holds(line: &[u8], at: usize, p: Place, t: Timestamp) -> bool
     requires line_len_bound { length line.now ≤ line_limit }
-    requires t_value { stamp_suits (stamp.Stamped t) ≡ true }
+    requires t_value { stamp_suits (Some t) ≡ true }
     requires len_in_bounds { p.start + p.len ≤ length line.now }
-    ensures { result ≡ stamp_holds line.now at p (stamp.Stamped t) }
+    ensures { result ≡ stamp_holds line.now at p (Some t) }
 {
     if 6 < t.digits {
         return false;
@@ -238,7 +238,7 @@ fn stamp_holds(line: &[u8], at: usize, p: Place, t: Timestamp) -> bool
 
 // `-` and a space, where no timestamp is claimed.
 fn no_stamp(line: &[u8], at: usize, p: Place) -> Option<usize>
-    ensures { result ≡ stamp_next line.now at p stamp.Unstamped }
+    ensures { result ≡ stamp_next line.now at p None }
 {
     if p.present {
         return None;

@@ -52,7 +52,7 @@ fn same_protocol(a: Protocol, b: Protocol) -> bool
 }
 
 fn is_unset(l: Option<u8>) -> bool
-    ensures { result ≡ same_level Unset l }
+    ensures { result ≡ same_level None l }
 {
     match l {
         None => true,
@@ -61,7 +61,7 @@ fn is_unset(l: Option<u8>) -> bool
 }
 
 fn is_set(n: u8, l: Option<u8>) -> bool
-    ensures { result ≡ same_level (Set n) l }
+    ensures { result ≡ same_level (Some n) l }
 {
     match l {
         None => false,
@@ -88,7 +88,7 @@ fn same_signed(x: i64, y: i64) -> bool
 
 // The instant and the offset; the digit count is none of it.
 fn same_time(t: Timestamp, u: Timestamp) -> bool
-    ensures { result ≡ same_time (time_of (Stamped t)) (time_of (Stamped u)) }
+    ensures { result ≡ same_time (time_of (Some t)) (time_of (Some u)) }
 {
     let instant = same_signed(t.seconds, u.seconds) & (t.nanos == u.nanos);
     let a = base::widen(t.offset);
@@ -97,7 +97,7 @@ fn same_time(t: Timestamp, u: Timestamp) -> bool
 }
 
 fn is_unstamped(s: Option<Timestamp>) -> bool
-    ensures { result ≡ same_time (time_of Unstamped) (time_of s) }
+    ensures { result ≡ same_time (time_of None) (time_of s) }
 {
     match s {
         None => true,
@@ -106,7 +106,7 @@ fn is_unstamped(s: Option<Timestamp>) -> bool
 }
 
 fn is_stamped(t: Timestamp, s: Option<Timestamp>) -> bool
-    ensures { result ≡ same_time (time_of (Stamped t)) (time_of s) }
+    ensures { result ≡ same_time (time_of (Some t)) (time_of s) }
 {
     match s {
         None => false,

@@ -2,7 +2,7 @@
 use Rattle.std.specs.Prelude.{Option, Some, None}
 use Prim.Native.Nat.{ℕ, suc, ◌+◌, ◌-◌, ◌*◌, ◌^◌, ◌≤◌, ◌<◌}
 use mathlib.Core.Path.{◌≡◌, sym, ap, ◌∙◌}
-use mathlib.Core.Bool.{Bool, true, not}
+use mathlib.Core.Bool.{true, false}
 use mathlib.Core.List.{List, [], ◌∷◌, ◌++◌}
 use native.Mathlib.Omega.{arith}
 use lib.Dec.{leb}
@@ -10,12 +10,11 @@ use lib.ListN.{length, get_or, take, drop}
 use lib.Seq.{take-add, take_at}
 use mir.Syntax.{w32}
 use mir.Val.{Fits}
-use borrow.Author.Tests.{le-leb, lt-leb, leb-true, leb-false, not-true}
+use borrow.Author.Tests.{le-leb, lt-leb, leb-true, leb-false}
 use Rattle.base.specs.Runs.{All}
 use Rattle.base.proofs.Runs.{run_le, run_yes, run_front_length, run_split, run_least, run_stop}
 use Rattle.digits.specs.Digits.{is_digit, digit_run, decimal_from, decimal, fixed_at}
 use Rattle.digits.proofs.Choices.{chosen, not_chosen}
-use Rattle.base.proofs.Tests.{told}
 use Rattle.digits.proofs.Decimals.{decimal_append, decimal_front, decimal_front_lt}
 
 pub record IsFixed (k : ℕ) (s : List ℕ) (v n : ℕ) : Type 0 where
@@ -47,8 +46,8 @@ module _ (k : ℕ) (s : List ℕ) where
   pub fixed_short : length s < k → None ≡ fixed_at k s
   fixed_short h = fixed_few (omega (arith, run_le is_digit s))
 
-  pub fixed_stop : (i : ℕ) (d : Bool) → i < k → d ≡ is_digit (get_or s i 0) → not d ≡ true → None ≡ fixed_at k s
-  fixed_stop i d h e q = fixed_few (omega (arith, run_stop is_digit s i (sym e ∙ not-true d q)))
+  pub fixed_stop : (i : ℕ) → i < k → is_digit (get_or s i 0) ≡ false → None ≡ fixed_at k s
+  fixed_stop i h e = fixed_few (omega (arith, run_stop is_digit s i e))
 
 -- digits, whatever stands after them
 pub fixed_text : (k : ℕ) (t r : List ℕ) → All is_digit t → length t ≡ k → fixed_at k (t ++ r) ≡ Some (decimal t, k)
@@ -76,16 +75,16 @@ module _ (j k : ℕ) (s : List ℕ) where
         rw (le-leb (j + k) (digit_run s) h, v)
 
 -- two digits, one byte after the other
-pub fixed_two : (s : List ℕ) (a b : ℕ) → 2 ≤ length s → is_digit (get_or s 0 0) ≡ true → is_digit (get_or s 1 0) ≡ true → a ≡ get_or s 0 0 - 48 → b ≡ get_or s 1 0 - 48
-    → Some (a * 10 + b, 2) ≡ fixed_at 2 s
+pub fixed_two : (s : List ℕ) (a b : ℕ) → 2 ≤ length s → (is_digit (get_or s 0 0) ≡ true) × (a ≡ get_or s 0 0 - 48) × (a ≤ 9)
+    → (is_digit (get_or s 1 0) ≡ true) × (b ≡ get_or s 1 0 - 48) × (b ≤ 9) → Some (a * 10 + b, 2) ≡ fixed_at 2 s
 unfolding fixed_at decimal_from
-fixed_two [] a b h p q ea eb = absurd (omega arith)
-fixed_two (x ∷ []) a b h p q ea eb = absurd (omega arith)
-fixed_two (x ∷ y ∷ s) a b h p q ea eb =
+fixed_two [] a b h p q = absurd (omega arith)
+fixed_two (x ∷ []) a b h p q = absurd (omega arith)
+fixed_two (x ∷ y ∷ s) a b h p q =
     let v : a * 10 + b ≡ (0 * 10 + (x - 48)) * 10 + (y - 48) = omega arith in
-    rw (run_yes is_digit x (y ∷ s) p, run_yes is_digit y s q, le-leb 2 (suc (suc (digit_run s))) (omega arith), v)
+    rw (run_yes is_digit x (y ∷ s) p.0, run_yes is_digit y s q.0, le-leb 2 (suc (suc (digit_run s))) (omega arith), v)
 
-pub ruleset two_laws = (fixed_short, fixed_stop, fixed_two, told)
+pub ruleset two_laws = (fixed_short, fixed_stop, fixed_two)
 
 -- four digits, two and two
 module _ (s : List ℕ) (f : Option (ℕ × ℕ)) (ef : f ≡ fixed_at 2 s) where

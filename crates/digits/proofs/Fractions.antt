@@ -1,13 +1,13 @@
--- `fractionAt`: what it answers, on which text, and a fraction in nanoseconds.
+-- `fraction_at`: what it answers, on which text, and a fraction in nanoseconds.
 use Rattle.std.specs.Prelude.{Option, Some, None}
-use Prim.Native.Nat.{ℕ, zero, suc, ◌+◌, ◌-◌, ◌*◌, ◌^◌, ◌≤◌, ◌<◌}
-use mathlib.Core.Path.{◌≡◌, refl, sym, ap, ◌∙◌}
+use Prim.Native.Nat.{ℕ, suc, ◌+◌, ◌-◌, ◌*◌, ◌^◌, ◌≤◌, ◌<◌}
+use mathlib.Core.Path.{◌≡◌, sym, ap, ◌∙◌}
 use mathlib.Core.Bool.{false, ◌&&◌, and-false}
-use mathlib.Core.List.{List, [], ◌∷◌, ◌++◌}
-use native.Mathlib.Nat.{pow-zero, one-le-pow, add-mul, mul-le-mul_right, pow-le-pow_right}
+use mathlib.Core.List.{List, ◌++◌}
+use native.Mathlib.Nat.{one-le-pow, add-mul, mul-le-mul_right, pow-le-pow_right}
 use native.Mathlib.Omega.{arith}
 use lib.Dec.{leb}
-use lib.ListN.{length, get_or, take}
+use lib.ListN.{length, take}
 use lib.Pow.{pow-add}
 use lib.Seq.{take-append_seam}
 use mir.Syntax.{w32}
@@ -21,30 +21,7 @@ use Rattle.digits.proofs.Choices.{chosen, not_chosen}
 use Rattle.digits.proofs.Decimals.{decimal_front_lt}
 use Rattle.digits.proofs.Numbers.{IsNumber, number_is}
 
--- the powers of ten from 10 ^ n down
-unfoldable powers : ℕ → List ℕ
-powers zero = 1 ∷ []
-powers (suc n) = (10 ^ suc n) ∷ powers n
-
-power_at : (n k : ℕ) → k ≤ n → get_or (powers n) k 0 ≡ 10 ^ (n - k)
-unfolding powers
-power_at zero zero h = refl
-power_at zero (suc k) h = absurd (omega arith)
-power_at (suc n) zero h = let e : suc n - 0 ≡ suc n = omega arith in rw e
-power_at (suc n) (suc k) h = let e : suc n - suc k ≡ n - k = omega arith in rw e (power_at n k (omega arith))
-
--- what a one is in the last place of a fraction
-module _ (n : ℕ) where
-  pub unit_past : 9 < n → 1 ≡ 10 ^ (9 - n)
-  unit_past h = let z : 9 - n ≡ 0 = omega arith in rw (z, pow-zero)
-
-  pub unit_at : n ≤ 9 → get_or (1000000000 ∷ 100000000 ∷ 10000000 ∷ 1000000 ∷ 100000 ∷ 10000 ∷ 1000 ∷ 100 ∷ 10 ∷ 1 ∷ []) n 0 ≡ 10 ^ (9 - n)
-  unfolding powers
-  unit_at h = power_at 9 n h
-
-pub ruleset unit_laws = (unit_past, unit_at)
-
--- as a divisor
+-- the unit of a fraction as a divisor
 pub unit_some : (n u : ℕ) → u ≡ 10 ^ (9 - n) → 0 < u
 unit_some n u e = rw e (one-le-pow (9 - n) 10 (omega arith))
 
@@ -57,15 +34,6 @@ below_second v n h =
     let q : 10 ^ n * p ≡ 10 ^ 9 = sym (pow-add 10 n (9 - n)) ∙ ap (λ (j : ℕ). 10 ^ j) k in
     let z : 1 ≤ p = one-le-pow (9 - n) 10 (omega arith) in
     omega (arith, q, add-mul 1 v p)
-
-module _ (v n : ℕ) (h : (n ≤ 9) × (v < 10 ^ n)) (u : ℕ) (e : u ≡ 10 ^ (9 - n)) where
-  pub nanos_fit : Fits w32 (v * u)
-  nanos_fit = record { fits = rw e (omega (arith, below_second v n h)) }
-
-  pub nanos_are : v * u ≡ v * 10 ^ (9 - n)
-  nanos_are = rw e
-
-pub ruleset unit_nanos_laws = (nanos_fit, nanos_are)
 
 pub record IsFraction (most : ℕ) (s : List ℕ) (v n : ℕ) : Type 0 where
   pub whole : n ≡ digit_run s
@@ -121,11 +89,14 @@ module _ (most : ℕ) (s : List ℕ) (h : most ≤ 9) (f : Option (ℕ × ℕ)) 
     fraction_many l = rw (← is.whole, lt-leb n most l, and-false)
 
     module _ (l : n ≤ most) where
-      pub fraction_small : v < 10 ^ n
+      fraction_small : v < 10 ^ n
       fraction_small = rw is.value (decimal_front_lt s n (omega (arith, is.whole)))
+
+      pub fraction_fits : (u : ℕ) → u ≡ 10 ^ (9 - n) → Fits w32 (v * u)
+      fraction_fits u e = record { fits = rw e (omega (arith, below_second v n (omega arith, fraction_small))) }
 
       pub fraction_value : (w : ℕ) → w ≡ v * 10 ^ (9 - n) → Some (w, n) ≡ fraction_at most s
       unfolding fraction_at
       fraction_value w e = rw (← is.whole, ← is.value, le-leb n most l, le-leb 1 n is.some, e)
 
-pub ruleset fraction_laws = (fraction_none, fraction_many, fraction_small, fraction_value)
+pub ruleset fraction_laws = (fraction_none, fraction_many, fraction_fits, fraction_value)

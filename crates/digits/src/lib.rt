@@ -1,45 +1,37 @@
 // ASCII digits as numbers.
 #![tactic(auto)]
 
-ghost use Rattle.std.specs.Prelude.{◌≡◌, true, ◌-◌, ◌*◌, ◌^◌, ◌≤◌, ◌<◌, leb, if◌then◌else◌};
+ghost use Rattle.std.specs.Prelude.{◌≡◌, true, false, ◌-◌, ◌^◌, ◌≤◌, leb, if◌then◌else◌, MatchOption};
 ghost use Rattle.digits.specs.Digits.{is_digit, number_at, fixed_at, fraction_at};
 
-fn is_digit(b: u8) -> bool
-    ensures { result ≡ is_digit b }
+// What a digit writes; nothing for another byte.
+fn digit(b: u8) -> Option<u32>
+    ensures { MatchOption result (is_digit b ≡ false) (λ d. (is_digit b ≡ true) × (d ≡ b - 48) × (d ≤ 9)) }
 {
-    base::in_range(b'0', b'9', b)
-}
-
-// What a digit writes.
-fn digit_value(b: u8) -> u32
-    requires { is_digit b ≡ true }
-    ensures value { result ≡ b - 48 }
-    ensures upper_bound { result ≤ 9 }
-{
-    (b - b'0') as u32
+    match b {
+        b'0'..=b'9' => Some(u32::from(b - b'0')),
+        _ => None,
+    }
 }
 
 // What `len` digits that write `value` answer.
 fn written(value: u32, len: usize) -> Option<(u32, usize)>
     ensures { result ≡ (if leb 1 len then Some (value, len) else None) }
 {
-    if len < 1 {
-        return None;
-    }
-    Some((value, len))
+    (1 <= len).then_some((value, len))
 }
 
 // All the digits at the front of `s`, one or more, as a number of at most `max`.
 pub fn digits(s: &[u8], max: u32) -> Option<(u32, usize)>
     ensures { result ≡ number_at max s.now }
 {
-    let mut value: u32 = 0;
-    for (i, &b) in s.iter().enumerate() {
-        if !is_digit(b) {
+    let mut value = 0;
+    for (i, b) in s.iter().enumerate() {
+        let Some(d) = digit(*b) else {
             return written(value, i);
-        }
-        let wide = (value as u64) * 10 + digit_value(b) as u64;
-        if (max as u64) < wide {
+        };
+        let wide = u64::from(value) * 10 + u64::from(d);
+        if u64::from(max) < wide {
             return None;
         }
         value = wide as u32;
@@ -51,10 +43,12 @@ pub fn digits(s: &[u8], max: u32) -> Option<(u32, usize)>
 pub fn two_digits(s: &[u8]) -> Option<(u32, usize)>
     ensures { result ≡ fixed_at 2 s.now }
 {
-    if s.len() < 2 || !is_digit(s[0]) || !is_digit(s[1]) {
+    let [tens, ones, ..] = s else {
         return None;
-    }
-    Some((digit_value(s[0]) * 10 + digit_value(s[1]), 2))
+    };
+    let tens = digit(*tens)?;
+    let ones = digit(*ones)?;
+    Some((tens * 10 + ones, 2))
 }
 
 // The first four bytes of `s`, likewise.
@@ -84,18 +78,7 @@ const UNITS: [u32; 10] = [
 pub fn unit(len: usize) -> u32
     ensures { result ≡ 10 ^ (9 - len) }
 {
-    if 9 < len {
-        return 1;
-    }
-    UNITS[len]
-}
-
-// The nanoseconds of a fraction whose `len` digits write `value`.
-fn nanos(value: u32, len: usize) -> u32
-    requires { (len ≤ 9) × (value < 10 ^ len) }
-    ensures { result ≡ value * 10 ^ (9 - len) }
-{
-    value * unit(len)
+    UNITS.get(len).copied().unwrap_or(1)
 }
 
 // How many digits a fraction of `len` bytes has, its point among them; one of no bytes has none.
@@ -103,10 +86,7 @@ pub fn after_point(len: usize) -> u32
     requires { len ≤ 10 }
     ensures { result ≡ len - 1 }
 {
-    if len == 0 {
-        return 0;
-    }
-    (len - 1) as u32
+    len.saturating_sub(1) as u32
 }
 
 // All the digits at the front of `s`, from 1 to `most` of them, as nanoseconds.
@@ -118,5 +98,5 @@ pub fn fraction(s: &[u8], most: usize) -> Option<(u32, usize)>
     if most < len {
         return None;
     }
-    Some((nanos(value, len), len))
+    Some((value * unit(len), len))
 }

@@ -50,7 +50,7 @@ module _ (e₀ p₀ : List (List ℕ)) where
   fails line h failed e = e
   fails line h (found d n) e = absurd (h d (parse_sound line d n e))
 
-  pub strict_outcome : {line : List ℕ} {r : (Result StrictReading Refusal)} {e₁ p₁ : List (List ℕ)} → StrictReads line e₀ p₀ r e₁ p₁
+  pub strict_outcome : {line : List ℕ} {r : Result StrictReading Refusal} {e₁ p₁ : List (List ℕ)} → StrictReads line e₀ p₀ r e₁ p₁
       → ◌≡◌ {A = Outcome} (record { reading = r; elements = e₁; params = p₁ }) (outcome line)
   unfolding outcome
   strict_outcome {line} (too_long l a b c) = rw (a, b, c, lt-leb (length line) line_limit l)
@@ -79,7 +79,7 @@ module _ (e₀ p₀ : List (List ℕ)) where
       )
 
 -- one line and one state of the tables have one result
-pub strict_determined : {line : List ℕ} {e₀ p₀ : List (List ℕ)} {r r' : (Result StrictReading Refusal)} {e₁ e₁' p₁ p₁' : List (List ℕ)}
+pub strict_determined : {line : List ℕ} {e₀ p₀ : List (List ℕ)} {r r' : Result StrictReading Refusal} {e₁ e₁' p₁ p₁' : List (List ℕ)}
     → StrictReads line e₀ p₀ r e₁ p₁ → StrictReads line e₀ p₀ r' e₁' p₁'
     → (r ≡ r') × (e₁ ≡ e₁') × (p₁ ≡ p₁')
 strict_determined {line} {e₀} {p₀} h k =

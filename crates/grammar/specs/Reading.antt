@@ -1,5 +1,6 @@
 -- What the strict reader answers to a division: the record, the counts and the rows of both tables; and the contract of a reading.
 use Rattle.std.specs.Prelude.{ℕ, ◌+◌, ◌-◌, ◌*◌, ◌/◌, ◌%◌, ◌^◌, ◌<◌, ◌≤◌, ◌≡◌, Bool, true, false, ◌&&◌, List, [], ◌∷◌, ◌++◌, length, eqb, ℤ, pos, neg_ℤ, if◌then◌else◌, Some, None, Result, Ok, Err}
+use Rattle.std.specs.Prelude as std
 use Rattle.std.proofs.Math.Option.{Option, none, some}
 use Rattle.base.specs.Choose.{is_at}
 use Rattle.base.specs.Fills.{filled}
@@ -12,9 +13,10 @@ use Rattle.record.specs.declared.Span.{Span}
 use Rattle.record.specs.declared.Protocol.TheVariants.{Rfc5424}
 use Rattle.record.specs.declared.StrictRecord.{StrictRecord}
 use Rattle.record.specs.declared.StrictReading.{StrictReading}
+use Rattle.record.specs.declared.Timestamp as stamped
+use Rattle.record.specs.declared.Refusal.{Refusal}
 use Rattle.record.specs.declared.Refusal.TheVariants.{LineTooLong, NoReading, TooManyElements, TooManyParams}
 use Rattle.grammar.specs.Line.{Param, Element, Offset, Timestamp, Division, timestamp_then, param_then, element_then, data_then, Derives}
-use Rattle.record.specs.declared.Refusal.{Refusal}
 
 -- ---- where the fields start
 
@@ -64,7 +66,7 @@ abbrev pub digits_of : Option (List ℕ) → ℕ
 digits_of none = 0
 digits_of (some f) = length f
 
-abbrev pub stamp_of : Option Timestamp → Option Timestamp
+abbrev pub stamp_of : Option Timestamp → std.Option stamped.Timestamp
 stamp_of none = None
 stamp_of (some t) =
     Some (record {

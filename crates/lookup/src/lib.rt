@@ -271,7 +271,7 @@ fn is_early(n: usize, kind: u32) -> bool
 }
 
 fn early(n: usize) -> Result<usize, Refusal>
-    ensures { result ≡ (if ltb line_limit n then Refused LineTooLong else Refused BadSetting) }
+    ensures { result ≡ (if ltb line_limit n then Err LineTooLong else Err BadSetting) }
 {
     if record::LINE_LIMIT < n {
         return Err(Refusal::LineTooLong);

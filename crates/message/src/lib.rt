@@ -97,7 +97,7 @@ fn rest_fits(
 
 // All of `n` bytes.
 fn room_of(n: usize) -> Option<usize>
-    ensures { result ≡ Left n }
+    ensures { result ≡ Some n }
 {
     Some(n)
 }
@@ -199,19 +199,19 @@ fn is_long(n: usize) -> bool
 }
 
 fn too_long() -> Result<usize, Refusal>
-    ensures { result ≡ Refused LineTooLong }
+    ensures { result ≡ Err LineTooLong }
 {
     Err(Refusal::LineTooLong)
 }
 
 fn short() -> Result<usize, Refusal>
-    ensures { result ≡ Refused OutputShort }
+    ensures { result ≡ Err OutputShort }
 {
     Err(Refusal::OutputShort)
 }
 
 fn done(n: usize) -> Result<usize, Refusal>
-    ensures { result ≡ Done n }
+    ensures { result ≡ Ok n }
 {
     Ok(n)
 }

@@ -97,8 +97,8 @@ fn put_offset(out: &mut [u8], at: usize, t: Timestamp) -> usize
 }
 
 fn put_shown(out: &mut [u8], at: usize, clock: DateTime, t: Timestamp) -> usize
-    requires { Fits out.old at (shown_text t (At clock)) }
-    ensures { Wrote out.old at (shown_text t (At clock)) result out.new }
+    requires { Fits out.old at (shown_text t (Some clock)) }
+    ensures { Wrote out.old at (shown_text t (Some clock)) result out.new }
 {
     let a = put_clock(out, at, clock);
     let b = put_fraction(out, a, t.digits, t.nanos);

@@ -1,13 +1,11 @@
 -- Fields placed in the line: that they lie in it, and so do the positions behind them.
-use Rattle.std.specs.Prelude.{Option, Some, None}
+use Rattle.std.specs.Prelude.{Option, Some}
 use Prim.Native.Nat.{ℕ, ◌+◌, ◌^◌, ◌≤◌, ◌<◌}
 use mathlib.Core.Path.{◌≡◌, sym, ◌∙◌}
 use mathlib.Core.List.{List}
 use native.Mathlib.Omega.{arith}
 use lib.ListN.{length, drop, length-drop}
-use mir.Syntax.{w64}
-use mir.Val.{Fits}
-use Rattle.record.specs.Places.{absent, place}
+use Rattle.base.proofs.Pairs.{some_first, some_second}
 use Rattle.record.specs.declared.Place.{Place}
 use Rattle.parsers.specs.Parsers.{plain_at, host_at, tag_at}
 use Rattle.parsers.specs.Passed.{text_passed}
@@ -15,26 +13,6 @@ use Rattle.parsers.specs.Steps.{placed, plain_from, host_from, tag_from}
 use Rattle.parsers.specs.declared.Text.{Text}
 use Rattle.parsers.specs.declared.Text.TheVariants.{Fails, Absent, Given}
 use Rattle.parsers.proofs.Texts.{TextIn, plain_in, host_in, tag_in}
-
-module _ (at : ℕ) (t : Text) where
-  pub placed_no : t ≡ Fails → None ≡ placed at t
-  placed_no z = rw z
-
-  module _ (n : ℕ) (z : t ≡ Absent n) where
-    pub placed_absent : (p : Place) → p ≡ absent → Some (p, at + n) ≡ placed at t
-    placed_absent p e = rw (z, e)
-
-    pub absent_fits : at + text_passed t < 2 ^ 64 → Fits w64 (at + n)
-    absent_fits h = record { fits = rw z at h }
-
-  module _ (k n : ℕ) (z : t ≡ Given k n) where
-    pub placed_given : (p : Place) → p ≡ place at k → Some (p, at + n) ≡ placed at t
-    placed_given p e = rw (z, e)
-
-    pub given_fits : at + text_passed t < 2 ^ 64 → Fits w64 (at + n)
-    given_fits h = record { fits = rw z at h }
-
-pub ruleset placed_laws = (placed_no, placed_absent, absent_fits, placed_given, given_fits)
 
 -- A field of a line of `n` bytes: its text ends at the position behind it or before, and that lies in the line.
 pub record FieldIn (n : ℕ) (p : Place) (next : ℕ) : Type 0 where
@@ -54,14 +32,12 @@ module _ (read : List ℕ → Text) (read-in : (s : List ℕ) → TextIn (length
   text_place_lem : (p : Place) (n : ℕ) → placed at (read (drop at s)) ≡ Some (p, n) → FieldIn (length s) p n
   text_place_lem p n z = go (read (drop at s)) (read-in (drop at s)) z
     where
-      at_field : (q : Place) (m : ℕ) → Some (q, m) ≡ Some (p, n) → q.start + q.len ≤ m → m ≤ length s → FieldIn (length s) p n
+      at_field : (q : Place) (m : ℕ) → ◌≡◌ {A = Option (Place × ℕ)} (Some (q, m)) (Some (p, n)) → q.start + q.len ≤ m → m ≤ length s → FieldIn (length s) p n
       at_field q m z a b =
-          let ep : q ≡ p = cc in
-          let en : m ≡ n = cc in
-          rw (← ep, ← en) (record { ends = a; within_line = b })
+          rw (← some_first z, ← some_second z) (record { ends = a; within_line = b })
 
       go : (t : Text) → TextIn (length (drop at s)) t → placed at t ≡ Some (p, n) → FieldIn (length s) p n
-      go Fails i z = let m : ◌≡◌ {A = ℕ} 0 1 = cc in absurd (omega arith)
+      go Fails i z = cc
       go (Absent k) i z = at_field _ _ z (omega arith) (omega (arith, length-drop at s))
       go (Given k m) i z = at_field _ _ z (omega arith) (omega (arith, length-drop at s))
 

@@ -3,16 +3,14 @@ use Rattle.std.specs.Prelude.{if◌then◌else◌, Option, Some, None}
 use Prim.Native.Nat.{ℕ, zero, suc, ◌+◌, ◌^◌, ◌≤◌, ◌<◌}
 use mathlib.Core.Path.{◌≡◌, refl, sym, ap, ◌∙◌}
 use mathlib.Core.List.{List, [], ◌∷◌}
-use mathlib.Core.Bool.{Bool, true, false, not}
+use mathlib.Core.Bool.{Bool, true, false}
 use native.Mathlib.Omega.{arith}
 use lib.ListN.{length, get_or, drop, length-drop}
-use borrow.Author.Tests.{not-true, not-false}
-use mir.Syntax.{w64}
-use mir.Val.{Fits}
 use Rattle.base.specs.Choose.{is_at}
 use Rattle.base.specs.Runs.{run}
 use Rattle.base.proofs.Tests.{clash, by_if}
 use Rattle.base.proofs.Parts.{ended, at_below}
+use Rattle.base.proofs.Pairs.{some_second}
 use Rattle.base.proofs.Runs.{run_le, run_none, run_yes, run_no}
 use Rattle.digits.specs.Digits.{number_at}
 use Rattle.digits.proofs.Numbers.{number_len}
@@ -28,43 +26,15 @@ module _ (s : List ℕ) (at b : ℕ) (p : 0 < b) where
       go zero p h = absurd (omega arith)
       go (suc b) p h = at_below s at b h
 
-  module _ (t : Bool) (e : t ≡ is_at s at b) where
-    pub byte_no : not t ≡ true → None ≡ byte_from s at b
-    unfolding byte_from
-    byte_no h = rw (← e, not-true t h)
-
-    module _ (h : not t ≡ false) where
-      pub byte_yes : Some (at + 1) ≡ byte_from s at b
-      unfolding byte_from
-      byte_yes = rw (← e, not-false t h)
-
-      pub byte_fits : length s < 2 ^ 64 → Fits w64 (at + 1)
-      byte_fits l = record { fits = omega (arith, at_there (sym e ∙ not-false t h)) }
-
   pub byte_within : (g : Option ℕ) → g ≡ byte_from s at b → (n : ℕ) → g ≡ Some n → n ≤ length s
   unfolding byte_from
   byte_within g e n z = go (is_at s at b) refl (sym e ∙ z)
     where
       go : (t : Bool) → is_at s at b ≡ t → (if t then Some (at + 1) else None) ≡ Some n → n ≤ length s
       go true h q = let m : at + 1 ≡ n = cc in omega (arith, at_there h)
-      go false h q = let m : ◌≡◌ {A = ℕ} 0 1 = cc in absurd (omega arith)
-
-pub ruleset byte_laws = (byte_no, byte_yes, byte_fits)
+      go false h q = cc
 
 -- An optional `:`
-module _ (s : List ℕ) (at : ℕ) (t : Bool) (e : t ≡ is_at s at 58) where
-  module _ (h : t ≡ true) where
-    pub colon_yes : at + 1 ≡ colon_from s at
-    colon_yes = rw (← e, h)
-
-    pub colon_fits : length s < 2 ^ 64 → Fits w64 (at + 1)
-    colon_fits l = record { fits = omega (arith, at_there s at 58 (omega arith) (sym e ∙ h)) }
-
-  pub colon_no : t ≡ false → at ≡ colon_from s at
-  colon_no h = rw (← e, h)
-
-pub ruleset colon_laws = (colon_yes, colon_fits, colon_no)
-
 pub colon_within : (s : List ℕ) (at : ℕ) → at ≤ length s → colon_from s at ≤ length s
 colon_within s at h = by_if (λ n. n ≤ length s) (is_at s at 58) _ _ (λ t. let l = at_there s at 58 (omega arith) t in omega arith) (λ t. h)
 
@@ -93,11 +63,11 @@ module _ (s : List ℕ) (at : ℕ) where
   module _ (n : ℕ) (e : n ≡ blanks_from s at) where
     pub some_no : n ≡ at → None ≡ some_blanks_from s at
     unfolding some_blanks_from
-    some_no z = by_if (λ g. None ≡ g) (is_blank (get_or s at 0)) _ _ (λ h. absurd (omega (arith, (blank_some h).1))) (λ h. refl)
+    some_no z = by_if {A = Option ℕ} (λ g. None ≡ g) (is_blank (get_or s at 0)) _ _ (λ h. absurd (omega (arith, (blank_some h).1))) (λ h. refl)
 
     pub some_yes : (n ≡ at → ⊥) → Some n ≡ some_blanks_from s at
     unfolding some_blanks_from
-    some_yes z = by_if (λ g. Some n ≡ g) (is_blank (get_or s at 0)) _ _ (λ h. ap Some e) (λ h. absurd (z (e ∙ blank_none h)))
+    some_yes z = by_if {A = Option ℕ} (λ g. Some n ≡ g) (is_blank (get_or s at 0)) _ _ (λ h. ap Some e) (λ h. absurd (z (e ∙ blank_none h)))
 
   pub some_within : (g : Option ℕ) → g ≡ some_blanks_from s at → (n : ℕ) → g ≡ Some n → n ≤ length s
   unfolding some_blanks_from
@@ -108,7 +78,7 @@ module _ (s : List ℕ) (at : ℕ) where
           let m : blanks_from s at ≡ n = cc in
           let l = (blank_some h).0 in
           blanks_within s at n (sym m) (omega arith)
-      go false h q = let m : ◌≡◌ {A = ℕ} 0 1 = cc in absurd (omega arith)
+      go false h q = cc
 
 pub ruleset some_laws = (some_no, some_yes)
 
@@ -120,19 +90,6 @@ NumberIn n (Some x) = (1 ≤ x.1) × (x.1 ≤ n)
 pub number_in : (n : ℕ) (r : Option (ℕ × ℕ)) → ((v m : ℕ) → r ≡ Some (v, m) → (1 ≤ m) × (m ≤ n)) → NumberIn n r
 number_in n None h = tt
 number_in n (Some x) h = h x.0 x.1 refl
-
-module _ (at : ℕ) (r : Option (ℕ × ℕ)) where
-  pub moved_no : r ≡ None → None ≡ moved at r
-  moved_no z = rw z
-
-  module _ (v n : ℕ) (z : r ≡ Some (v, n)) where
-    pub moved_yes : Some (v, at + n) ≡ moved at r
-    moved_yes = rw z
-
-    pub moved_fits : at + digits_passed r < 2 ^ 64 → Fits w64 (at + n)
-    moved_fits h = record { fits = rw z at h }
-
-pub ruleset moved_laws = (moved_no, moved_yes, moved_fits)
 
 -- whatever is read at `at`
 module _ (read : List ℕ → Option (ℕ × ℕ)) (read-in : (s : List ℕ) → NumberIn (length s) (read s)) (s : List ℕ) (at : ℕ) where
@@ -147,8 +104,8 @@ module _ (read : List ℕ → Option (ℕ × ℕ)) (read-in : (s : List ℕ) →
   digits_within v n z = go (read (drop at s)) (read-in (drop at s)) z
     where
       go : (r : Option (ℕ × ℕ)) → NumberIn (length (drop at s)) r → moved at r ≡ Some (v, n) → n ≤ length s
-      go None i z = let m : ◌≡◌ {A = ℕ} 0 1 = cc in absurd (omega arith)
-      go (Some x) i z = let m : at + x.1 ≡ n = cc in omega (arith, length-drop at s)
+      go None i z = cc
+      go (Some x) i z = omega (arith, some_second z, length-drop at s)
 
 -- A number within 32 bits
 number_there : (s : List ℕ) → NumberIn (length s) (number_at 4294967295 s)

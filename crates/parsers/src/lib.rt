@@ -30,74 +30,59 @@ fn or_absent(s: &[u8], n: usize) -> Text
     ensures { result ≡ or_absent s.now n }
 {
     if is_alone(s, n, b'-') {
-        return Text::Absent(n);
+        Text::Absent(n)
+    } else {
+        Text::Given(n, n)
     }
-    Text::Given(n, n)
 }
 
 // App name, process id, message id.
+#[tactic(auto, unfolding(crate::specs::Parsers::plain_at))]
 pub fn plain_at(s: &[u8]) -> Text
     ensures { result ≡ plain_at s.now }
 {
     let n = white::field_len(s);
-    if n == 0 {
-        return Text::Fails;
+    if n == 0 || is_alone(s, n, b':') {
+        Text::Fails
+    } else {
+        or_absent(s, n)
     }
-    if is_alone(s, n, b':') {
-        return Text::Fails;
-    }
-    or_absent(s, n)
 }
 
 // A host that ends in `:` gives the text before it; the colon is not consumed.
+#[tactic(auto, unfolding(crate::specs::Parsers::host_at))]
 pub fn host_at(s: &[u8]) -> Text
     ensures { result ≡ host_at s.now }
 {
     let n = white::field_len(s);
-    if n == 0 {
-        return Text::Fails;
+    if n == 0 || is_alone(s, n, b':') {
+        Text::Fails
+    } else if base::is_at(s, n - 1, b':') {
+        Text::Given(n - 1, n - 1)
+    } else {
+        or_absent(s, n)
     }
-    if is_alone(s, n, b':') {
-        return Text::Fails;
-    }
-    let last = n - 1;
-    if base::is_at(s, last, b':') {
-        return Text::Given(last, last);
-    }
-    or_absent(s, n)
 }
 
 // How many bytes of `s` come before its first white character or `:`. ASCII above the space is not asked for white.
+#[tactic(auto, using(crate::proofs::Texts::walk_laws))]
 pub fn tag_len(s: &[u8]) -> usize
     ensures { result ≡ tag_len s.now }
 {
-    let mut i = 0;
-    while i < s.len() {
-        let b = s[i];
-        if b == b':' {
+    for (i, b) in s.iter().enumerate() {
+        if *b == b':' || !base::in_range(33, 127, *b) && white::white_len(base::past(s, i)) != 0 {
             return i;
         }
-        if (33 <= b) & (b <= 127) {
-            i += 1;
-        } else {
-            let w = white::white_len(base::past(s, i));
-            if w != 0 {
-                return i;
-            }
-            i += 1;
-        }
     }
-    i
+    s.len()
 }
 
+#[tactic(auto, unfolding(crate::specs::Parsers::tag_at))]
 pub fn tag_at(s: &[u8]) -> Text
     ensures { result ≡ tag_at s.now }
 {
     let n = tag_len(s);
-    if n == 0 {
-        return Text::Fails;
-    }
-    or_absent(s, n)
+    if n == 0 { Text::Fails } else { or_absent(s, n) }
 }
 
 fn is_blank(b: u8) -> bool
@@ -111,67 +96,44 @@ pub fn blanks_from(s: &[u8], at: usize) -> usize
     requires { at ≤ length s.now }
     ensures { result ≡ blanks_from s.now at }
 {
-    let mut i = at;
-    while i < s.len() {
-        if !is_blank(s[i]) {
-            return i;
-        }
-        i += 1;
-    }
-    i
+    at + s[at..].iter().take_while(|b| is_blank(**b)).count()
 }
 
 // The same, where there is at least one.
+#[tactic(auto, using(crate::proofs::Steps::some_laws))]
 pub fn some_blanks_from(s: &[u8], at: usize) -> Option<usize>
     requires { at ≤ length s.now }
     ensures { result ≡ some_blanks_from s.now at }
 {
     let next = blanks_from(s, at);
-    if next == at {
-        return None;
-    }
-    Some(next)
+    if next == at { None } else { Some(next) }
 }
 
 // The position after the byte `b`.
+#[tactic(auto, unfolding(crate::specs::Steps::byte_from))]
 pub fn byte_from(s: &[u8], at: usize, b: u8) -> Option<usize>
     requires { 0 < b }
     ensures { result ≡ byte_from s.now at b }
 {
-    if !base::is_at(s, at, b) {
-        return None;
+    if base::is_at(s, at, b) {
+        Some(at + 1)
+    } else {
+        None
     }
-    Some(at + 1)
 }
 
 // The position after an optional `:`.
 pub fn colon_from(s: &[u8], at: usize) -> usize
     ensures { result ≡ colon_from s.now at }
 {
-    if base::is_at(s, at, b':') {
-        return at + 1;
-    }
-    at
-}
-
-fn is_inside(b: u8) -> bool
-    ensures { result ≡ is_inside b }
-{
-    b != b']'
+    if base::is_at(s, at, b':') { at + 1 } else { at }
 }
 
 // How many bytes of `s` come before its first `]`.
 pub fn inside_run(s: &[u8]) -> usize
     ensures { result ≡ run is_inside s.now }
 {
-    let mut i = 0;
-    while i < s.len() {
-        if !is_inside(s[i]) {
-            return i;
-        }
-        i += 1;
-    }
-    i
+    s.iter().take_while(|b| **b != b']').count()
 }
 
 // Digits that were read at `at`, as a number and the position after it.
@@ -179,13 +141,12 @@ pub fn moved(at: usize, n: Option<(u32, usize)>) -> Option<(u32, usize)>
     requires { at + digits_passed n < 2 ^ 64 }
     ensures { result ≡ moved at n }
 {
-    match n {
-        None => None,
-        Some((value, len)) => Some((value, at + len)),
-    }
+    let (value, len) = n?;
+    Some((value, at + len))
 }
 
 // The digits at `at`, as a number within 32 bits.
+#[tactic(auto, using(crate::proofs::Steps::number_laws))]
 pub fn number_from(s: &[u8], at: usize) -> Option<(u32, usize)>
     requires { at ≤ length s.now }
     ensures { result ≡ number_from s.now at }
@@ -205,6 +166,7 @@ fn placed(at: usize, t: Text) -> Option<(Place, usize)>
     }
 }
 
+#[tactic(auto, using(crate::proofs::Fields::field_laws))]
 pub fn plain_from(s: &[u8], at: usize) -> Option<(Place, usize)>
     requires { at ≤ length s.now }
     ensures { result ≡ plain_from s.now at }
@@ -212,6 +174,7 @@ pub fn plain_from(s: &[u8], at: usize) -> Option<(Place, usize)>
     placed(at, plain_at(base::past(s, at)))
 }
 
+#[tactic(auto, using(crate::proofs::Fields::field_laws))]
 pub fn host_from(s: &[u8], at: usize) -> Option<(Place, usize)>
     requires { at ≤ length s.now }
     ensures { result ≡ host_from s.now at }
@@ -219,6 +182,7 @@ pub fn host_from(s: &[u8], at: usize) -> Option<(Place, usize)>
     placed(at, host_at(base::past(s, at)))
 }
 
+#[tactic(auto, using(crate::proofs::Fields::field_laws))]
 pub fn tag_from(s: &[u8], at: usize) -> Option<(Place, usize)>
     requires { at ≤ length s.now }
     ensures { result ≡ tag_from s.now at }

@@ -164,7 +164,7 @@ unread : {A : Type 0} {s : Settings} {f : Refusal} → Ok s ≡ Err f → A
 unfolding is_read
 unread e = clash (ap is_read e)
 
-same_settings : {s s' : Settings} → Ok s ≡ Ok s' → s ≡ s'
+same_settings : {s s' : Settings} → ◌≡◌ {A = Result Settings Refusal} (Ok s) (Ok s') → s ≡ s'
 unfolding inside_of
 same_settings e = ap inside_of e
 

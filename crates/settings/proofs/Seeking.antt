@@ -1,5 +1,5 @@
 -- The walk from the end to the last record of a gate, and what is then answered.
-use Rattle.std.specs.Prelude.{Result, Err}
+use Rattle.std.specs.Prelude.{Option, Some, None, Result, Err}
 use Prim.Native.Nat.{ℕ, ◌+◌, ◌-◌, ◌*◌, ◌/◌, ◌%◌, ◌^◌, ◌≤◌, ◌<◌}
 use mathlib.Core.Path.{◌≡◌, refl, sym, ap, ◌∙◌}
 use mathlib.Core.List.{List}
@@ -11,8 +11,6 @@ use mir.Syntax.{w64}
 use mir.Val.{Fits}
 use Rattle.base.proofs.Texts.{part_text_lem}
 use Rattle.record.specs.declared.Refusal.TheVariants.{NotFound, BadLength}
-use Rattle.settings.specs.declared.Found.{Found}
-use Rattle.settings.specs.declared.Found.TheVariants.{Nowhere, At}
 use Rattle.settings.specs.File.{IsWhole, record_count, record_at, gate_of, Chosen, Reads}
 use Rattle.settings.specs.File.Reads.{bad_length, no_record, unknown_version, bad_field, taken}
 use Rattle.settings.specs.Steps.{pair_number, PairAt, Seeks, Takes}
@@ -39,7 +37,7 @@ module _ (gate : ℕ) (file : List ℕ) where
   pub sought_start : IsWhole file → Sought gate file (length file / 32)
   sought_start h = record { whole = h; inside = omega arith; none_behind = λ k l m e. omega arith }
 
-  pub sought_none : (i : ℕ) → Sought gate file i → i ≤ 0 → Seeks gate file Nowhere
+  pub sought_none : (i : ℕ) → Sought gate file i → i ≤ 0 → Seeks gate file None
   sought_none i w z = record { is = record { whole = w.whole; none = λ k l. w.none_behind k (omega arith) l } }
 
   module _ (i : ℕ) (w : Sought gate file i) (p : 0 < i) where
@@ -47,7 +45,7 @@ module _ (gate : ℕ) (file : List ℕ) where
     sought_inside = omega (arith, w.inside)
 
     module _ (n : ℕ) (q : PairAt file ((i - 1) * 32 + 6) n) where
-      pub sought_at : n ≡ gate → Seeks gate file (At (i - 1))
+      pub sought_at : n ≡ gate → Seeks gate file (Some (i - 1))
       sought_at e =
           record {
             is = record {
@@ -79,10 +77,10 @@ pub ruleset sought_laws = (sought_start, sought_none, sought_inside, sought_at, 
 pub read_length : (greatest : ℕ) (file : List ℕ) (gate : ℕ) → (length file % 32 ≡ 0 → ⊥) → Reads greatest file gate (Err BadLength)
 read_length greatest file gate h = bad_length h refl
 
-pub read_none : (greatest : ℕ) (file : List ℕ) (gate : ℕ) (f : Found) → Seeks gate file f → f ≡ Nowhere → Reads greatest file gate (Err NotFound)
+pub read_none : (greatest : ℕ) (file : List ℕ) (gate : ℕ) (f : Option ℕ) → Seeks gate file f → f ≡ None → Reads greatest file gate (Err NotFound)
 read_none greatest file gate f w e = no_record (rw e at w.is) refl
 
-module _ (greatest : ℕ) (file : List ℕ) (gate : ℕ) (f : Found) (w : Seeks gate file f) (i : ℕ) (e : f ≡ At i) where
+module _ (greatest : ℕ) (file : List ℕ) (gate : ℕ) (f : Option ℕ) (w : Seeks gate file f) (i : ℕ) (e : f ≡ Some i) where
   chosen : Chosen gate file i
   chosen = rw e at w.is
 

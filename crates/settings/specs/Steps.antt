@@ -1,9 +1,7 @@
 -- For private contracts alone: a record by its fields and by its pieces, and the steps of a reader.
-use Rattle.std.specs.Prelude.{ℕ, ◌+◌, ◌-◌, ◌*◌, ◌/◌, ◌%◌, ◌<◌, ◌≡◌, Bool, true, false, ◌&&◌, List, [], ◌∷◌, ◌++◌, ltb, ℤ, pos, negsuc, length, get_or, replicate, if◌then◌else◌, Result, Ok, Err}
+use Rattle.std.specs.Prelude.{ℕ, ◌+◌, ◌-◌, ◌*◌, ◌/◌, ◌%◌, ◌<◌, ◌≡◌, Bool, true, false, ◌&&◌, List, [], ◌∷◌, ◌++◌, ltb, ℤ, pos, negsuc, length, get_or, replicate, if◌then◌else◌, Option, Some, None, Result, Ok, Err}
 use Rattle.base.specs.Texts.{text_at}
 use Rattle.record.specs.declared.Refusal.TheVariants.{UnknownVersion, BadField}
-use Rattle.settings.specs.declared.Found.{Found}
-use Rattle.settings.specs.declared.Found.TheVariants.{Nowhere, At}
 use Rattle.settings.specs.declared.Settings.{Settings}
 use Rattle.settings.specs.Record.{Meaning, meant, is_version, host_room, all_within, in_range, pair, Holds}
 use Rattle.settings.specs.File.{version_of, NoneOf, Chosen, host_place, settings_of}
@@ -58,11 +56,11 @@ sound bytes s =
 -- ---- the steps of a reader
 
 -- the last record of a gate
-abbrev pub SoughtAs : ℕ → List ℕ → Found → Type 0
-SoughtAs gate file Nowhere = NoneOf gate file
-SoughtAs gate file (At i) = Chosen gate file i
+abbrev pub SoughtAs : ℕ → List ℕ → Option ℕ → Type 0
+SoughtAs gate file None = NoneOf gate file
+SoughtAs gate file (Some i) = Chosen gate file i
 
-pub record Seeks (gate : ℕ) (file : List ℕ) (f : Found) : Type 0 where
+pub record Seeks (gate : ℕ) (file : List ℕ) (f : Option ℕ) : Type 0 where
   pub is : SoughtAs gate file f
 
 -- what is answered of the chosen record

@@ -256,7 +256,7 @@ fn ending(s: &[u8]) -> EndingAt
 
 fn stamp(local: DateTime, nanos: u32, digits: u32, offset: i32) -> Option<Timestamp>
     requires { valid local ≡ true }
-    ensures { result ≡ Stamp.Stamped (record { seconds = seconds_of local offset; nanos = nanos; digits = digits; offset = offset }) }
+    ensures { result ≡ Some (record { seconds = seconds_of local offset; nanos = nanos; digits = digits; offset = offset }) }
 {
     Some(Timestamp {
         seconds: calendar::seconds_of(local, offset),

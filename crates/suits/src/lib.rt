@@ -43,7 +43,7 @@ fn fraction_suits(nanos: u32, digits: u32) -> bool
 }
 
 fn time_suits(t: Timestamp) -> bool
-    ensures { result ≡ stamp_suits (stamp.Stamped t) }
+    ensures { result ≡ stamp_suits (Some t) }
 {
     if !fraction_suits(t.nanos, t.digits) {
         return false;
@@ -211,7 +211,7 @@ pub fn is_suitable(
 
 // The answer where they do not suit, for callers that name the table and so only call.
 pub fn unsuitable() -> Result<usize, Refusal>
-    ensures { result ≡ Refused Unsuitable }
+    ensures { result ≡ Err Unsuitable }
 {
     Err(Refusal::Unsuitable)
 }

@@ -24,11 +24,11 @@ severities = refl
 -- ---- additions
 
 -- to the cells of row 24 and of column 8, and to none behind them
-corners : map (λ (i : ℕ). addition empty i 8) (0 ∷ 23 ∷ 24 ∷ 25 ∷ []) ≡ Ok tt ∷ Ok tt ∷ Ok tt ∷ Err Unsuitable ∷ []
+corners : map (λ (i : ℕ). addition empty i 8) (0 ∷ 23 ∷ 24 ∷ 25 ∷ []) ≡ (Ok tt) ∷ (Ok tt) ∷ (Ok tt) ∷ Err Unsuitable ∷ []
 unfolding addition
 corners = refl
 
-edges : map (λ (j : ℕ). addition empty 24 j) (0 ∷ 7 ∷ 8 ∷ 9 ∷ []) ≡ Ok tt ∷ Ok tt ∷ Ok tt ∷ Err Unsuitable ∷ []
+edges : map (λ (j : ℕ). addition empty 24 j) (0 ∷ 7 ∷ 8 ∷ 9 ∷ []) ≡ (Ok tt) ∷ (Ok tt) ∷ (Ok tt) ∷ Err Unsuitable ∷ []
 unfolding addition
 edges = refl
 
@@ -37,18 +37,18 @@ abbrev last : ℕ → Tally
 last n = set empty 24 (set (replicate 9 0) 8 n)
 
 -- 4,294,967,294 has room for one more, 4,294,967,295 has not
-limit : map (λ (n : ℕ). addition (last n) 24 8) (0 ∷ 4294967294 ∷ 4294967295 ∷ []) ≡ Ok tt ∷ Ok tt ∷ Err CellFull ∷ []
+limit : map (λ (n : ℕ). addition (last n) 24 8) (0 ∷ 4294967294 ∷ 4294967295 ∷ []) ≡ (Ok tt) ∷ (Ok tt) ∷ Err CellFull ∷ []
 unfolding addition
 limit = refl
 
 -- the cell beside a full one has room
-beside : (addition (last 4294967295) 24 7 ≡ Ok tt) × (addition (last 4294967295) 23 8 ≡ Ok tt)
+beside : (addition (last 4294967295) 24 7 ≡ (Ok tt)) × (addition (last 4294967295) 23 8 ≡ (Ok tt))
 unfolding addition
 beside = (refl, refl)
 
 -- one cell is raised, in its row and in its column; a refused addition changes nothing
-afters : (after Ok tt (last 4294967294) 24 8 ≡ last 4294967295)
-    × (after Ok tt empty 3 6 ≡ replicate 3 (replicate 9 0) ++ (0 ∷ 0 ∷ 0 ∷ 0 ∷ 0 ∷ 0 ∷ 1 ∷ 0 ∷ 0 ∷ []) ∷ replicate 21 (replicate 9 0))
+afters : (after (Ok tt) (last 4294967294) 24 8 ≡ last 4294967295)
+    × (after (Ok tt) empty 3 6 ≡ replicate 3 (replicate 9 0) ++ (0 ∷ 0 ∷ 0 ∷ 0 ∷ 0 ∷ 0 ∷ 1 ∷ 0 ∷ 0 ∷ []) ∷ replicate 21 (replicate 9 0))
     × (after (Err CellFull) (last 4294967295) 24 8 ≡ last 4294967295)
 unfolding raised
 afters = (refl, refl, refl)
@@ -93,7 +93,7 @@ rows k n = replicate k (replicate 9 n)
 
 -- under 25 rows: behind 7, before 10; a 26th row is of no account
 short : (map (λ (k : ℕ). addition_in (rows k full) 24 8) (0 ∷ 24 ∷ 25 ∷ []) ≡ Err OutputShort ∷ Err OutputShort ∷ Err CellFull ∷ [])
-    × (map (λ (k : ℕ). addition_in (rows k 0) 0 0) (24 ∷ 25 ∷ 26 ∷ []) ≡ Err OutputShort ∷ Ok tt ∷ Ok tt ∷ [])
+    × (map (λ (k : ℕ). addition_in (rows k 0) 0 0) (24 ∷ 25 ∷ 26 ∷ []) ≡ Err OutputShort ∷ (Ok tt) ∷ (Ok tt) ∷ [])
     × (addition_in (rows 24 0) 25 0 ≡ Err Unsuitable) × (addition_in (rows 24 0) 0 9 ≡ Err Unsuitable) × (addition_in (rows 26 0) 25 0 ≡ Err Unsuitable)
 unfolding addition_in addition
 short = (refl, refl, refl, refl, refl)
@@ -105,7 +105,7 @@ short_reads : (map (λ (k : ℕ). cell_read_in (rows k 5) 24 8) (24 ∷ 25 ∷ 2
 unfolding cell_read_in row_read_in column_read_in cell_read row_read column_read sum_of
 short_reads = (refl, refl, refl, refl, refl, refl)
 
-numbers : (map added_number (Ok tt ∷ Err Unsuitable ∷ Err OutputShort ∷ Err CellFull ∷ []) ≡ 0 ∷ 7 ∷ 8 ∷ 10 ∷ [])
+numbers : (map added_number ((Ok tt) ∷ Err Unsuitable ∷ Err OutputShort ∷ Err CellFull ∷ []) ≡ 0 ∷ 7 ∷ 8 ∷ 10 ∷ [])
     × (map cell_answer_of (Ok 5 ∷ Err Unsuitable ∷ []) ≡ record { number = 0; count = 5 } ∷ record { number = 7; count = 0 } ∷ [])
     × (map sum_answer_of (Ok 45 ∷ Err OutputShort ∷ []) ≡ record { number = 0; sum = 45 } ∷ record { number = 8; sum = 0 } ∷ [])
 numbers = (refl, refl, refl)

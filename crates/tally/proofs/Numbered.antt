@@ -37,39 +37,39 @@ level_place last mark n =
     (λ e h. absurd (omega arith)))
 
 -- 0 is told of an accepted addition alone
-told_0 : (t : Tally) (i j : ℕ) → added_number (addition t i j) ≡ 0 → Ok tt ≡ addition t i j
+told_0 : (t : Tally) (i j : ℕ) → added_number (addition t i j) ≡ 0 → (Ok tt) ≡ addition t i j
 unfolding addition
 told_0 t i j =
-    by_test (λ b. added_number (if b then (if eqb (cell t i j) full then Err CellFull else Ok tt) else Err Unsuitable) ≡ 0
-    → Ok tt ≡ (if b then (if eqb (cell t i j) full then Err CellFull else Ok tt) else Err Unsuitable)) (is_cell i j)
-    (λ e. by_test (λ c. added_number (if c then Err CellFull else Ok tt) ≡ 0 → Ok tt ≡ (if c then Err CellFull else Ok tt)) (eqb (cell t i j) full)
+    by_test (λ b. added_number (if b then (if eqb (cell t i j) full then Err CellFull else (Ok tt)) else Err Unsuitable) ≡ 0
+    → (Ok tt) ≡ (if b then (if eqb (cell t i j) full then Err CellFull else (Ok tt)) else Err Unsuitable)) (is_cell i j)
+    (λ e. by_test (λ c. added_number (if c then Err CellFull else (Ok tt)) ≡ 0 → (Ok tt) ≡ (if c then Err CellFull else (Ok tt))) (eqb (cell t i j) full)
     (λ f h. absurd (omega arith)) (λ f h. refl))
     (λ e h. absurd (omega arith))
 
-done_place : (t : Tally) (i j : ℕ) → Ok tt ≡ addition t i j → (i ≤ no_facility) × (j ≤ no_severity)
+done_place : (t : Tally) (i j : ℕ) → (Ok tt) ≡ addition t i j → (i ≤ no_facility) × (j ≤ no_severity)
 unfolding addition
 done_place t i j e =
     let (x, y) = both (is_row i) (is_column j) (done_at (is_cell i j) (eqb (cell t i j) full) e).0 in
     (leb-true i no_facility x, leb-true j no_severity y)
 
 -- any other number leaves all
-left : (a : Result Unit Refusal) (t : Tally) (i j : ℕ) → (added_number a ≡ 0 → ⊥) → after a t i j ≡ t
-left Ok tt t i j h = absurd (h refl)
+left : (a : Result (Unit {0}) Refusal) (t : Tally) (i j : ℕ) → (added_number a ≡ 0 → ⊥) → after a t i j ≡ t
+left (Ok tt) t i j h = absurd (h refl)
 left (Err f) t i j h = refl
 
-added : (old new : Tally) (facility severity : Option ℕ) (i j : ℕ) → i ≡ row_of facility → j ≡ column_of severity → Ok tt ≡ addition old i j → new ≡ after Ok tt old i j
-    → Adds old facility severity Ok tt new
+added : (old new : Tally) (facility severity : Option ℕ) (i j : ℕ) → i ≡ row_of facility → j ≡ column_of severity → (Ok tt) ≡ addition old i j → new ≡ after (Ok tt) old i j
+    → Adds old facility severity (Ok tt) new
 added old new f s i j p q e h = record { answers = e ∙ rw (p, q); leaves = h ∙ rw (p, q) }
 
 module _ (old new : Tally) (fm f sm s : ℕ) where
-  accept : (i j : ℕ) → i ≡ place_in no_facility fm f → j ≡ place_in no_severity sm s → (a : Result Unit Refusal) → a ≡ addition old i j → added_number a ≡ 0 → new ≡ after a old i j
-      → Adds old (level_in fm f) (level_in sm s) Ok tt new
+  accept : (i j : ℕ) → i ≡ place_in no_facility fm f → j ≡ place_in no_severity sm s → (a : Result (Unit {0}) Refusal) → a ≡ addition old i j → added_number a ≡ 0 → new ≡ after a old i j
+      → Adds old (level_in fm f) (level_in sm s) (Ok tt) new
   accept i j p q a e z h =
-      let d : Ok tt ≡ addition old i j = told_0 old i j (sym (ap added_number e) ∙ z) in
+      let d : (Ok tt) ≡ addition old i j = told_0 old i j (sym (ap added_number e) ∙ z) in
       let (x, y) = done_place old i j d in
       added old new (level_in fm f) (level_in sm s) i j
       (p ∙ level_place no_facility fm f (subst (λ (k : ℕ). k ≤ no_facility) p x)) (q ∙ level_place no_severity sm s (subst (λ (k : ℕ). k ≤ no_severity) q y))
-      d (h ∙ ap (λ (b : Result Unit Refusal). after b old i j) (e ∙ sym d))
+      d (h ∙ ap (λ (b : Result (Unit {0}) Refusal). after b old i j) (e ∙ sym d))
 
 whole : (t : Tally) (i j : ℕ) → length t ≡ row_count → addition_in t i j ≡ addition t i j
 unfolding addition_in

@@ -97,16 +97,16 @@ module _ (t : Tally) (i j : ℕ) (w : Whole t) (p : i < row_count) (q : j < colu
 
 -- ---- an addition
 
-never : {A : Type 0} {f : Refusal} → Ok tt ≡ Err f → A
+never : {A : Type 0} {f : Refusal} → ◌≡◌ {A = Result (Unit {0}) Refusal} (Ok tt) (Err f) → A
 never e = let z : ◌≡◌ {A = ℕ} 0 1 = cc in absurd (omega arith)
 
 -- an accepted one: there is such a cell, and it is not full
-pub done_at : (b c : Bool) → Ok tt ≡ (if b then (if c then Err CellFull else Ok tt) else Err Unsuitable) → (b ≡ true) × (c ≡ false)
+pub done_at : (b c : Bool) → ◌≡◌ {A = Result (Unit {0}) Refusal} (Ok tt) (if b then (if c then Err CellFull else (Ok tt)) else Err Unsuitable) → (b ≡ true) × (c ≡ false)
 done_at true true e = never e
 done_at true false e = (refl, refl)
 done_at false c e = never e
 
-module _ {old new : Tally} {facility severity : (Option ℕ)} (h : Adds old facility severity Ok tt new) where
+module _ {old new : Tally} {facility severity : (Option ℕ)} (h : Adds old facility severity (Ok tt) new) where
   at : (is_cell (row_of facility) (column_of severity) ≡ true) × (eqb (cell old (row_of facility) (column_of severity)) full ≡ false)
   unfolding addition
   at = done_at _ _ h.answers
@@ -135,7 +135,7 @@ refused_leaves_all old new facility severity f h = h.leaves
 pub one_result : OneResult
 one_result old new new' facility severity a a' h k =
     let q : a ≡ a' = h.answers ∙ sym k.answers in
-    (q, h.leaves ∙ ap (λ (x : Result Unit Refusal). after x old (row_of facility) (column_of severity)) q ∙ sym k.leaves)
+    (q, h.leaves ∙ ap (λ (x : Result (Unit {0}) Refusal). after x old (row_of facility) (column_of severity)) q ∙ sym k.leaves)
 
 -- ---- any sequence of additions
 

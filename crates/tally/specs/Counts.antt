@@ -20,7 +20,7 @@ pub record Raises (old : Tally) (i j : ℕ) (new : Tally) : Type 0 where
 
 -- So it is with each accepted addition.
 abbrev pub AcceptedRaisesOne : Type 0
-AcceptedRaisesOne = (old new : Tally) (facility severity : Option ℕ) → Whole old → Adds old facility severity Ok tt new → Raises old (row_of facility) (column_of severity) new
+AcceptedRaisesOne = (old new : Tally) (facility severity : Option ℕ) → Whole old → Adds old facility severity (Ok tt) new → Raises old (row_of facility) (column_of severity) new
 
 -- A refused one leaves all.
 abbrev pub RefusedLeavesAll : Type 0
@@ -28,14 +28,14 @@ RefusedLeavesAll = (old new : Tally) (facility severity : Option ℕ) (f : Refus
 
 -- Any two results that the contract of an addition allows are equal.
 abbrev pub OneResult : Type 0
-OneResult = (old new new' : Tally) (facility severity : Option ℕ) (a a' : Result Unit Refusal) → Adds old facility severity a new → Adds old facility severity a' new' → (a ≡ a') × (new ≡ new')
+OneResult = (old new new' : Tally) (facility severity : Option ℕ) (a a' : Result (Unit {0}) Refusal) → Adds old facility severity a new → Adds old facility severity a' new' → (a ≡ a') × (new ≡ new')
 
 -- ---- any sequence of additions
 
 -- calls of `add`, each on what the one before it left: the tally behind them, and how many were accepted
 pub data Additions : Tally → ℕ → Type 0 where
   none : Additions empty 0
-  accepted : {old new : Tally} {n : ℕ} {facility severity : (Option ℕ)} → Additions old n → Adds old facility severity Ok tt new → Additions new (suc n)
+  accepted : {old new : Tally} {n : ℕ} {facility severity : (Option ℕ)} → Additions old n → Adds old facility severity (Ok tt) new → Additions new (suc n)
   refused : {old new : Tally} {n : ℕ} {facility severity : (Option ℕ)} {f : Refusal} → Additions old n → Adds old facility severity (Err f) new → Additions new n
 
 -- how many of the accepted had row i and column j
@@ -66,7 +66,7 @@ level_in mark n = if eqb mark 0 then None else Some n
 
 -- A call that answers 0 is an accepted addition of its levels, so that all the above holds of such calls; any other leaves all.
 pub record CallAdds (old : Tally) (facility_mark facility severity_mark severity number : ℕ) (new : Tally) : Type 0 where
-  pub accepts : number ≡ 0 → Adds old (level_in facility_mark facility) (level_in severity_mark severity) Ok tt new
+  pub accepts : number ≡ 0 → Adds old (level_in facility_mark facility) (level_in severity_mark severity) (Ok tt) new
   pub leaves : (number ≡ 0 → ⊥) → new ≡ old
 
 abbrev pub CallsAdd : Type 0

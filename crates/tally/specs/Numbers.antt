@@ -1,7 +1,7 @@
 -- Levels, answers and a tally of any number of rows, as a C caller has them.
-use Rattle.std.specs.Prelude.{ℕ, suc, ◌≡◌, Bool, ◌&&◌, eqb, ltb, length, if◌then◌else◌, Some, Result, Ok, Err}
+use Rattle.std.specs.Prelude.{ℕ, suc, ◌≡◌, Bool, ◌&&◌, eqb, ltb, length, true, if◌then◌else◌, Some, Result, Ok, Err}
 use Rattle.record.specs.Refusals.{refusal_number}
-use Rattle.record.specs.declared.Refusal.TheVariants.{OutputShort}
+use Rattle.record.specs.declared.Refusal.TheVariants.{Unsuitable, OutputShort}
 use Rattle.tally.specs.declared.CellAnswer.{CellAnswer}
 use Rattle.tally.specs.declared.SumAnswer.{SumAnswer}
 use Rattle.tally.specs.Tally.{Tally, no_facility, no_severity, row_count, is_row, is_column, is_cell, place_of, addition, after, cell_read, row_read, column_read}
@@ -22,7 +22,11 @@ place_in none mark n =
 abbrev pub or_short : {A : Type 0} → Bool → Tally → A → A → A
 or_short there t short a = if there && ltb (length t) row_count then short else a
 
-unfoldable pub addition_in : Tally → ℕ → ℕ → Result Unit Refusal
+-- whether there is a place and the rows are enough (for private contracts alone)
+abbrev pub demanded : Bool → Tally → Result (Unit {0}) Refusal
+demanded there t = if there then or_short true t (Err OutputShort) (Ok tt) else Err Unsuitable
+
+unfoldable pub addition_in : Tally → ℕ → ℕ → Result (Unit {0}) Refusal
 addition_in t i j = or_short (is_cell i j) t (Err OutputShort) (addition t i j)
 
 unfoldable pub cell_read_in : Tally → ℕ → ℕ → Result ℕ Refusal
@@ -35,14 +39,14 @@ unfoldable pub column_read_in : Tally → ℕ → Result ℕ Refusal
 column_read_in t j = or_short (is_column j) t (Err OutputShort) (column_read t j)
 
 -- an addition to a cell (for private contracts alone)
-pub record AddsIn (old : Tally) (i j : ℕ) (a : Result Unit Refusal) (new : Tally) : Type 0 where
+pub record AddsIn (old : Tally) (i j : ℕ) (a : Result (Unit {0}) Refusal) (new : Tally) : Type 0 where
   pub answers : a ≡ addition_in old i j
   pub leaves : new ≡ after a old i j
 
 -- ---- the answers: a number, 0 where it is done, and a value, 0 where it is refused
 
-abbrev pub added_number : Result Unit Refusal → ℕ
-added_number Ok tt = 0
+abbrev pub added_number : Result (Unit {0}) Refusal → ℕ
+added_number (Ok tt) = 0
 added_number (Err f) = refusal_number f
 
 abbrev pub cell_answer_of : Result ℕ Refusal → CellAnswer

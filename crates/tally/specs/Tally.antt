@@ -58,9 +58,9 @@ column_of = place_of no_severity
 -- ---- an addition
 
 -- 7 where there is no such cell, then 10 where the cell is full
-unfoldable pub addition : Tally → ℕ → ℕ → Result Unit Refusal
+unfoldable pub addition : Tally → ℕ → ℕ → Result (Unit {0}) Refusal
 addition t i j =
-    if is_cell i j then (if eqb (cell t i j) full then Err CellFull else Ok tt)
+    if is_cell i j then (if eqb (cell t i j) full then Err CellFull else (Ok tt))
     else Err Unsuitable
 
 -- one more in a cell, and the others as they are
@@ -68,12 +68,12 @@ unfoldable pub raised : Tally → ℕ → ℕ → Tally
 raised t i j = set t i (set (get_or t i []) j (suc (cell t i j)))
 
 -- the tally behind an answer: a refused addition changes nothing
-abbrev pub after : Result Unit Refusal → Tally → ℕ → ℕ → Tally
-after Ok tt t i j = raised t i j
+abbrev pub after : Result (Unit {0}) Refusal → Tally → ℕ → ℕ → Tally
+after (Ok tt) t i j = raised t i j
 after (Err f) t i j = t
 
 -- A call of `add`.
-pub record Adds (old : Tally) (facility severity : Option ℕ) (a : Result Unit Refusal) (new : Tally) : Type 0 where
+pub record Adds (old : Tally) (facility severity : Option ℕ) (a : Result (Unit {0}) Refusal) (new : Tally) : Type 0 where
   pub answers : a ≡ addition old (row_of facility) (column_of severity)
   pub leaves : new ≡ after a old (row_of facility) (column_of severity)
 

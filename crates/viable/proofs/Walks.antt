@@ -22,7 +22,7 @@ use Rattle.viable.specs.Far.{Far, next_far, follow, closed_far, choose_far, behi
 use Rattle.viable.specs.Leaves.{repeat_far}
 use Rattle.viable.specs.Walks.{went_of, onward_of, went_at}
 
--- ---- what was found where the answer is Past, and that nothing was where it is Stuck
+-- ---- what was found where the answer is Ok, and that nothing was where it is Err
 
 pub record Passed {A : Type 0} (o : Parsed A) (at n : ℕ) : Type 0 where
   pub value : A
