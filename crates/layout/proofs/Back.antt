@@ -1,6 +1,6 @@
 -- What was laid out comes back: the bytes of a record whose numbers fit their types hold a record, that one.
 use Rattle.std.specs.Prelude.{Option, Some, None}
-use Prim.Native.Nat.{ℕ, zero, suc, ◌+◌, ◌-◌, ◌*◌, ◌/◌, ◌^◌, ◌<◌}
+use Prim.Native.Nat.{ℕ, zero, suc, ◌+◌, ◌-◌, ◌*◌, ◌/◌, ◌^◌, ◌<◌, ◌≤◌}
 use mathlib.Core.Path.{◌≡◌, refl, sym, ap, ◌∙◌}
 use mathlib.Core.Bool.{Bool, true, false}
 use mathlib.Core.List.{List, [], ◌∷◌, ◌++◌, append_assoc}
@@ -22,7 +22,6 @@ use Rattle.layout.specs.Layout.{protocol_word, version_word, facility_word, seve
 use Rattle.layout.specs.Incoming.{number, word_at, signed, marked, narrow, stamped, front_held, marks_held, holds_record, protocol_at, level_at, stamp_at, place_at, record_at, element_count_at, param_count_at}
 use Rattle.layout.proofs.Words.{length_little, words_length}
 use Rattle.layout.proofs.Fields.{record_length}
-use Rattle.layout.proofs.Bits.{signed_pos, signed_neg}
 use Rattle.record.specs.declared.Timestamp.{Timestamp}
 
 -- ---- words
@@ -149,6 +148,12 @@ level_back (Some n) h = record { words = refl; mark_fits = omega arith; fits = o
 bits_fit : (z : ℤ) → SFits w64 z → bits z < 18446744073709551616
 bits_fit (pos n) h = omega (arith, h.sfits)
 bits_fit (negsuc n) h = omega arith
+
+signed_pos : (n : ℕ) → n < 9223372036854775808 → signed n ≡ pos n
+signed_pos n h = rw (lt-ltb n 9223372036854775808 h)
+
+signed_neg : (n : ℕ) → 9223372036854775808 ≤ n → signed n ≡ negsuc (18446744073709551615 - n)
+signed_neg n h = rw (le-ltb n 9223372036854775808 h)
 
 bits_back : (z : ℤ) → SFits w64 z → signed (bits z) ≡ z
 bits_back (pos n) h = signed_pos n (omega (arith, h.sfits))

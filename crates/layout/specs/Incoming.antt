@@ -1,5 +1,5 @@
 -- A record that comes in: whether bytes hold one, and which.
-use Rattle.std.specs.Prelude.{ℕ, ◌+◌, ◌-◌, ◌*◌, ◌^◌, ◌<◌, ◌≡◌, Bool, ◌&&◌, ◌||◌, List, [], ◌∷◌, eqb, leb, ltb, ℤ, pos, negsuc, length, if◌then◌else◌, Option, Some, None}
+use Rattle.std.specs.Prelude.{ℕ, ◌+◌, ◌-◌, ◌*◌, Bool, ◌&&◌, ◌||◌, List, [], ◌∷◌, eqb, leb, ltb, ℤ, pos, negsuc, length, if◌then◌else◌, Option, Some, None}
 use Rattle.base.specs.Texts.{text_at}
 use Rattle.layout.specs.Layout.{protocol_word, version_word, facility_word, severity_word, timestamp_word, seconds_word, nanos_word, digits_word, offset_word, host_word, app_word, procid_word, msgid_word, message_word, elements_word, params_word, record_size}
 use Rattle.record.specs.declared.Protocol.{Protocol}
@@ -86,8 +86,3 @@ element_count_at bytes = word_at bytes elements_word
 
 abbrev pub param_count_at : List ℕ → ℕ
 param_count_at bytes = word_at bytes params_word
-
--- `n` is the number of the `k` bytes from `at` on (for private contracts alone)
-pub record Holds (bytes : List ℕ) (at k n : ℕ) : Type 0 where
-  pub is : n ≡ number (text_at bytes at k)
-  pub below : n < 256 ^ k

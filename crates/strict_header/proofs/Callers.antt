@@ -1,4 +1,5 @@
 -- For callers: what an answer of `read_header` says of what the parser finds, and how large its numbers are.
+use Rattle.std.specs.Prelude as std
 use Rattle.std.specs.Prelude.{Some, None}
 use Prim.Native.Nat.{ℕ, zero, suc, ◌+◌, ◌*◌, ◌≤◌}
 use mathlib.Core.Path.{◌≡◌, refl, sym, ap, ◌∙◌}
@@ -19,7 +20,7 @@ use Rattle.record.specs.declared.Timestamp as instant
 use Rattle.strict_header.specs.Header.{header_at, heading}
 use Rattle.strict_header.specs.declared.HeaderAt.{HeaderAt}
 use Rattle.strict_header.proofs.Steps.{Fails, Finds, finds_within, finds_ok}
-use Rattle.strict_header.proofs.Answers.{none_found, some_found}
+use Rattle.strict_header.proofs.Answers.{value_found, value_none, value_some, none_found, some_found}
 
 abs_neg : (n : ℕ) → nat_abs (neg_ℤ (pos n)) ≡ n
 abs_neg zero = refl
@@ -30,7 +31,7 @@ offset_small Offset.utc r = omega arith
 offset_small (Offset.east a b) r = omega (arith, r.hour_range, r.minute_range)
 offset_small (Offset.west a b) r = rw (abs_neg (decimal a * 60 + decimal b)) (omega (arith, r.hour_range, r.minute_range))
 
-module _ (s : List ℕ) (f : Option HeaderAt) (e : f ≡ heading (header s)) where
+module _ (s : List ℕ) (f : std.Option HeaderAt) (e : f ≡ heading (header s)) where
   pub header_none : f ≡ None → Fails header s
   header_none h = none_found heading e (λ a n q. let z : true ≡ false = cc in clash z)
 

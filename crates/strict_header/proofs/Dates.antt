@@ -22,12 +22,9 @@ use Rattle.grammar.specs.Parse.Parsed.{failed, found}
 use Rattle.grammar.specs.Reading.{nanos_of}
 use Rattle.grammar.proofs.Readers.{Reads, Any}
 use Rattle.grammar.proofs.Header.{two_reads}
-use Rattle.strict_header.specs.Pieces.{value_of, pair_of, triple_of}
-use Rattle.strict_header.specs.declared.PairAt.{PairAt}
-use Rattle.strict_header.specs.declared.PairAt.TheVariants.{NoPair, IsPair}
-use Rattle.strict_header.specs.declared.TripleAt.TheVariants.{NoTriple, IsTriple}
+use Rattle.strict_header.specs.Pieces.{value_of, plain_to, minutes_of, pair, triple, ending, ids_at, names_at, text_at}
 use Rattle.strict_header.proofs.Steps.{untold, byte_laws, sum_fits, Finds, finds_within, next_within, into_failed, into_found, first_failed, first_found, other_found, only_failed, only_not, only_found, next_failed, next_not, next_found}
-use Rattle.strict_header.proofs.Answers.{failed_answer, Triple, value_found, value_none, value_some, pair_found, pair_none, pair_some, triple_found}
+use Rattle.strict_header.proofs.Answers.{value_found, value_none, value_some, failed_answer, Triple, pair_found, pair_some, triple_found}
 use Rattle.strict_header.proofs.Numbers.{fixed_of}
 
 -- ---- two digits after a byte, twice
@@ -40,18 +37,18 @@ module _ (b : ℕ) (l : 0 < b) (s : List ℕ) where
   pub two_within : (f : Option (ℕ × ℕ)) (v n : ℕ) → f ≡ value_of decimal (two b s) → f ≡ Some (v, n) → n ≤ length s
   two_within f v n e h = finds_within (value_some decimal e h) (two_read b l)
 
-  pub pair_within : (f : PairAt) (x y n : ℕ) → f ≡ pair_of ((two b next two b) s) → f ≡ IsPair x y n → n ≤ length s
+  pub pair_within : (f : Option ((ℕ × ℕ) × ℕ)) (x y n : ℕ) → f ≡ value_of pair ((two b next two b) s) → f ≡ Some ((x, y), n) → n ≤ length s
   pair_within f x y n e h = next_within (two_read b l) (two_read b l) (pair_some e h)
 
 module _ (b : ℕ) (s : List ℕ) (f : Option (ℕ × ℕ)) (ef : f ≡ value_of decimal (two b s)) where
-  pub pair_no_first : f ≡ None → NoPair ≡ pair_of ((two b next two b) s)
-  pair_no_first e = failed_answer pair_of (next_failed (value_none decimal ef e) (two b))
+  pub pair_no_first : f ≡ None → None ≡ value_of pair ((two b next two b) s)
+  pair_no_first e = failed_answer (value_of pair) (next_failed (value_none decimal ef e) (two b))
 
   module _ (x m : ℕ) (ev : f ≡ Some (x, m)) (r : List ℕ) (er : r ≡ drop m s) (g : Option (ℕ × ℕ)) (eg : g ≡ value_of decimal (two b r)) where
-    pub pair_no_second : g ≡ None → NoPair ≡ pair_of ((two b next two b) s)
-    pair_no_second e = failed_answer pair_of (next_not (value_some decimal ef ev) er (value_none decimal eg e))
+    pub pair_no_second : g ≡ None → None ≡ value_of pair ((two b next two b) s)
+    pair_no_second e = failed_answer (value_of pair) (next_not (value_some decimal ef ev) er (value_none decimal eg e))
 
-    pub pair_is : (y n : ℕ) → g ≡ Some (y, n) → IsPair x y (m + n) ≡ pair_of ((two b next two b) s)
+    pub pair_is : (y n : ℕ) → g ≡ Some (y, n) → Some ((x, y), (m + n)) ≡ value_of pair ((two b next two b) s)
     pair_is y n e = pair_found (next_found (value_some decimal ef ev) er (value_some decimal eg e))
 
 pub ruleset pair_laws = (two_within, sum_fits, pair_no_first, pair_no_second, pair_is)
@@ -69,24 +66,24 @@ module _ (g : ℕ → ℕ → ℕ → Bool) (p : Reader (List ℕ)) (b : ℕ) (s
   abbrev passes : Three → Bool
   passes t = g (decimal t.0) (decimal t.1.0) (decimal t.1.1)
 
-  pub triple_no_first : f ≡ None → NoTriple ≡ triple_of (only passes (p next (two b next two b)) s)
-  triple_no_first e = failed_answer triple_of (only_failed (next_failed (value_none decimal ef e) (two b next two b)) passes)
+  pub triple_no_first : f ≡ None → None ≡ value_of triple (only passes (p next (two b next two b)) s)
+  triple_no_first e = failed_answer (value_of triple) (only_failed (next_failed (value_none decimal ef e) (two b next two b)) passes)
 
-  module _ (x m : ℕ) (ev : f ≡ Some (x, m)) (r : List ℕ) (er : r ≡ drop m s) (k : PairAt) (ek : k ≡ pair_of ((two b next two b) r)) where
-    pub triple_no_pair : k ≡ NoPair → NoTriple ≡ triple_of (only passes (p next (two b next two b)) s)
-    triple_no_pair e = failed_answer triple_of (only_failed (next_not (value_some decimal ef ev) er (pair_none ek e)) passes)
+  module _ (x m : ℕ) (ev : f ≡ Some (x, m)) (r : List ℕ) (er : r ≡ drop m s) (k : Option ((ℕ × ℕ) × ℕ)) (ek : k ≡ value_of pair ((two b next two b) r)) where
+    pub triple_no_pair : k ≡ None → None ≡ value_of triple (only passes (p next (two b next two b)) s)
+    triple_no_pair e = failed_answer (value_of triple) (only_failed (next_not (value_some decimal ef ev) er (value_none pair ek e)) passes)
 
-    module _ (y z n : ℕ) (eh : k ≡ IsPair y z n) (t : Bool) (et : t ≡ g x y z) where
+    module _ (y z n : ℕ) (eh : k ≡ Some ((y, z), n)) (t : Bool) (et : t ≡ g x y z) where
       all : Finds (Triple x y z) (m + n) (p next (two b next two b)) s
       all = next_found (value_some decimal ef ev) er (pair_some ek eh)
 
       tested : (a : Three) → Triple x y z a → g x y z ≡ passes a
       tested a h = rw (h.0, h.1.0, h.1.1)
 
-      pub triple_not : not t ≡ true → NoTriple ≡ triple_of (only passes (p next (two b next two b)) s)
-      triple_not h = failed_answer triple_of (only_not all passes (λ a k. sym (tested a k) ∙ untold t _ et h))
+      pub triple_not : not t ≡ true → None ≡ value_of triple (only passes (p next (two b next two b)) s)
+      triple_not h = failed_answer (value_of triple) (only_not all passes (λ a k. sym (tested a k) ∙ untold t _ et h))
 
-      pub triple_is : not t ≡ false → IsTriple x y z (m + n) ≡ triple_of (only passes (p next (two b next two b)) s)
+      pub triple_is : not t ≡ false → Some ((x, y, z), (m + n)) ≡ value_of triple (only passes (p next (two b next two b)) s)
       triple_is h = triple_found (only_found all passes (λ a k. sym (tested a k) ∙ told t _ et h))
 
 pub ruleset within_laws = (two_within, pair_within, fixed_within, sum_fits)

@@ -27,10 +27,9 @@ use Rattle.grammar.specs.Line.{zero_led}
 use Rattle.grammar.specs.Parse.{on_found, never, only, repeat, fixed, is_version, pri, version, pri_version, two}
 use Rattle.grammar.specs.Parse.Parsed.{failed, found}
 use Rattle.grammar.proofs.Header.{pri_reads, version_reads}
-use Rattle.strict_header.specs.Pieces.{plain_to, value_of, pair_of}
-use Rattle.strict_header.specs.declared.PairAt.TheVariants.{NoPair, IsPair}
+use Rattle.strict_header.specs.Pieces.{value_of, plain_to, minutes_of, pair, triple, ending, ids_at, names_at, text_at}
 use Rattle.strict_header.proofs.Steps.{untold, there, byte_laws, sum_fits, finds_within, next_failed, next_not, next_found, closed_failed, closed_open, closed_found, first_failed, first_found, other_failed, never_failed}
-use Rattle.strict_header.proofs.Answers.{failed_answer, value_found, value_none, value_some, pair_found}
+use Rattle.strict_header.proofs.Answers.{value_found, value_none, value_some, failed_answer, pair_found}
 
 -- ---- a number of at most three digits
 
@@ -183,16 +182,16 @@ module _ (s : List ℕ) (f : Option (ℕ × ℕ)) (v n : ℕ) where
   version_within e h = finds_within (value_some decimal e h) version_reads
 
 module _ (s : List ℕ) (f : Option (ℕ × ℕ)) (ef : f ≡ value_of decimal (pri s)) where
-  pub start_no_pri : f ≡ None → NoPair ≡ pair_of (pri_version s)
+  pub start_no_pri : f ≡ None → None ≡ value_of pair (pri_version s)
   unfolding pri_version
-  start_no_pri e = failed_answer pair_of (next_failed (value_none decimal ef e) version)
+  start_no_pri e = failed_answer (value_of pair) (next_failed (value_none decimal ef e) version)
 
   module _ (x m : ℕ) (hf : f ≡ Some (x, m)) (r : List ℕ) (er : r ≡ drop m s) (g : Option (ℕ × ℕ)) (eg : g ≡ value_of decimal (version r)) where
-    pub start_no_version : g ≡ None → NoPair ≡ pair_of (pri_version s)
+    pub start_no_version : g ≡ None → None ≡ value_of pair (pri_version s)
     unfolding pri_version
-    start_no_version e = failed_answer pair_of (next_not (value_some decimal ef hf) er (value_none decimal eg e))
+    start_no_version e = failed_answer (value_of pair) (next_not (value_some decimal ef hf) er (value_none decimal eg e))
 
-    pub start_is : (y n : ℕ) → g ≡ Some (y, n) → IsPair x y (m + n) ≡ pair_of (pri_version s)
+    pub start_is : (y n : ℕ) → g ≡ Some (y, n) → Some ((x, y), (m + n)) ≡ value_of pair (pri_version s)
     unfolding pri_version
     start_is y n e = pair_found (next_found (value_some decimal ef hf) er (value_some decimal eg e))
 

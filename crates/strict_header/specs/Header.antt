@@ -1,5 +1,6 @@
 -- For private contracts alone: what the code keeps of a header that the parser of `grammar` finds: numbers and places of the line.
 use Rattle.std.specs.Prelude.{ℕ, ◌+◌, [], length, Some, None}
+use Rattle.std.specs.Prelude as std
 use Rattle.std.proofs.Math.Option.{Option, none, some}
 use Rattle.digits.specs.Digits.{decimal}
 use Rattle.record.specs.Places.{absent, place}
@@ -34,6 +35,6 @@ header_at h next =
       next = next;
     }
 
-abbrev pub heading : Parsed Header → Option HeaderAt
+abbrev pub heading : Parsed Header → std.Option HeaderAt
 heading failed = None
 heading (found h n) = Some (header_at h n)

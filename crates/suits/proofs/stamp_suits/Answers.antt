@@ -1,4 +1,0 @@
-use Rattle.suits.proofs.stamp_suits.Goals as goal
-
-pub returns-in-Some : goal.returns-in-Some
-returns-in-Some c = cc
