@@ -143,7 +143,7 @@ module _ (line : List ℕ) (variant year : ℕ) (o : ℤ) (f : SFits w32 o) (e�
 
 -- ---- the strict reader
 
-strict_unread : {line : List ℕ} {e₀ p₀ : List (List ℕ)} {r : (Result StrictReading Refusal)} {e p : List (List ℕ)} → StrictReads line e₀ p₀ r e p
+strict_unread : {line : List ℕ} {e₀ p₀ : List (List ℕ)} {r : Result StrictReading Refusal} {e p : List (List ℕ)} → StrictReads line e₀ p₀ r e p
     → eqb (strict_read_answer_of r).number 0 ≡ false → (e ≡ e₀) × (p ≡ p₀)
 strict_unread (too_long l a b c) q = (b, c)
 strict_unread (underivable l h a b c) q = (b, c)
@@ -155,7 +155,7 @@ strict_unread (accepted d l h k m a b c) q = clash (rw a at q)
 abbrev Reported : List ℕ → Result StrictReading Refusal → ReadAnswer → Type 0
 Reported line r a = (n : ℕ) × Reports line n × (a ≡ with_reach n (strict_read_answer_of r))
 
-reported : {line : List ℕ} {e₀ p₀ : List (List ℕ)} {r : (Result StrictReading Refusal)} {e p : List (List ℕ)} {a : ReadAnswer} → StrictReads line e₀ p₀ r e p → StrictTold line r a
+reported : {line : List ℕ} {e₀ p₀ : List (List ℕ)} {r : Result StrictReading Refusal} {e p : List (List ℕ)} {a : ReadAnswer} → StrictReads line e₀ p₀ r e p → StrictTold line r a
     → Reported line r a
 reported h (broke n k e) = (n, k, e)
 reported (too_long l a b c) (other z e) = (0, Reports.too_long l refl, e)
