@@ -4,6 +4,7 @@ use Prim.Native.Nat.{ℕ, ◌/◌, ◌%◌, ◌≤◌}
 use mathlib.Core.Path.{◌≡◌, refl, sym, ap, ◌∙◌}
 use mathlib.Core.Bool.{true}
 use mathlib.Core.List.{List, [], ◌∷◌}
+use Rattle.std.specs.Prelude as std
 use mathlib.Core.Option.{Option, none, some}
 use native.Mathlib.Omega.{arith}
 use lib.ListN.{length}
@@ -51,13 +52,13 @@ unfolding claim_of record_of
 same_claim c d f s p t l h a i m e w n b = rw (f, s, p, t, place_for_lem d d.timestamp refl, l, h, a, i, m, e, w, n, b)
 
 -- where it ended
-record Ended (line : List ℕ) (c : Claim) (n : Option ℕ) : Type 0 where
+record Ended (line : List ℕ) (c : Claim) (n : std.Option ℕ) : Type 0 where
   pub at : ℕ
   pub is : n ≡ Some at
   pub differ : all_different (ids_at line c.elements) ≡ true
   pub message : message_holds line at c.reading.has_message c.reading.common.message ≡ true
 
-ended : (line : List ℕ) (c : Claim) (n : Option ℕ) → end_holds line c n ≡ true → Ended line c n
+ended : (line : List ℕ) (c : Claim) (n : std.Option ℕ) → end_holds line c n ≡ true → Ended line c n
 ended line c None h = clash (sym h)
 ended line c (Some at) h =
     let u = both (all_different (ids_at line c.elements)) (message_holds line at c.reading.has_message c.reading.common.message) h in

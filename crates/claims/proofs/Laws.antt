@@ -37,7 +37,7 @@ module _ (line : List ℕ) (r : StrictRecord) (e p : ℕ) (elements params : Lis
     pub answers_wrong : claim_suits line r e p elements params ≡ true → holds line (claim_in r e p elements params) ≡ false → Checks line r e p elements params (Err WrongClaim)
     answers_wrong s h = wrong short s (λ k. clash (sym (claimed_holds line _ k) ∙ h)) refl
 
-    pub answers_yes : claim_suits line r e p elements params ≡ true → holds line (claim_in r e p elements params) ≡ true → Checks line r e p elements params Ok tt
+    pub answers_yes : claim_suits line r e p elements params ≡ true → holds line (claim_in r e p elements params) ≡ true → Checks line r e p elements params (Ok tt)
     answers_yes s h = told_yes short s (holds_claimed line _ h) refl
 
   -- ---- one answer
@@ -62,7 +62,7 @@ one_answer line r e p elements params a b x y = answer_is line r e p elements pa
 
 -- ---- one claim
 
-refused_no : {A : Type 0} (f : Refusal) → Ok tt ≡ Err f → A
+refused_no : {A : Type 0} (f : Refusal) → ◌≡◌ {A = Result Unit Refusal} (Ok tt) (Err f) → A
 refused_no f h = let z : true ≡ false = cc in clash z
 
 -- what a claim that was told yes is
@@ -71,7 +71,7 @@ record Told (line : List ℕ) (r : StrictRecord) (e p : ℕ) (elements params : 
   pub fits : claim_suits line r e p elements params ≡ true
   pub claimed : Claimed line (claim_in r e p elements params)
 
-told : (line : List ℕ) (r : StrictRecord) (e p : ℕ) (elements params : List (List ℕ)) → Checks line r e p elements params Ok tt → Told line r e p elements params
+told : (line : List ℕ) (r : StrictRecord) (e p : ℕ) (elements params : List (List ℕ)) → Checks line r e p elements params (Ok tt) → Told line r e p elements params
 told line r e p elements params (too_long l q) = refused_no _ q
 told line r e p elements params (unsuitable l s q) = refused_no _ q
 told line r e p elements params (wrong l s k q) = refused_no _ q

@@ -4,6 +4,7 @@ use Prim.Native.Nat.{ℕ, zero, suc, ◌+◌, ◌-◌, ◌*◌, ◌/◌, ◌%◌
 use mathlib.Core.Path.{◌≡◌, refl, sym, ap, ◌∙◌}
 use mathlib.Core.Bool.{true, ◌&&◌}
 use mathlib.Core.List.{List, [], ◌∷◌}
+use Rattle.std.specs.Prelude as std
 use mathlib.Core.Option.{Option, none, some}
 use native.Mathlib.Nat.{one-le-pow, div-add-mod', div-lt_iff_lt-mul, mul-mod_left, mul-le-mul_right, add-mul, mul-div_cancel}
 use native.Mathlib.Omega.{arith}
@@ -36,7 +37,7 @@ pub record Seen (seconds offset : ℤ) : Type 0 where
   pub shows : shown seconds offset ≡ Some clock
   pub is_valid : valid clock ≡ true
 
-seen_at : (seconds offset : ℤ) (s : Option DateTime) → shown seconds offset ≡ s → is_shown s ≡ true → Seen seconds offset
+seen_at : (seconds offset : ℤ) (s : std.Option DateTime) → shown seconds offset ≡ s → is_shown s ≡ true → Seen seconds offset
 seen_at seconds offset None e h = clash (sym h)
 seen_at seconds offset (Some c) e h = record { clock = c; shows = e; is_valid = shown_valid seconds offset c e }
 

@@ -4,6 +4,7 @@ use Prim.Native.Nat.{ℕ, suc, ◌+◌, ◌*◌, ◌/◌, ◌%◌, ◌≤◌}
 use mathlib.Core.Path.{◌≡◌, refl, sym, ap, ap₂, ◌∙◌, subst}
 use mathlib.Core.Bool.{Bool, true, false, ◌&&◌}
 use mathlib.Core.List.{List, [], ◌∷◌, ◌++◌, append_assoc, append-nil}
+use Rattle.std.specs.Prelude as std
 use mathlib.Core.Option.{Option, none, some}
 use native.Mathlib.Omega.{arith}
 use lib.Dec.{eqb}
@@ -36,7 +37,7 @@ use Rattle.claims.proofs.Tests.{all_both, next_if_lem, byte_stands, byte_then, c
 -- ---- PRI VERSION SP
 
 module _ (line : List ℕ) where
-  pub record HeadHere (f s : Option ℕ) (p : Protocol) (next : ℕ) : Type 0 where
+  pub record HeadHere (f s : std.Option ℕ) (p : Protocol) (next : ℕ) : Type 0 where
     pub prival_ok : PrivalOk (numeral (priority_of f s))
     pub version_ok : VersionOk (numeral (version_of p))
     pub is_facility : Some (decimal (numeral (priority_of f s)) / 8) ≡ f
@@ -66,7 +67,7 @@ module _ (line : List ℕ) where
             ∙ ap (λ (x : List ℕ). 60 ∷ x) (append_assoc (numeral p) (62 ∷ (numeral v ++ (32 ∷ []))) r ∙ ap (λ (x : List ℕ). numeral p ++ (62 ∷ x)) (append_assoc (numeral v) (32 ∷ []) r));
       }
 
-  heads_by : (f s : Option ℕ) (p : Protocol) (next : ℕ) → level_holds 23 f ≡ true → level_holds 7 s ≡ true → protocol_holds p ≡ true
+  heads_by : (f s : std.Option ℕ) (p : Protocol) (next : ℕ) → level_holds 23 f ≡ true → level_holds 7 s ≡ true → protocol_holds p ≡ true
       → stands_at line 0 (head_text (priority_of f s) (version_of p)) ≡ true → width (priority_of f s) + width (version_of p) + 3 ≡ next → HeadHere f s p next
   heads_by None s p next a b c h q = clash (sym a)
   heads_by (Some x) None p next a b c h q = clash (sym b)
@@ -75,7 +76,7 @@ module _ (line : List ℕ) where
       let o = orders 1 999 v c in
       head_sound x y v next (leb-true x 23 a) (leb-true y 7 b) o.0 o.1 h q
 
-  pub head_step : (f s : Option ℕ) (p : Protocol) (next : ℕ) → head_next line f s p ≡ Some next → HeadHere f s p next
+  pub head_step : (f s : std.Option ℕ) (p : Protocol) (next : ℕ) → head_next line f s p ≡ Some next → HeadHere f s p next
   unfolding head_next
   head_step f s p next h =
       let t = stands_at line 0 (head_text (priority_of f s) (version_of p)) in

@@ -4,6 +4,7 @@ use Prim.Native.Nat.{ℕ, zero, suc, ◌+◌, ◌-◌, ◌*◌, ◌/◌, ◌%◌
 use mathlib.Core.Path.{◌≡◌, refl, sym, ap, ◌∙◌, subst}
 use mathlib.Core.Bool.{Bool, true, false, not, ◌&&◌}
 use mathlib.Core.List.{List, [], ◌∷◌}
+use Rattle.std.specs.Prelude as std
 use mathlib.Core.Option.{Option, none, some}
 use native.Mathlib.Omega.{arith}
 use lib.Dec.{leb, eqb}
@@ -123,7 +124,7 @@ place_for at none = absent
 place_for at (some t) = place at (length (timestamp_then (some t) []))
 
 module _ (line : List ℕ) (at : ℕ) where
-  record StampHere (p : Place) (s : Option Timestamp) : Type 0 where
+  record StampHere (p : Place) (s : std.Option stamped.Timestamp) : Type 0 where
     pub ok : TimestampOk (written_stamp line p.start s)
     pub is_stamp : stamp_of (written_stamp line p.start s) ≡ s
     pub is_place : place_for at (written_stamp line p.start s) ≡ p
@@ -168,7 +169,7 @@ module _ (line : List ℕ) (at : ℕ) where
               (sym (timestamp_plain (written_stamp line at (Some t)) r full));
         }
 
-  stamp_sound : (b : Bool) (start len : ℕ) (s : Option Timestamp) → stamp_holds line at (record { present = b; start = start; len = len }) s ≡ true
+  stamp_sound : (b : Bool) (start len : ℕ) (s : std.Option stamped.Timestamp) → stamp_holds line at (record { present = b; start = start; len = len }) s ≡ true
       → StampHere (record { present = b; start = start; len = len }) s
   stamp_sound b start len None h =
       let u1 = both (not b && eqb start 0 && eqb len 0) (is_at line at 45) h in
@@ -200,14 +201,14 @@ module _ (line : List ℕ) (at : ℕ) where
       let z = stamp_here t (leb-true t.digits 6 u6.1) (leb-true t.nanos 999999999 v4.0) (eqb-true x 0 v3.1) (leb-true (nat_abs t.offset) 1439 v2.1) v1.1 u2.1 u1.1 in
       subst (λ (p : Place). StampHere p (Some t)) (the_place b start len (length text) u5.1 (eqb-true start at u4.1) (eqb-true len (length text) u3.1)) z
 
-  pub record StampStep (p : Place) (s : Option Timestamp) (next : ℕ) : Type 0 where
+  pub record StampStep (p : Place) (s : std.Option stamped.Timestamp) (next : ℕ) : Type 0 where
     pub ok : TimestampOk (written_stamp line p.start s)
     pub is_stamp : stamp_of (written_stamp line p.start s) ≡ s
     pub is_place : place_for at (written_stamp line p.start s) ≡ p
     pub ends : next ≡ at + length (timestamp_then (written_stamp line p.start s) []) + 1
     pub here : (r : List ℕ) → Here line next r → Here line at (timestamp_then (written_stamp line p.start s) (32 ∷ r))
 
-  pub stamp_step : (p : Place) (s : Option Timestamp) (next : ℕ) → stamp_next line at p s ≡ Some next → StampStep p s next
+  pub stamp_step : (p : Place) (s : std.Option stamped.Timestamp) (next : ℕ) → stamp_next line at p s ≡ Some next → StampStep p s next
   unfolding stamp_next
   stamp_step p s next h =
       let (t, g) = if_next (stamp_holds line at p s) (byte_next line (at + len_of p) 32) next h in

@@ -52,5 +52,5 @@ pub data Checks (line : List ℕ) (r : StrictRecord) (e p : ℕ) (elements param
 
 -- the number of each answer, 0 for yes
 abbrev pub checked_number : Result Unit Refusal → ℕ
-checked_number Ok tt = 0
+checked_number (Ok t) = 0
 checked_number (Err f) = refusal_number f

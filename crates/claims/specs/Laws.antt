@@ -26,13 +26,13 @@ pub record Same (r : StrictRecord) (e p : ℕ) (elements params : List (List ℕ
 abbrev pub OneClaim : Type 0
 OneClaim =
     (line : List ℕ) (r r' : StrictRecord) (e p e' p' : ℕ) (elements params elements' params' : List (List ℕ))
-    → Checks line r e p elements params Ok tt → Checks line r' e' p' elements' params' Ok tt → Same r e p elements params r' e' p' elements' params'
+    → Checks line r e p elements params (Ok tt) → Checks line r' e' p' elements' params' (Ok tt) → Same r e p elements params r' e' p' elements' params'
 
 -- Beside a claim that is told yes, each that differs from it, in whichever number, is told 7 or 16.
 abbrev pub ChangedIsRefused : Type 0
 ChangedIsRefused =
     (line : List ℕ) (r r' : StrictRecord) (e p e' p' : ℕ) (elements params elements' params' : List (List ℕ)) (a : Result Unit Refusal)
-    → Checks line r e p elements params Ok tt → (Same r e p elements params r' e' p' elements' params' → ⊥) → Checks line r' e' p' elements' params' a
+    → Checks line r e p elements params (Ok tt) → (Same r e p elements params r' e' p' elements' params' → ⊥) → Checks line r' e' p' elements' params' a
     → (a ≡ Err refusal.Unsuitable) ⊎ (a ≡ Err refusal.WrongClaim)
 
 -- Who follows the grammar is told yes: of each division of a line that is not too long, in tables that hold the counts.

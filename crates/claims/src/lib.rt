@@ -5,15 +5,14 @@
 ghost use Rattle.std.specs.Prelude.{◌≡◌, ◌<◌};
 ghost use Rattle.claims.specs.Holds.{byte_next};
 
-use record::Refusal;
-
 // The byte `b`.
 pub fn byte_next(line: &[u8], at: usize, b: u8) -> Option<usize>
     requires { 0 < b }
     ensures { result ≡ byte_next line.now at b }
 {
-    if !base::is_at(line, at, b) {
-        return None;
+    if base::is_at(line, at, b) {
+        Some(at + 1)
+    } else {
+        None
     }
-    Some(at + 1)
 }

@@ -44,10 +44,10 @@ module _ (loose : Bool) (line : List ℕ) (at : Place) (out : List ℕ) where
 pub ruleset give_laws = (give_none, give_value)
 
 -- refusals 1 and 2 come first
-pub early_long : (n : ℕ) → line_limit < n → Err LineTooLong ≡ (if ltb line_limit n then Err LineTooLong else Err BadSetting)
+pub early_long : (n : ℕ) → line_limit < n → ◌≡◌ {A = Result ℕ Refusal} (Err LineTooLong) (if ltb line_limit n then Err LineTooLong else Err BadSetting)
 early_long n h = rw (lt-ltb line_limit n h)
 
-pub early_bad : (n : ℕ) → n ≤ line_limit → Err BadSetting ≡ (if ltb line_limit n then Err LineTooLong else Err BadSetting)
+pub early_bad : (n : ℕ) → n ≤ line_limit → ◌≡◌ {A = Result ℕ Refusal} (Err BadSetting) (if ltb line_limit n then Err LineTooLong else Err BadSetting)
 early_bad n h = rw (le-ltb line_limit n h)
 
 pub ruleset early_laws = (early_long, early_bad)

@@ -174,7 +174,7 @@ small x h o =
     rw z)
     (λ _ w.
     by_test (λ b. leb 1 (run is_digit x) ≡ b
-    → Err (if b then 3 else 0) ≡ Err (if eqb (run is_digit x) 0 then 0 else if is_at x 0 48 then 1 else if leb (decimal (take 3 x)) 191 then 3 else 2)) (leb 1 (run is_digit x))
+    → ◌≡◌ {A = Result ℕ ℕ} (Err (if b then 3 else 0)) (Err (if eqb (run is_digit x) 0 then 0 else if is_at x 0 48 then 1 else if leb (decimal (take 3 x)) 191 then 3 else 2))) (leb 1 (run is_digit x))
     (λ _ b.
     let l = leb-true 1 (run is_digit x) b in
     let g = many l w in
@@ -229,7 +229,7 @@ version_other x h =
     (if eqb (run is_digit x) 0 || is_at x 0 48 then 0 else 3)) (within 1 3 (run is_digit x))
     (λ _ w. let r = orders 1 3 (run is_digit x) w in let z = nonzero_test (run is_digit x) x r.0 ∙ ap not h in rw z)
     (λ _ w.
-    by_test (λ b. leb 1 (run is_digit x) ≡ b → Err (if b then 3 else 0) ≡ Err (if eqb (run is_digit x) 0 || is_at x 0 48 then 0 else 3)) (leb 1 (run is_digit x))
+    by_test (λ b. leb 1 (run is_digit x) ≡ b → ◌≡◌ {A = Result ℕ ℕ} (Err (if b then 3 else 0)) (Err (if eqb (run is_digit x) 0 || is_at x 0 48 then 0 else 3))) (leb 1 (run is_digit x))
     (λ _ b. let l = leb-true 1 (run is_digit x) b in rw (ne_eqb (run is_digit x) 0 (λ z. omega arith), h))
     (λ _ b. let l = leb-false 1 (run is_digit x) b in rw (eq-eqb (run is_digit x) 0 (omega arith)))
     refl)

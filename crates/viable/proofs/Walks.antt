@@ -1,6 +1,8 @@
 -- Walks over pieces, as code goes: a law for each way to make a reader.
 use Rattle.std.specs.Prelude.{Result, Ok, Err}
 use Prim.Native.Nat.{ℕ, zero, suc, ◌+◌, ◌-◌, ◌^◌, ◌≤◌, ◌<◌}
+use Rattle.std.specs.Result.{IsErr, IsErrAnd}
+use Rattle.std.proofs.lemmas.Result.{err_from_is_err_and}
 use mathlib.Core.Path.{◌≡◌, refl, sym, ap, ◌∙◌}
 use mathlib.Core.Bool.{Bool, true, false, not}
 use mathlib.Core.List.{List}
@@ -50,6 +52,10 @@ module _ {A : Type 0} (p : Reader A) (f : Far) (s : List ℕ) (at : ℕ) (w : Re
   pub got_stuck : (k : ℕ) → w ≡ Err k → Missed (p (drop at s)) (f (drop at s)) at k
   unfolding went_at
   got_stuck k h = missed (p (drop at s)) (f (drop at s)) at k (sym h ∙ e)
+
+-- what a `?` returns where a piece is not read
+pub went_err : (r : Result ℕ ℕ) (k : ℕ) → IsErr r × IsErrAnd r (λ y. y ≡ k) → r ≡ Err k
+went_err r k h = let p = err_from_is_err_and r h.1 in p.1 ∙ ap Err p.2
 
 pub onward_none : (w : Result ℕ ℕ) → onward_of 0 w ≡ w
 onward_none (Ok m) = ap Ok (let z : 0 + m ≡ m = omega arith in z)

@@ -11,8 +11,8 @@ put-next-requires c = search (added_laws, rules)
 pub put-requires-in-Pair : goal.put-requires-in-Pair
 put-requires-in-Pair c = search (added_laws, rules)
 
-pub returns-in-None : goal.returns-in-None
-returns-in-None c = search (added_laws, rules)
+pub returns-in-Nothing : goal.returns-in-Nothing
+returns-in-Nothing c = search (added_laws, rules)
 
 pub returns-in-One : goal.returns-in-One
 returns-in-One c = search (added_laws, rules)
