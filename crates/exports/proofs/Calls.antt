@@ -7,7 +7,7 @@ use mathlib.Core.List.{List}
 use lib.Dec.{eqb}
 use lib.IntN.{ℤ}
 use lib.ListN.{length}
-use borrow.Author.Tests.{lt-ltb, le-ltb, ne_eqb}
+use borrow.Author.Tests.{lt-ltb, le-ltb}
 use mir.Syntax.{w32}
 use mir.Val.{SFits, to_z, of_z}
 use mir.ValLaws.{to_z-of_z}
@@ -20,7 +20,6 @@ use Rattle.record.specs.declared.Refusal.{Refusal}
 use Rattle.record.specs.declared.Refusal.TheVariants.{NoReading}
 use Rattle.record.specs.declared.Reading.{Reading}
 use Rattle.record.specs.declared.Reading.TheVariants.{Read, Whole}
-use Rattle.record.specs.declared.StrictRecord.{StrictRecord}
 use Rattle.record.specs.declared.StrictReading.{StrictReading}
 use Rattle.layout.specs.Layout.{record_size, strict_size, strict_bytes}
 use Rattle.grammar.specs.Reading.{StrictReads}
@@ -50,16 +49,16 @@ module _ (line : List ℕ) where
   told_not_0 f a (broke n report e) = ap (λ (x : ReadAnswer). eqb x.number 0) e ∙ not_0 f
   told_not_0 f a (other z e) = ap (λ (x : ReadAnswer). eqb x.number 0) e ∙ not_0 f
 
-  told_done : (x : StrictRecord) (e p : ℕ) → StrictTold line (Ok (record { reading = x; elements = e; params = p })) (record { number = 0; whole = 0; reach = 0 })
-  told_done x e p = other (λ q. clash (ap (λ n. eqb n 4) (sym q))) refl
+  told_done : (x : StrictReading) → StrictTold line (Ok x) (record { number = 0; whole = 0; reach = 0 })
+  told_done x = other (λ q. clash (ap (λ n. eqb n 4) (sym q))) refl
 
   module _ (r : Result StrictReading Refusal) (x : StrictReading) (q : r ≡ Ok x) where
     pub strict_read : (old new : List ℕ) → new ≡ filled (strict_bytes x.reading x.elements x.params) old
         → StrictLeft line r old (record { number = 0; whole = 0; reach = 0 }) new
-    strict_read old new h = record { tells = rw q (told_done x.reading x.elements x.params); record_is = rw q h }
+    strict_read old new h = record { tells = rw q (told_done x); record_is = rw q h }
 
     pub short_read : StrictShort line r (record { number = 8; whole = 0; reach = 0 })
-    short_read = record { told = record { number = 0; whole = 0; reach = 0 }; tells = rw q (told_done x.reading x.elements x.params); answer_is = refl }
+    short_read = record { told = record { number = 0; whole = 0; reach = 0 }; tells = rw q (told_done x); answer_is = refl }
 
   module _ (r : Result StrictReading Refusal) (f : Refusal) (q : r ≡ Err f) (a : ReadAnswer) (h : StrictTold line (Err f) a) where
     pub strict_refused : (old : List ℕ) → StrictLeft line r old a old

@@ -24,13 +24,11 @@ pub fn counted(elements: &[[usize; 2]], count: usize) -> &[[usize; 2]]
 }
 
 // What is left of a room once `n` bytes are taken from it.
+#[tactic(auto, unfolding(crate::specs::Rooms::room_for))]
 pub fn room_for(left: usize, n: usize) -> Option<usize>
     ensures { result ≡ room_for left n }
 {
-    if left < n {
-        return None;
-    }
-    Some(left - n)
+    left.checked_sub(n)
 }
 
 fn element_room(left: usize, row: [usize; 2]) -> Option<usize>
@@ -45,12 +43,8 @@ pub fn elements_room(room: usize, ids: &[[usize; 2]]) -> Option<usize>
     ensures { result ≡ room_for room (total element_size ids.now) }
 {
     let mut left = room;
-    let mut i = 0;
-    while i < ids.len() {
-        let row = ids[i];
-        let a = element_room(left, row)?;
-        left = a;
-        i += 1;
+    for row in ids {
+        left = element_room(left, *row)?;
     }
     Some(left)
 }

@@ -1,7 +1,7 @@
 -- RFC 3164's forms (a) and (b), and the three in turn.
-use Rattle.std.specs.Prelude.{Option, Some, None}
+use Rattle.std.specs.Prelude.{Option, Some, None, MatchOption}
 use Prim.Native.Nat.{ℕ}
-use mathlib.Core.Path.{◌≡◌, ◌∙◌}
+use mathlib.Core.Path.{◌≡◌, refl, ap, ◌∙◌}
 use mathlib.Core.List.{List}
 use lib.IntN.{ℤ}
 use mir.Syntax.{w32}
@@ -11,7 +11,7 @@ use Rattle.parsers.specs.Steps.{some_blanks_from, colon_from, number_from}
 use Rattle.timestamp.specs.Month.{month_from}
 use Rattle.timestamp.specs.Clock.{clock_from}
 use Rattle.timestamp.specs.Rfc3339.{stamp_if, rfc3339_from}
-use Rattle.timestamp.specs.Timestamp.{day_from, without_year, utc_if, with_year, rfc3164_from}
+use Rattle.timestamp.specs.Timestamp.{day_from, without_year, utc_if, with_year, or_else, rfc3164_from}
 use Rattle.timestamp.specs.declared.Clock.{Clock}
 use Rattle.timestamp.specs.declared.Day.{Day}
 use Rattle.record.specs.declared.Timestamp.{Timestamp}
@@ -93,18 +93,20 @@ pub ruleset without_laws = (without_day, without_clock, without_is)
 pub ruleset with_laws = (with_day, with_number, with_blanks, with_clock, with_is)
 
 -- the first that is a reading
+or_else_is : (x y r : Option (Option Timestamp × ℕ)) → MatchOption x (r ≡ y) (λ v. r ≡ Some v) → r ≡ or_else x y
+or_else_is None y r h = h
+or_else_is (Some v) y r h = h
+
+or_else_again : (x y z : Option (Option Timestamp × ℕ)) → or_else (or_else x y) z ≡ or_else x (or_else y z)
+or_else_again None y z = refl
+or_else_again (Some v) y z = refl
+
 module _ (year : ℕ) (o : ℤ) (f : SFits w32 o) (s : List ℕ) (at : ℕ) (x : Option (Option Timestamp × ℕ)) (ex : x ≡ without_year year (to_z w32 (of_z w32 o)) s at) where
-  pub first_form : (t : Option Timestamp) (n : ℕ) → x ≡ Some (t, n) → x ≡ rfc3164_from year o s at
+  pub forms : (r : Option (Option Timestamp × ℕ)) → MatchOption x (r ≡ with_year (to_z w32 (of_z w32 o)) s at) (λ v. r ≡ Some v)
+      → (q : Option (Option Timestamp × ℕ)) → MatchOption r (q ≡ rfc3339_from s at) (λ v. q ≡ Some v)
+      → q ≡ rfc3164_from year o s at
   unfolding rfc3164_from
-  first_form t n z = z ∙ rw (← to_z-of_z w32 o f, ← ex, z)
-
-  module _ (zx : x ≡ None) (y : Option (Option Timestamp × ℕ)) (ey : y ≡ with_year (to_z w32 (of_z w32 o)) s at) where
-    pub second_form : (t : Option Timestamp) (n : ℕ) → y ≡ Some (t, n) → y ≡ rfc3164_from year o s at
-    unfolding rfc3164_from
-    second_form t n z = z ∙ rw (← to_z-of_z w32 o f, ← ex, zx, ← ey, z)
-
-    pub third_form : y ≡ None → (r : Option (Option Timestamp × ℕ)) → r ≡ rfc3339_from s at → r ≡ rfc3164_from year o s at
-    unfolding rfc3164_from
-    third_form z r q = q ∙ rw (← to_z-of_z w32 o f, ← ex, zx, ← ey, z)
-
-pub ruleset form_laws = (first_form, second_form, third_form)
+  forms r hr q hq =
+      let e = or_else_is r (rfc3339_from s at) q hq in
+      let d = or_else_is x (with_year (to_z w32 (of_z w32 o)) s at) r hr in
+      e ∙ ap (λ (z : Option (Option Timestamp × ℕ)). or_else z (rfc3339_from s at)) d ∙ rw (ex, to_z-of_z w32 o f) (or_else_again (without_year year o s at) (with_year o s at) (rfc3339_from s at))

@@ -13,6 +13,7 @@ use mir.Syntax.{w8}
 use mir.Val.{Fits}
 use Rattle.base.specs.Texts.{same_text}
 use Rattle.base.specs.Choose.{within}
+use Rattle.base.proofs.Pairs.{some_second}
 use Rattle.base.proofs.Tests.{clash, both, by_if}
 use Rattle.base.proofs.Parts.{step}
 use Rattle.timestamp.specs.Month.{lower, month_names, named_from, month_of, month_from}
@@ -175,16 +176,22 @@ module _ (s : List ℕ) (at : ℕ) where
     unfolding month_from
     month_yes z = rw (three s at (omega arith), ← e, ne_eqb m 0 z)
 
+  abbrev Ends : ℕ → ℕ → Option (ℕ × ℕ) → Type 0
+  Ends v n x = x ≡ Some (v, n) → n ≤ length s
+
   pub month_within : (g : Option (ℕ × ℕ)) → g ≡ month_from s at → (v n : ℕ) → g ≡ Some (v, n) → n ≤ length s
   unfolding month_from
   month_within g e v n z = go (dec_lt (length s - at) 3)
     where
-      never : None ≡ Some (v, n) → n ≤ length s
+      never : Ends v n None
       never q = let m : ◌≡◌ {A = ℕ} 0 1 = cc in absurd (omega arith)
+
+      found : (m : ℕ) → at + 3 ≤ length s → Ends v n (Some (m, at + 3))
+      found m l q = let e : at + 3 ≡ n = some_second q in omega arith
 
       go : Dec (length s - at < 3) → n ≤ length s
       go (yes h) = never (month_short h ∙ sym e ∙ z)
-      go (no h) = by_if (λ g. g ≡ Some (v, n) → n ≤ length s) (eqb (month_of (take 3 (drop at s))) 0) _ _ (λ t. never) (λ t q. let m : at + 3 ≡ n = cc in omega arith) (sym e ∙ z)
+      go (no h) = by_if (Ends v n) (eqb (month_of (take 3 (drop at s))) 0) _ _ (λ t. never) (λ t. found _ (omega arith)) (sym e ∙ z)
 
 pub ruleset month_laws = (month_arm, month_none)
 

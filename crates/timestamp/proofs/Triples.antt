@@ -9,6 +9,8 @@ use Rattle.parsers.specs.Steps.{on_read, on_some, byte_from, number_from}
 use Rattle.parsers.proofs.Steps.{number_within}
 use Rattle.timestamp.specs.Clock.{clock_from}
 use Rattle.timestamp.specs.Rfc3339.{fixed_from, date_from, time_from}
+use Rattle.timestamp.specs.declared.Clock.{Clock}
+use Rattle.timestamp.specs.declared.Date.{Date}
 use Rattle.timestamp.proofs.Onward.{on_num_lem, on_pos_lem}
 use Rattle.timestamp.proofs.Fixed.{fixed_within}
 
@@ -24,15 +26,21 @@ pub record Triple {R : Type 0} (no : R) (yes : ℕ → ℕ → ℕ → ℕ → R
       yes x y z e
   pub ends : (s : List ℕ) (at v n : ℕ) → later s at ≡ Some (v, n) → n ≤ length s
 
-pub clocks : Triple None Some (record { hour = number_from; minute = number_from; second = 58 }, clock_from)
+abbrev pub clock_then : ℕ → ℕ → ℕ → ℕ → Option (Clock × ℕ)
+clock_then hour minute second next = Some (record { hour = hour; minute = minute; second = second }, next)
+
+abbrev pub date_then : ℕ → ℕ → ℕ → ℕ → Option (Date × ℕ)
+date_then year month day next = Some (record { year = year; month = month; day = day }, next)
+
+pub clocks : Triple None clock_then number_from number_from 58 clock_from
 unfolding clock_from
 clocks = record { is = λ s at. refl; ends = λ s at v n z. number_within s at _ refl v n z }
 
-pub times : Triple None Some (record { hour = fixed_from 2; minute = fixed_from 2; second = 58 }, time_from)
+pub times : Triple None clock_then (fixed_from 2) (fixed_from 2) 58 time_from
 unfolding time_from
 times = record { is = λ s at. refl; ends = λ s at v n z. fixed_within 2 (omega arith) s at _ refl v n z }
 
-pub dates : Triple None Some (record { year = fixed_from 4; month = fixed_from 2; day = 45 }, date_from)
+pub dates : Triple None date_then (fixed_from 4) (fixed_from 2) 45 date_from
 unfolding date_from
 dates = record { is = λ s at. refl; ends = λ s at v n z. fixed_within 2 (omega arith) s at _ refl v n z }
 

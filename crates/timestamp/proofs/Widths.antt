@@ -7,6 +7,7 @@ use mathlib.Core.Bool.{◌||◌}
 use native.Mathlib.Omega.{arith}
 use lib.ListN.{length, drop}
 use Rattle.base.specs.Choose.{is_at}
+use Rattle.base.proofs.Pairs.{some_second}
 use Rattle.base.proofs.Tests.{by_if}
 use Rattle.digits.specs.Digits.{fixed_at}
 use Rattle.digits.proofs.Fixed.{fixed_len}
@@ -29,7 +30,7 @@ fixed_next k s at v n e = go (fixed_at k (drop at s)) refl e
   where
     go : (r : Option (ℕ × ℕ)) → fixed_at k (drop at s) ≡ r → moved at r ≡ Some (v, n) → n ≡ at + k
     go None q z = let m : ◌≡◌ {A = ℕ} 0 1 = cc in absurd (omega arith)
-    go (Some x) q z = let p : at + x.1 ≡ n = cc in omega (arith, (fixed_len k (drop at s) x.0 x.1 q).0)
+    go (Some x) q z = let p : at + x.1 ≡ n = some_second z in omega (arith, (fixed_len k (drop at s) x.0 x.1 q).0)
 
 module _ (s : List ℕ) (at n : ℕ) where
   byte_next_lem : (b : ℕ) → byte_from s at b ≡ Some n → n ≡ at + 1
@@ -65,9 +66,9 @@ time_to s at =
 pub full_short : (s : List ℕ) (at : ℕ) → at ≤ length s → length s - at < 19 → None ≡ full_from s at
 unfolding full_from
 full_short s at h l =
-    on_date_lem (λ r. None ≡ r) (date_from s at) _ _ refl λ year month day a e1.
-    on_pos_lem (λ r. None ≡ r) (either_from s a 84 116) _ _ refl λ b e2.
-    on_clock_lem (λ r. None ≡ r) (time_from s b) _ _ refl λ hour minute second c e3.
+    on_date_lem (λ (r : Option (Option Timestamp × ℕ)). None ≡ r) (date_from s at) _ _ refl λ year month day a e1.
+    on_pos_lem (λ (r : Option (Option Timestamp × ℕ)). None ≡ r) (either_from s a 84 116) _ _ refl λ b e2.
+    on_clock_lem (λ (r : Option (Option Timestamp × ℕ)). None ≡ r) (time_from s b) _ _ refl λ hour minute second c e3.
     let i : a ≡ at + 10 = rw e1 at (date_to s at) in
     let j : c ≡ b + 8 = rw e3 at (time_to s b) in
     let k : c ≤ length s = time_within s b (time_from s b) hour minute second c e3 refl in
@@ -80,10 +81,13 @@ pub record Fractioned (s : List ℕ) (at : ℕ) (t : Timestamp) : Type 0 where
   pub fraction : nanos_from s at ≡ Some (t.nanos, next)
   pub counted : t.digits ≡ next - at - 1
 
+abbrev pub StampFraction : List ℕ → ℕ → Option Timestamp → Type 0
+StampFraction s at None = Unit {0}
+StampFraction s at (Some t) = Fractioned s at t
+
 abbrev pub FractionOf : List ℕ → ℕ → Option (Option Timestamp × ℕ) → Type 0
 FractionOf s at None = Unit {0}
-FractionOf s at (Some x) = Unit {0}
-FractionOf s at (Some (Some t, n)) = Fractioned s at t
+FractionOf s at (Some x) = StampFraction s at x.0
 
 moved_to : (s : List ℕ) (x y : ℕ) (r : Option (Option Timestamp × ℕ)) → x ≡ y → FractionOf s x r → FractionOf s y r
 moved_to s x y r e h = rw (← e) h

@@ -403,13 +403,7 @@ pub fn rfc3164_from(
     requires { at ≤ length s.now }
     ensures { result ≡ rfc3164_from year offset s.now at }
 {
-    let a = without_year(s, at, year, offset);
-    let None = a else {
-        return a;
-    };
-    let b = with_year(s, at, offset);
-    let None = b else {
-        return b;
-    };
-    rfc3339_from(s, at)
+    without_year(s, at, year, offset)
+        .or_else(|| with_year(s, at, offset))
+        .or_else(|| rfc3339_from(s, at))
 }

@@ -1,5 +1,8 @@
 -- What a line says, written again: the same texts, but for the form of the offset and needless backslashes.
+use Rattle.std.specs.Prelude as std
 use Rattle.std.specs.Prelude.{if◌then◌else◌, Some, None}
+use Rattle.std.specs.Prelude as std
+use Rattle.record.specs.declared.Timestamp as stamped
 use Prim.Native.Nat.{ℕ, zero, suc, ◌+◌, ◌-◌, ◌*◌, ◌/◌, ◌%◌, ◌^◌, ◌≤◌, ◌<◌}
 use mathlib.Core.Path.{◌≡◌, refl, sym, ap, ◌∙◌}
 use mathlib.Core.Bool.{Bool, false, ◌&&◌, and-true}
@@ -31,6 +34,7 @@ use Rattle.claims.proofs.Numbers.{digits_again, prival_again, version_again}
 use Rattle.claims.proofs.Moments.{zone_minutes, frac_again, hour_again, minute_again, shows_again}
 use Rattle.writes.proofs.Rules.{Suitable, Writable}
 use Rattle.writes.proofs.Texts.{dash_is}
+use Rattle.record.specs.declared.Timestamp as stamped
 
 -- ---- the timestamp
 
@@ -122,7 +126,7 @@ zone_own : (o : ℤ) → nat_abs o ≤ 1439 → OwnOffset (zone_of o)
 zone_own (pos n) h = tt
 zone_own (negsuc n) h = λ e. omega (arith, zone_minutes (suc n) h)
 
-timestamp_own : (t : Option Timestamp) → Suitable t → OwnTimestamp (timestamp_of t)
+timestamp_own : (t : std.Option stamped.Timestamp) → Suitable t → OwnTimestamp (timestamp_of t)
 timestamp_own None h = tt
 timestamp_own (Some m) h = zone_own m.offset h.offset_in
 
