@@ -1,5 +1,5 @@
 -- Printing: what is measured, what is answered, and what the output holds.
-use Rattle.std.specs.Prelude.{Option, Some, None, Ok, Err}
+use Rattle.std.specs.Prelude.{is_some, Option, Some, None, Ok, Err}
 use Prim.Native.Nat.{ℕ, ◌+◌, ◌*◌, ◌≤◌, ◌<◌}
 use mathlib.Core.Path.{◌≡◌, refl, sym, ap, ◌∙◌}
 use mathlib.Core.Bool.{Bool, true, false, ◌&&◌}
@@ -75,13 +75,20 @@ module _ (line : List ℕ) (r : Record) (ids : List (List ℕ)) (a b : ℕ)
     others_out h = sym (lt-leb _ left (omega (arith, sum, room_over left _ (sym eq ∙ h))))
 
     module _ (x : ℕ) (h : q ≡ Some x) (s : Option ℕ) (es : s ≡ room_for x (total element_size ids)) where
-      pub ids_out : s ≡ None → false ≡ leb (other_size line r ids) left
+      ids_out : s ≡ None → false ≡ leb (other_size line r ids) left
       ids_out k = sym (lt-leb _ left (omega (arith, sum, room_rest left _ x (sym eq ∙ h), room_over x _ (sym es ∙ k))))
 
-      pub ids_in_lem : (y : ℕ) → s ≡ Some y → true ≡ leb (other_size line r ids) left
+      ids_in_lem : (y : ℕ) → s ≡ Some y → true ≡ leb (other_size line r ids) left
       ids_in_lem y k = sym (le-leb _ left (omega (arith, sum, room_rest left _ x (sym eq ∙ h), room_rest x _ y (sym es ∙ k))))
 
-pub ruleset others_laws = (others_sum, others_out, ids_out, ids_in_lem)
+      pub ids_told : is_some s ≡ leb (other_size line r ids) left
+      ids_told = go s refl
+        where
+          go : (q : Option ℕ) → s ≡ q → is_some q ≡ leb (other_size line r ids) left
+          go None k = ids_out k
+          go (Some y) k = ids_in_lem y k
+
+pub ruleset others_laws = (others_sum, others_out, ids_told)
 
 -- by what the parameters leave
 module _ (room : Option ℕ) (n : ℕ) where

@@ -1,4 +1,4 @@
-use Rattle.std.proofs.Common.{◌<◌, length, arith, ap, ◌∙◌}
+use Rattle.std.proofs.Common.{◌<◌, length, arith, ap, refl, ◌∙◌}
 use Rattle.record.specs.Params.{row_of, rows}
 use Rattle.record.proofs.Params.{rows_length, rows_get}
 use Rattle.message.proofs.Rooms.{measured_none, measured_on, measured_all}
@@ -6,7 +6,7 @@ use Rattle.message.proofs.Answers.{record_suits_lem, elements_counted, params_co
 use Rattle.message.proofs.fits.Goals as goal
 
 pub loop-i-init : goal.loop-i-init
-loop-i-init c = measured_none c.args.room c.args.param_count (rows c.args.params.now) _ c.room_of-left.ensures
+loop-i-init c = measured_none c.args.room c.args.param_count (rows c.args.params.now) _ refl
 
 pub fetch-p-requires : goal.fetch-p-requires
 fetch-p-requires c = omega (arith, rows_length c.args.params.now, params_counted _ _ _ _ _ _ c.requires.params_value)
