@@ -89,7 +89,7 @@ module _ {line : List ℕ} {variant year : ℕ} {offset : ℤ} {e₀ : Elements}
         record { limit = ltb-false line_limit (length line) w.short; settings = w.settings; text = w.text; none = w.is.none }
 
     alone : r ≡ Ok (loose.Whole (message_alone (length line)))
-    alone = a.is ∙ ap (λ (x : Record). Ok {E = Refusal} (loose.Whole x)) (whole_is call).is.alone
+    alone = let whole : Record → Result Reading Refusal = λ x. Ok (loose.Whole x) in a.is ∙ ap whole (whole_is call).is.alone
 
   answered_whole : Unread line variant year offset → AnsweredWhole r
   answered_whole u =
