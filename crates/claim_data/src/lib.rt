@@ -177,8 +177,7 @@ fn opens(line: &[u8], at: usize, ids: &[[usize; 2]], k: usize, last: usize) -> O
     while j < last {
         j += 1;
         let row = ids[j];
-        let b = open(line, pos, row)?;
-        pos = b;
+        pos = open(line, pos, row)?;
     }
     Some(pos)
 }

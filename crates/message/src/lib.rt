@@ -70,10 +70,7 @@ fn others_fit(left: usize, line: &[u8], r: Record, ids: &[[usize; 2]]) -> bool
     let Some(a) = room_for(left, size) else {
         return false;
     };
-    let Some(_) = elements_room(a, ids) else {
-        return false;
-    };
-    true
+    elements_room(a, ids).is_some()
 }
 
 // Whether it fits into what the parameters leave.
@@ -95,13 +92,6 @@ fn rest_fits(
     others_fit(left, line, r, counted(elements, count))
 }
 
-// All of `n` bytes.
-fn room_of(n: usize) -> Option<usize>
-    ensures { result ≡ Some n }
-{
-    Some(n)
-}
-
 // Whether the record fits into `room` bytes.
 fn fits(
     line: &[u8],
@@ -116,12 +106,9 @@ fn fits(
     requires params_value { suits line.now r element_count param_count elements.now (rows params.now) ≡ true }
     ensures { result ≡ leb (length (printed line.now r (take element_count elements.now) (take param_count (rows params.now)))) room }
 {
-    let mut left = room_of(room);
-    let mut i = 0;
-    while i < param_count {
-        let p = entries::fetch(params, i);
-        left = param_room(left, p);
-        i += 1;
+    let mut left = Some(room);
+    for p in &params[..param_count] {
+        left = param_room(left, *p);
     }
     rest_fits(left, line, r, element_count, elements)
 }
@@ -181,39 +168,11 @@ fn put_record(
 {
     let mut at = put_before(out, line, r, element_count, elements);
     let mut k = 0;
-    let mut i = 0;
-    while i < param_count {
-        let p = entries::fetch(params, i);
-        at = put_turn(out, at, line, element_count, elements, k, p);
+    for p in &params[..param_count] {
+        at = put_turn(out, at, line, element_count, elements, k, *p);
         k = p.element;
-        i += 1;
     }
     put_behind(out, at, line, r, element_count, elements, k)
-}
-
-// The tests and the answers of `print`, which names the table and so only calls.
-fn is_long(n: usize) -> bool
-    ensures { result ≡ ltb line_limit n }
-{
-    record::LINE_LIMIT < n
-}
-
-fn too_long() -> Result<usize, Refusal>
-    ensures { result ≡ Err LineTooLong }
-{
-    Err(Refusal::LineTooLong)
-}
-
-fn short() -> Result<usize, Refusal>
-    ensures { result ≡ Err OutputShort }
-{
-    Err(Refusal::OutputShort)
-}
-
-fn done(n: usize) -> Result<usize, Refusal>
-    ensures { result ≡ Ok n }
-{
-    Ok(n)
 }
 
 // The service: the record as text, into `out`.
@@ -228,17 +187,23 @@ pub fn print(
 ) -> Result<usize, Refusal>
     ensures { Prints line.now r element_count param_count elements.now (rows params.now) out.old result out.new }
 {
-    let n = line.len();
-    if is_long(n) {
-        return too_long();
+    if record::LINE_LIMIT < line.len() {
+        return Err(Refusal::LineTooLong);
     }
-    if suits::is_suitable(line, r, element_count, param_count, elements, params) {
-        let room = out.len();
-        if fits(line, r, element_count, param_count, elements, params, room) {
-            let end = put_record(out, line, r, element_count, param_count, elements, params);
-            return done(end);
-        }
-        return short();
+    if !suits::is_suitable(line, r, element_count, param_count, elements, params) {
+        return Err(Refusal::Unsuitable);
     }
-    suits::unsuitable()
+    if !fits(
+        line,
+        r,
+        element_count,
+        param_count,
+        elements,
+        params,
+        out.len(),
+    ) {
+        return Err(Refusal::OutputShort);
+    }
+    let end = put_record(out, line, r, element_count, param_count, elements, params);
+    Ok(end)
 }

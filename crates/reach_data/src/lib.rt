@@ -129,8 +129,7 @@ fn params(s: &[u8], at: usize) -> Result<usize, usize>
 {
     let mut i = at;
     while is_at(s, i, b' ') {
-        let n = param(s, i + 1)?;
-        i = n;
+        i = param(s, i + 1)?;
     }
     bracket(s, i)
 }

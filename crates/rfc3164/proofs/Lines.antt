@@ -100,29 +100,27 @@ module _ (s : List ℕ) (at : ℕ) (g : Option Counts) (eg : g ≡ counts_of (da
       go no_data q = refl
       go (is_data rows) q = let m : ◌≡◌ {A = ℕ} 0 1 = cc in absurd (omega arith)
 
-  module _ (e p n : ℕ) (z : g ≡ Some (record { elements = e; params = p; next = n })) where
-    pub rest_some : (m : ℕ) → m ≡ blanks_from s n → record { elements = e; params = p; message = m } ≡ rest_from s at
+  module _ (c : Counts) (z : g ≡ Some c) where
+    pub rest_some : (m : ℕ) → m ≡ blanks_from s c.next → record { elements = c.elements; params = c.params; message = m } ≡ rest_from s at
     rest_some m em = rw em (go (data_from Rfc3164Rules s at) (sym eg ∙ z))
       where
-        go : (d : Data) → counts_of d ≡ Some (record { elements = e; params = p; next = n }) → record { elements = e; params = p; message = blanks_from s n } ≡ rest_of s (rows_or at d)
+        go : (d : Data) → counts_of d ≡ Some c → record { elements = c.elements; params = c.params; message = blanks_from s c.next } ≡ rest_of s (rows_or at d)
         go no_data q = let m : ◌≡◌ {A = ℕ} 0 1 = cc in absurd (omega arith)
         go (is_data rows) q =
-            let a : e ≡ length rows.elements = cc in
-            let b : p ≡ length rows.params = cc in
-            let c : n ≡ rows.next = cc in
-            rw (a, b, c)
+            let k : ◌≡◌ {A = Counts} c (record { elements = length rows.elements; params = length rows.params; next = rows.next }) = cc in
+            rw k refl
 
-    pub rest_within : at ≤ length s → n ≤ length s
-    rest_within h = data_within Rfc3164Rules s at h g eg e p n z
+    pub rest_within : at ≤ length s → c.next ≤ length s
+    rest_within h = data_within Rfc3164Rules s at h g eg c z
 
 pub ruleset rest_laws = (rest_none, rest_some, rest_within)
 
 pub message_within : (s : List ℕ) (at : ℕ) → at ≤ length s → (r : Rest) → r ≡ rest_from s at → r.message ≤ length s
-message_within s at h r e = rw e (go (data_from Rfc3164Rules s at) (λ e p n z. data_within Rfc3164Rules s at h _ refl e p n z))
+message_within s at h r e = rw e (go (data_from Rfc3164Rules s at) (λ c z. data_within Rfc3164Rules s at h _ refl c z))
   where
-    go : (d : Data) → ((e p n : ℕ) → counts_of d ≡ Some (record { elements = e; params = p; next = n }) → n ≤ length s) → (rest_of s (rows_or at d)).message ≤ length s
+    go : (d : Data) → ((c : Counts) → counts_of d ≡ Some c → c.next ≤ length s) → (rest_of s (rows_or at d)).message ≤ length s
     go no_data i = blanks_within s at _ refl h
-    go (is_data rows) i = blanks_within s rows.next _ refl (i _ _ _ refl)
+    go (is_data rows) i = blanks_within s rows.next _ refl (i _ refl)
 
 -- behind the timestamp
 pub record_is : (pri : Pri) (stamp : Option Timestamp) (names : Names) (message : Span) (n : Place) → n ≡ absent

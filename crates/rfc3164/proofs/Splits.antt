@@ -12,6 +12,7 @@ use mir.Syntax.{w64}
 use mir.Val.{Fits}
 use Rattle.base.specs.Choose.{is_at}
 use Rattle.base.specs.Runs.{run}
+use Rattle.base.proofs.Pairs.{some_first, some_second}
 use Rattle.base.proofs.Tests.{clash}
 use Rattle.base.proofs.Parts.{at_below}
 use Rattle.base.proofs.Runs.{run_le}
@@ -33,15 +34,19 @@ module _ (s : List ℕ) (end : ℕ) (t : Bool) (e : t ≡ is_at s end 93) where
 
 pub ruleset closes_laws = (unclosed, closed, closed_fits)
 
+-- a split that is there
+abbrev parts : ℕ → ℕ → Option (ℕ × ℕ)
+parts a p = Some (a, p)
+
 -- the split by its last test
 split_by : (s : List ℕ) (a p : ℕ) → a ≡ run is_app s → p ≡ run is_inside (drop (a + 1) s)
-    → split_at s ≡ (if is_at s a 91 && leb 1 p && closes_at s (a + 1 + p) then Some (a, p) else None)
+    → split_at s ≡ (if is_at s a 91 && leb 1 p && closes_at s (a + 1 + p) then parts a p else None)
 unfolding split_at
 split_by s a p ea ep =
     let q : a + p + 2 ≡ a + 1 + p + 1 = omega arith in
     rw (← ea, ← ep, q) (go (is_at s a 91 && leb 1 p) (is_at s (a + 1 + p) 93) (eqb (a + 1 + p + 1) (length s)))
   where
-    go : (b c d : Bool) → (if b && c && d then Some (a, p) else None) ≡ (if b && (c && d) then Some (a, p) else None)
+    go : (b c d : Bool) → (if b && c && d then parts a p else None) ≡ (if b && (c && d) then parts a p else None)
     go true c d = refl
     go false c d = refl
 
@@ -68,7 +73,7 @@ module _ (s : List ℕ) (a : ℕ) (ea : a ≡ run is_app s) (t : Bool) (et : t �
       pid_fits l = record { fits = omega (arith, open_within, pid_is, run_le is_inside (drop (a + 1) s), length-drop (a + 1) s) }
 
       module _ (z : p ≡ 0 → ⊥) (d : Bool) (ed : d ≡ closes_at s (a + 1 + p)) where
-        split_is : split_at s ≡ (if d then Some (a, p) else None)
+        split_is : split_at s ≡ (if d then parts a p else None)
         split_is = split_by s a p ea pid_is ∙ rw (← et, not-false t ht, le-leb 1 p (omega arith), ed)
 
         pub split_unclosed : not d ≡ true → None ≡ split_at s
@@ -97,10 +102,10 @@ parts_fill t a p e = go (is_at t a' 91 && leb 1 p' && is_at t (a' + 1 + p') 93) 
     p' : ℕ
     p' = run is_inside (drop (a' + 1) t)
 
-    go : (b d : Bool) → eqb (a' + p' + 2) (length t) ≡ d → (if b && d then Some (a', p') else None) ≡ Some (a, p) → a + p + 2 ≡ length t
+    go : (b d : Bool) → eqb (a' + p' + 2) (length t) ≡ d → (if b && d then parts a' p' else None) ≡ parts a p → a + p + 2 ≡ length t
     go true true h e =
-        let q : a ≡ a' = cc in
-        let r : p ≡ p' = cc in
+        let q : a' ≡ a = some_first e in
+        let r : p' ≡ p = some_second e in
         omega (arith, eqb-true (a' + p' + 2) (length t) h)
     go true false h e = clash (cc)
     go false d h e = clash (cc)

@@ -11,7 +11,7 @@ ghost use Rattle.rfc3164.specs.Steps.{closes_at, FieldWithin, rest_from, record_
 use draft::Draft;
 use pri::Pri;
 use record::{Place, Protocol, Record, Span, Timestamp};
-use structured_data::{Counts, Rules};
+use structured_data::Rules;
 
 // What host and tag give.
 #[derive(Clone, Copy)]
@@ -233,25 +233,17 @@ fn rest_from(s: &[u8], at: usize) -> Rest
     requires { at ≤ length s.now }
     ensures { result ≡ rest_from s.now at }
 {
-    let Some(
-        Counts {
-            elements,
-            params,
-            next,
-        },
-    ) = structured_data::count_data(Rules::Rfc3164Rules, s, at)
-    else {
+    let Some(counts) = structured_data::count_data(Rules::Rfc3164Rules, s, at) else {
         return Rest {
             elements: 0,
             params: 0,
             message: parsers::blanks_from(s, at),
         };
     };
-    let text = parsers::blanks_from(s, next);
     Rest {
-        elements,
-        params,
-        message: text,
+        elements: counts.elements,
+        params: counts.params,
+        message: parsers::blanks_from(s, counts.next),
     }
 }
 

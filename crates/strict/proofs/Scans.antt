@@ -1,4 +1,5 @@
 -- The first pass: what its pieces answer, and the division that they make.
+use Rattle.std.specs.Prelude as std
 use Rattle.std.specs.Prelude.{Some, None}
 use Prim.Native.Nat.{ℕ, ◌+◌, ◌-◌, ◌^◌, ◌≤◌, ◌<◌}
 use mathlib.Core.Path.{◌≡◌, refl, sym, ap, ◌∙◌}
@@ -82,11 +83,11 @@ unfolding message choose at_end
 message_there [] m b e = let z : true ≡ false = cc in clash z
 message_there (x ∷ v) m b e = omega arith
 
-module _ (s : List ℕ) (f : Option HeaderAt) (e : f ≡ heading (header s)) where
+module _ (s : List ℕ) (f : std.Option HeaderAt) (e : f ≡ heading (header s)) where
   pub scan_no_header : f ≡ None → NoScan ≡ scan_of (parse s)
   scan_no_header h = no_header s (header_none s f e h).is
 
-  module _ (x : HeaderAt) (h : f ≡ Some x) (u : List ℕ) (eu : u ≡ drop x.next s) (g : Option Counts) (eg : g ≡ counts_of (structured u)) where
+  module _ (x : HeaderAt) (h : f ≡ Some x) (u : List ℕ) (eu : u ≡ drop x.next s) (g : std.Option Counts) (eg : g ≡ counts_of (structured u)) where
     pub scan_no_data : g ≡ None → NoScan ≡ scan_of (parse s)
     scan_no_data z =
         let w = header_some s f e x h in

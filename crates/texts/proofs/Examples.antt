@@ -1,4 +1,5 @@
 -- Worked examples, computed from the definitions: timestamps that are read and printed again.
+use Rattle.std.specs.Prelude as std
 use Rattle.std.specs.Prelude.{Some, None}
 use Prim.Native.Nat.{ℕ}
 use mathlib.Core.Path.{◌≡◌, refl}
@@ -19,8 +20,9 @@ use Rattle.grammar.specs.Line.{Offset, Timestamp}
 use Rattle.grammar.specs.Reading.{stamp_of}
 use Rattle.output.specs.Numerals.{fixed}
 use Rattle.message_stamp.specs.Stamps.{date_text, time_text, clock_text, fraction_text, offset_text, stamp_text}
+use Rattle.record.specs.declared.Timestamp as stamped
 
-abbrev printed : Option (Option Timestamp × ℕ) → List ℕ
+abbrev printed : std.Option (std.Option stamped.Timestamp × ℕ) → List ℕ
 printed None = []
 printed (Some x) = stamp_text x.0
 

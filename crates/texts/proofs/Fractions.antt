@@ -1,4 +1,5 @@
 -- A fraction is printed as it was read.
+use Rattle.std.specs.Prelude as std
 use Rattle.std.specs.Prelude.{if◌then◌else◌, Some, None}
 use Prim.Native.Nat.{ℕ, zero, suc, ◌+◌, ◌-◌, ◌*◌, ◌/◌, ◌%◌, ◌^◌, ◌≤◌}
 use mathlib.Core.Path.{◌≡◌, refl, sym, ap, ◌∙◌}
@@ -84,16 +85,16 @@ fraction_again s v k i =
 -- ---- form (c)
 
 module _ (s : List ℕ) (at n a : ℕ) where
-  pointless : Some (0, at) ≡ Some (n, a) → fraction_text (a - at - 1) n ≡ []
+  pointless : Some (0 , at) ≡ Some (n , a) → fraction_text (a - at - 1) n ≡ []
   pointless e =
       let p : at ≡ a = cc in
       sym (fraction_none (a - at - 1) n (omega arith))
 
-  pointed : is_at s at 46 ≡ true → moved (at + 1) (fraction_at 9 (drop (at + 1) s)) ≡ Some (n, a)
+  pointed : is_at s at 46 ≡ true → moved (at + 1) (fraction_at 9 (drop (at + 1) s)) ≡ Some (n , a)
       → fraction_text (a - at - 1) n ≡ text_at s at (suc (digit_run (drop (at + 1) s)))
   pointed t e = go (fraction_at 9 (drop (at + 1) s)) refl e
     where
-      go : (r : Option (ℕ × ℕ)) → fraction_at 9 (drop (at + 1) s) ≡ r → moved (at + 1) r ≡ Some (n, a)
+      go : (r : std.Option (ℕ × ℕ)) → fraction_at 9 (drop (at + 1) s) ≡ r → moved (at + 1) r ≡ Some (n , a)
           → fraction_text (a - at - 1) n ≡ text_at s at (suc (digit_run (drop (at + 1) s)))
       go None q z = let m : ◌≡◌ {A = ℕ} 0 1 = cc in absurd (omega arith)
       go (Some x) q z =
@@ -109,12 +110,12 @@ module _ (s : List ℕ) (at n a : ℕ) where
           ∙ ap (λ (j : ℕ). 46 ∷ take j (drop (at + 1) s)) i.whole
           ∙ sym (ap (take (suc (digit_run (drop (at + 1) s)))) front)
 
-  stands : nanos_from s at ≡ Some (n, a) → fraction_text (a - at - 1) n ≡ standing s at
+  stands : nanos_from s at ≡ Some (n , a) → fraction_text (a - at - 1) n ≡ standing s at
   unfolding nanos_from
   stands =
       by_test
       (λ b.
-      (if b then moved (at + 1) (fraction_at 9 (drop (at + 1) s)) else Some (0, at)) ≡ Some (n, a)
+      (if b then moved (at + 1) (fraction_at 9 (drop (at + 1) s)) else Some (0 , at)) ≡ Some (n , a)
       → fraction_text (a - at - 1) n ≡ (if b then text_at s at (suc (digit_run (drop (at + 1) s))) else []))
       (is_at s at 46) pointed (λ t. pointless)
 
@@ -123,15 +124,15 @@ printed_again s at t f = ap (λ (d : ℕ). fraction_text d t.nanos) f.counted �
 
 -- ---- the loose readers
 
-abbrev StampKept : ℕ → ℤ → List ℕ → Option Timestamp → Type 0
+abbrev StampKept : ℕ → ℤ → List ℕ → std.Option Timestamp → Type 0
 StampKept year offset s None = Unit {0}
 StampKept year offset s (Some t) = Kept year offset s t
 
-abbrev StampingKept : ℕ → ℤ → List ℕ → Option (Option Timestamp × ℕ) → Type 0
+abbrev StampingKept : ℕ → ℤ → List ℕ → std.Option (std.Option Timestamp × ℕ) → Type 0
 StampingKept year offset s None = Unit {0}
 StampingKept year offset s (Some x) = StampKept year offset s x.0
 
-abbrev StartKept : ℕ → ℤ → List ℕ → Option (Start × ℕ) → Type 0
+abbrev StartKept : ℕ → ℤ → List ℕ → std.Option (Start × ℕ) → Type 0
 StartKept year offset s None = Unit {0}
 StartKept year offset s (Some x) = StampKept year offset s x.0.timestamp
 
@@ -140,27 +141,27 @@ OutcomeKept year offset s no_reading = Unit {0}
 OutcomeKept year offset s (is_reading r at rows) = StampKept year offset s r.timestamp
 
 -- forms (a) and (b) have no digits
-abbrev Digitless : Option (Option Timestamp × ℕ) → Type 0
+abbrev Digitless : std.Option (std.Option Timestamp × ℕ) → Type 0
 Digitless None = Unit {0}
 Digitless (Some x) = Unit {0}
-Digitless (Some (Some t, n)) = t.digits ≡ 0
+Digitless (Some (Some t , n)) = t.digits ≡ 0
 
 stamp_none : (t : DateTime) (offset : ℤ) (next : ℕ) → Digitless (stamp_if t 0 0 offset next)
 stamp_none t offset next =
-    by_if Digitless (valid t) (Some (Some (record { seconds = seconds_of t offset; nanos = 0; digits = 0; offset = offset }), next)) None (λ v. refl) (λ v. tt)
+    by_if Digitless (valid t) (Some (Some (record { seconds = seconds_of t offset; nanos = 0; digits = 0; offset = offset }) , next)) None (λ v. refl) (λ v. tt)
 
 utc_none : (t : DateTime) (offset : ℤ) (next : ℕ) → Digitless (utc_if t offset next)
 utc_none t offset next =
     let seconds = seconds_of t (pos 0) in
-    by_if Digitless (valid t && is_shown (shown seconds offset)) (Some (Some (record { seconds = seconds; nanos = 0; digits = 0; offset = offset }), next))
+    by_if Digitless (valid t && is_shown (shown seconds offset)) (Some (Some (record { seconds = seconds; nanos = 0; digits = 0; offset = offset }) , next))
     None (λ v. refl) (λ v. tt)
 
 module _ (year : ℕ) (offset : ℤ) (s : List ℕ) where
   module _ (at : ℕ) where
-    full_kept : (g : Option (Option Timestamp × ℕ)) → g ≡ rfc3339_from s at → FractionOf s (at + 19) g → StampingKept year offset s g
+    full_kept : (g : std.Option (std.Option Timestamp × ℕ)) → g ≡ rfc3339_from s at → FractionOf s (at + 19) g → StampingKept year offset s g
     full_kept None e f = tt
     full_kept (Some x) e f = tt
-    full_kept (Some (Some t, n)) e f = in_form_c at n (sym e) (printed_again s (at + 19) t f)
+    full_kept (Some (Some t , n)) e f = in_form_c at n (sym e) (printed_again s (at + 19) t f)
 
     rfc3339_kept : StampingKept year offset s (rfc3339_from s at)
     rfc3339_kept = full_kept (rfc3339_from s at) refl (rfc3339_of s at)
@@ -181,22 +182,22 @@ module _ (year : ℕ) (offset : ℤ) (s : List ℕ) where
         on_clock_lem Digitless (clock_from s c) _ _ tt λ hour minute second d e4.
         utc_none _ offset _
 
-    own_kept : (g : Option (Option Timestamp × ℕ)) → g ≡ or_else (without_year year offset s at) (with_year offset s at) → Digitless g → StampingKept year offset s g
+    own_kept : (g : std.Option (std.Option Timestamp × ℕ)) → g ≡ or_else (without_year year offset s at) (with_year offset s at) → Digitless g → StampingKept year offset s g
     own_kept None e h = tt
     own_kept (Some x) e h = tt
-    own_kept (Some (Some t, n)) e h = in_form_a_b at n (sym e) (sym (fraction_none t.digits t.nanos h))
+    own_kept (Some (Some t , n)) e h = in_form_a_b at n (sym e) (sym (fraction_none t.digits t.nanos h))
 
-    either_kept : (x y : Option (Option Timestamp × ℕ)) → x ≡ without_year year offset s at → y ≡ with_year offset s at → Digitless x → Digitless y
+    either_kept : (x y : std.Option (std.Option Timestamp × ℕ)) → x ≡ without_year year offset s at → y ≡ with_year offset s at → Digitless x → Digitless y
         → StampingKept year offset s (or_else x (or_else y (rfc3339_from s at)))
-    either_kept (Some x) y ex ey hx hy = own_kept (Some (x.0, x.1)) (ap (λ (z : Option (Option Timestamp × ℕ)). or_else z (with_year offset s at)) ex) hx
-    either_kept None (Some x) ex ey hx hy = own_kept (Some (x.0, x.1)) (ey ∙ ap (λ (z : Option (Option Timestamp × ℕ)). or_else z (with_year offset s at)) ex) hy
+    either_kept (Some x) y ex ey hx hy = own_kept (Some (x.0 , x.1)) (ap (λ (z : std.Option (std.Option Timestamp × ℕ)). or_else z (with_year offset s at)) ex) hx
+    either_kept None (Some x) ex ey hx hy = own_kept (Some (x.0 , x.1)) (ey ∙ ap (λ (z : std.Option (std.Option Timestamp × ℕ)). or_else z (with_year offset s at)) ex) hy
     either_kept None None ex ey hx hy = rfc3339_kept
 
     rfc3164_kept : StampingKept year offset s (rfc3164_from year offset s at)
     unfolding rfc3164_from
     rfc3164_kept = either_kept (without_year year offset s at) (with_year offset s at) refl refl without_none with_none
 
-    start_of_lem : (v : ℕ) (g : Option (Option Timestamp × ℕ)) → StampingKept year offset s g → StartKept year offset s (rfc5424.start_of v g)
+    start_of_lem : (v : ℕ) (g : std.Option (std.Option Timestamp × ℕ)) → StampingKept year offset s g → StartKept year offset s (rfc5424.start_of v g)
     start_of_lem v None h = tt
     start_of_lem v (Some x) h = h
 
@@ -227,7 +228,7 @@ module _ (year : ℕ) (offset : ℤ) (s : List ℕ) where
         from : ℕ
         from = blanks_from s (start + pri.next)
 
-        go : (g : Option (Option Timestamp × ℕ)) → StampingKept year offset s g → OutcomeKept year offset s (rfc3164.on_read g no_reading (λ stamp a. rfc3164.body_from pri stamp s a))
+        go : (g : std.Option (std.Option Timestamp × ℕ)) → StampingKept year offset s g → OutcomeKept year offset s (rfc3164.on_read g no_reading (λ stamp a. rfc3164.body_from pri stamp s a))
         go None h = tt
         go (Some x) h = h
 
@@ -247,7 +248,7 @@ secfrac_again (some f) h =
     fraction_again (f ++ []) _ (length f) (fraction_is 9 (f ++ []) _ (length f) e)
     ∙ ap (λ (l : List ℕ). 46 ∷ l) (take-append_seam f [] ∙ sym (append-nil f))
 
-abbrev written_of : Option Timestamp → List ℕ
+abbrev written_of : std.Option Timestamp → List ℕ
 written_of None = []
 written_of (Some t) = written t
 

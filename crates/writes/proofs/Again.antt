@@ -1,5 +1,7 @@
 -- What a line says, written again: the same texts, but for the form of the offset and needless backslashes.
+use Rattle.std.specs.Prelude as std
 use Rattle.std.specs.Prelude.{if◌then◌else◌, Some, None}
+use Rattle.record.specs.declared.Timestamp as stamped
 use Prim.Native.Nat.{ℕ, zero, suc, ◌+◌, ◌-◌, ◌*◌, ◌/◌, ◌%◌, ◌^◌, ◌≤◌, ◌<◌}
 use mathlib.Core.Path.{◌≡◌, refl, sym, ap, ◌∙◌}
 use mathlib.Core.Bool.{Bool, false, ◌&&◌, and-true}
@@ -122,7 +124,7 @@ zone_own : (o : ℤ) → nat_abs o ≤ 1439 → OwnOffset (zone_of o)
 zone_own (pos n) h = tt
 zone_own (negsuc n) h = λ e. omega (arith, zone_minutes (suc n) h)
 
-timestamp_own : (t : Option Timestamp) → Suitable t → OwnTimestamp (timestamp_of t)
+timestamp_own : (t : std.Option stamped.Timestamp) → Suitable t → OwnTimestamp (timestamp_of t)
 timestamp_own None h = tt
 timestamp_own (Some m) h = zone_own m.offset h.offset_in
 

@@ -1,4 +1,5 @@
 -- Worked examples, computed from the definitions: fields and the lines that are written of them, and what is refused.
+use Rattle.std.specs.Prelude as std
 use Rattle.std.specs.Prelude.{Some, None, Result, Ok, Err}
 use Prim.Native.Nat.{ℕ}
 use mathlib.Core.Path.{◌≡◌, refl}
@@ -33,10 +34,10 @@ use Rattle.writes.specs.Writes.{place_in, fields_in, answered}
 use Rattle.record.specs.declared.Timestamp.{Timestamp}
 use Rattle.record.specs.declared.Refusal.{Refusal}
 
-abbrev stamp : ℤ → ℕ → ℕ → ℤ → Option Timestamp
+abbrev stamp : ℤ → ℕ → ℕ → ℤ → std.Option Timestamp
 stamp s n d o = Some (record { seconds = s; nanos = n; digits = d; offset = o })
 
-abbrev tap : Option Timestamp → List ℕ → Option (List ℕ) → Fields
+abbrev tap : std.Option Timestamp → List ℕ → Option (List ℕ) → Fields
 tap t value m =
     record {
       priority = 34;
@@ -110,7 +111,7 @@ not_own f = f refl
 
 -- ---- what breaks the grammar: on each side of each limit
 
-abbrev bare : ℕ → ℕ → Option Timestamp → Fields
+abbrev bare : ℕ → ℕ → std.Option Timestamp → Fields
 bare p v t = record { priority = p; version = v; timestamp = t; host = none; app = none; procid = none; msgid = none; elements = []; message = none }
 
 numbers : map fields_fit

@@ -1,4 +1,5 @@
 -- The tests of refusals 7 and 17 say what the rules say.
+use Rattle.std.specs.Prelude as std
 use Rattle.std.specs.Prelude.{if◌then◌else◌, Some, None}
 use Prim.Native.Nat.{ℕ, ◌-◌, ◌%◌, ◌^◌}
 use mathlib.Core.Path.{◌≡◌, refl, sym, ap, ◌∙◌}
@@ -71,11 +72,11 @@ message_complete (some m) h = message_test m h
 
 -- ---- the timestamp
 
-suits_sound : (t : Option Timestamp) → stamp_suits t ≡ true → Suitable t
+suits_sound : (t : std.Option Timestamp) → stamp_suits t ≡ true → Suitable t
 suits_sound None h = tt
 suits_sound (Some t) h = stamp_in_lem t h
 
-suits_complete : (t : Option Timestamp) → Suitable t → stamp_suits t ≡ true
+suits_complete : (t : std.Option Timestamp) → Suitable t → stamp_suits t ≡ true
 suits_complete None h = refl
 suits_complete (Some t) h =
     rw (
@@ -86,11 +87,11 @@ suits_complete (Some t) h =
       h.shows,
     )
 
-digits_sound : (t : Option Timestamp) → digits_fit t ≡ true → FewDigits t
+digits_sound : (t : std.Option Timestamp) → digits_fit t ≡ true → FewDigits t
 digits_sound None h = tt
 digits_sound (Some m) h = leb-true m.digits 6 h
 
-digits_complete : (t : Option Timestamp) → FewDigits t → digits_fit t ≡ true
+digits_complete : (t : std.Option Timestamp) → FewDigits t → digits_fit t ≡ true
 digits_complete None h = refl
 digits_complete (Some m) h = le-leb m.digits 6 h
 

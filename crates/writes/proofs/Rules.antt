@@ -1,4 +1,5 @@
 -- The rules of the fields, as facts: refusal 7 for the timestamp, refusal 17 for the rest.
+use Rattle.std.specs.Prelude as std
 use Rattle.std.specs.Prelude.{Some, None}
 use Prim.Native.Nat.{ℕ, ◌≤◌}
 use mathlib.Core.Path.{◌≡◌}
@@ -12,11 +13,11 @@ use Rattle.grammar.specs.Line.{Param, Element, Each, MessageOk, ids_of}
 use Rattle.writes.specs.Fields.{Fields}
 use Rattle.record.specs.declared.Timestamp.{Timestamp}
 
-abbrev pub Suitable : Option Timestamp → Type 0
+abbrev pub Suitable : std.Option Timestamp → Type 0
 Suitable None = Unit {0}
 Suitable (Some t) = StampIn t
 
-abbrev pub FewDigits : Option Timestamp → Type 0
+abbrev pub FewDigits : std.Option Timestamp → Type 0
 FewDigits None = Unit {0}
 FewDigits (Some t) = t.digits ≤ 6
 

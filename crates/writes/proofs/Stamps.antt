@@ -1,4 +1,5 @@
 -- The timestamp: what is written of it is a timestamp of the grammar and says the same; and what a timestamp of the grammar says may be written.
+use Rattle.std.specs.Prelude as std
 use Rattle.std.specs.Prelude.{Some, None}
 use Prim.Native.Nat.{ℕ, suc, ◌≤◌}
 use mathlib.Core.Path.{◌≡◌, refl, ap}
@@ -51,11 +52,11 @@ module _ (m : instant.Timestamp) (h : StampIn m) (few : m.digits ≤ 6) where
         shown_seconds m.seconds m.offset c h.shows,
       )
 
-pub timestamp_written : (t : Option Timestamp) → Suitable t → FewDigits t → TimestampOk (timestamp_of t)
+pub timestamp_written : (t : std.Option instant.Timestamp) → Suitable t → FewDigits t → TimestampOk (timestamp_of t)
 timestamp_written None h f = tt
 timestamp_written (Some m) h f = instant_ok m h f
 
-pub timestamp_said : (t : Option Timestamp) → Suitable t → FewDigits t → stamp_of (timestamp_of t) ≡ t
+pub timestamp_said : (t : std.Option instant.Timestamp) → Suitable t → FewDigits t → stamp_of (timestamp_of t) ≡ t
 timestamp_said None h f = refl
 timestamp_said (Some m) h f = instant_said m h f
 

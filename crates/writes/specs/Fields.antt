@@ -1,4 +1,5 @@
 -- The fields of a strict line, as a caller has them.
+use Rattle.std.specs.Prelude as std
 use Rattle.std.specs.Prelude.{ℕ, List}
 use Rattle.std.proofs.Math.Option.{Option}
 use Rattle.grammar.specs.Line.{Element}
@@ -8,7 +9,7 @@ use Rattle.record.specs.declared.Timestamp.{Timestamp}
 pub record Fields : Type 0 where
   pub priority : ℕ
   pub version : ℕ
-  pub timestamp : Option Timestamp
+  pub timestamp : std.Option Timestamp
   pub host : Option (List ℕ)
   pub app : Option (List ℕ)
   pub procid : Option (List ℕ)

@@ -1,4 +1,5 @@
 -- Refusal 17: the fields that the grammar has a line for, apart from the timestamp's own rules (refusal 7).
+use Rattle.std.specs.Prelude as std
 use Rattle.std.specs.Prelude.{ℕ, Bool, true, not, ◌&&◌, List, [], ◌∷◌, leb, eqb, length, Some, None}
 use Rattle.std.proofs.Math.Option.{Option, none, some}
 use Rattle.base.specs.Choose.{within, is_at}
@@ -12,7 +13,7 @@ use Rattle.writes.specs.Fields.{Fields}
 use Rattle.record.specs.declared.Timestamp.{Timestamp}
 
 -- the fraction has at most six digits
-abbrev pub digits_fit : Option Timestamp → Bool
+abbrev pub digits_fit : std.Option Timestamp → Bool
 digits_fit None = true
 digits_fit (Some t) = leb t.digits 6
 

@@ -1,4 +1,5 @@
 -- What is handed in over a lent text, and the contract of the writer: refusals 7, 17, 1 and 8, the length, and the output.
+use Rattle.std.specs.Prelude as std
 use Rattle.std.specs.Prelude.{ℕ, ◌≡◌, not, List, ltb, eqb, length, take, if◌then◌else◌, Some, None, Result, Ok, Err}
 use Rattle.std.proofs.Math.Option.{Option, none, some}
 use Rattle.base.specs.Texts.{text_at}
@@ -22,7 +23,7 @@ use Rattle.record.specs.declared.Refusal.{Refusal}
 abbrev pub part_in : List ℕ → Part → Option (List ℕ)
 part_in text p = if eqb p.present 0 then none else some (text_at text p.start p.len)
 
-abbrev pub stamp_in : Handed → Option Timestamp
+abbrev pub stamp_in : Handed → std.Option Timestamp
 stamp_in h =
     if eqb h.stamped 0 then None
     else Some (record { seconds = h.seconds; nanos = h.nanos; digits = h.digits; offset = h.offset })

@@ -33,9 +33,9 @@ pub returns-in-NoTail : goal.returns-in-NoTail
 returns-in-NoTail c = search (scan_laws, rules)
 
 pub returns-in-NoMessage : goal.returns-in-NoMessage
-returns-in-NoMessage c = scan_none _ _ c.read_header.ensures _ c.in-Some.is _ c.past-s.ensures _ c.count_data.ensures _ _ _ c.in-Some.is _ c.past.ensures _
+returns-in-NoMessage c = scan_none _ _ c.read_header.ensures _ c.in-Some.is _ c.past-s.ensures _ c.count_data.ensures _ _ _ c.in-Some-count_data.is _ c.past.ensures _
     c.read_tail-tail.ensures c.in-NoMessage.is _ c.record_of-r.ensures
 
 pub returns-in-IsMessage : goal.returns-in-IsMessage
-returns-in-IsMessage c = scan_message _ _ c.read_header.ensures _ c.in-Some.is _ c.past-s.ensures _ c.count_data.ensures _ _ _ c.in-Some.is _ c.past.ensures _
+returns-in-IsMessage c = scan_message _ _ c.read_header.ensures _ c.in-Some.is _ c.past-s.ensures _ c.count_data.ensures _ _ _ c.in-Some-count_data.is _ c.past.ensures _
     c.read_tail-tail.ensures _ c.in-IsMessage.is _ c.record_of-r-in-IsMessage.ensures
