@@ -24,13 +24,13 @@ use Rattle.tallier.specs.Frames.{told_of, reading_of, TalliesReading, Tallies, R
 
 -- ---- one frame
 
-pub told_refused : (a : Result Unit Refusal) (f : Refusal) → a ≡ Err f → tallied.Refused f ≡ told_of a
+pub told_refused : (a : Result (Unit {0}) Refusal) (f : Refusal) → a ≡ Err f → tallied.Refused f ≡ told_of a
 told_refused a f e = rw e
 
 pub ruleset told_laws = (told_refused)
 
 module _ (old new : Tally) where
-  pub reading_added : (reading : Result StrictReading Refusal) (r : StrictRecord) (e p : ℕ) (a : Result Unit Refusal) (t : Tallied)
+  pub reading_added : (reading : Result StrictReading Refusal) (r : StrictRecord) (e p : ℕ) (a : Result (Unit {0}) Refusal) (t : Tallied)
       → reading ≡ Ok (record { reading = r; elements = e; params = p }) → Adds old r.common.facility r.common.severity a new → t ≡ told_of a → TalliesReading old reading t new
   reading_added reading r e p a t q h s = rw q (record { told = s ∙ ap told_of h.answers; leaves = rw h.answers at h.leaves })
 
@@ -45,8 +45,8 @@ pub ruleset reading_laws = (reading_added, reading_passed, frame_added)
 -- ---- frames one behind the other
 
 -- a record that the tally refuses changes nothing
-after_refused : (old new : Tally) (i j : ℕ) (a : Tallied) (d : Result Unit Refusal) → a ≡ told_of d → new ≡ after d old i j → is_refused a ≡ true → new ≡ old
-after_refused old new i j a Ok tt q l t = clash (sym t ∙ ap is_refused q)
+after_refused : (old new : Tally) (i j : ℕ) (a : Tallied) (d : Result (Unit {0}) Refusal) → a ≡ told_of d → new ≡ after d old i j → is_refused a ≡ true → new ≡ old
+after_refused old new i j a (Ok tt) q l t = clash (sym t ∙ ap is_refused q)
 after_refused old new i j a (Err f) q l t = l
 
 refused_kept : (old new : Tally) (r : Result StrictReading Refusal) (a : Tallied) → TalliesReading old r a new → is_refused a ≡ true → new ≡ old
@@ -89,9 +89,9 @@ pub ruleset run_laws = (onward_same, onward_frame, run_starts, run_turns)
 
 -- ---- the statements
 
-adds_one : (old new : Tally) (n : ℕ) (facility severity : Option ℕ) (a : Tallied) (d : Result Unit Refusal) → d ≡ addition old (row_of facility) (column_of severity) → Additions old n → a ≡ told_of d
+adds_one : (old new : Tally) (n : ℕ) (facility severity : Option ℕ) (a : Tallied) (d : Result (Unit {0}) Refusal) → d ≡ addition old (row_of facility) (column_of severity) → Additions old n → a ≡ told_of d
     → new ≡ after d old (row_of facility) (column_of severity) → is_refused a ≡ false → Additions new (suc n)
-adds_one old new n facility severity a Ok tt q before e l t = accepted {facility = facility} {severity = severity} before (record { answers = q; leaves = l })
+adds_one old new n facility severity a (Ok tt) q before e l t = accepted {facility = facility} {severity = severity} before (record { answers = q; leaves = l })
 adds_one old new n facility severity a (Err f) q before e l t = clash (sym (ap is_refused e) ∙ t)
 
 adds : (old new : Tally) (n : ℕ) (r : Result StrictReading Refusal) (a : Tallied) → Additions old n → TalliesReading old r a new → is_refused a ≡ false
