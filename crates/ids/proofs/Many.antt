@@ -1,5 +1,5 @@
 -- Ids by blocks: elements with their ids alone, which the strict reader reads where the ids differ.
-use Rattle.std.specs.Prelude.{if◌then◌else◌, Option, Some, None}
+use Rattle.std.specs.Prelude.{if◌then◌else◌, Option, Some, None, is_some}
 use Prim.Native.Nat.{ℕ, zero, suc, ◌+◌, ◌-◌, ◌≤◌, ◌<◌}
 use mathlib.Core.Path.{◌≡◌, refl, sym, ap, ◌∙◌, subst}
 use mathlib.Core.Bool.{Bool, true, false, not, ◌&&◌, ◌||◌}
@@ -93,31 +93,19 @@ structured_is : (es : List Element) → Each ElementOk es → structured (data_t
 unfolding structured only
 structured_is es h = rw (listed_reads.complete es [] h refl)
 
-abbrev is_data : Option Counts → Bool
-is_data None = false
-is_data (Some x) = true
-
-counted_is : (s : List ℕ) (ids : List (List ℕ)) → s ≡ bare_text ids → 1 ≤ length ids → Each (Repeat 1 32 sd_name_byte) ids → is_data (counts_of (structured s)) ≡ all_different ids
+counted_is : (s : List ℕ) (ids : List (List ℕ)) → s ≡ bare_text ids → 1 ≤ length ids → Each (Repeat 1 32 sd_name_byte) ids → is_some (counts_of (structured s)) ≡ all_different ids
 counted_is s ids e l h =
     let es = map bare ids in
-    ap (λ (t : List ℕ). is_data (counts_of (structured t))) (e ∙ bare_text_lem ids l)
-    ∙ ap (λ (x : Parsed (List Element)). is_data (counts_of x)) (structured_is es (bare_ok ids h))
-    ∙ by_test (λ b. is_data (counts_of (if b then found es (length (data_then es [])) else failed)) ≡ b) (all_different (ids_of es)) (λ _. refl) (λ _. refl)
+    ap (λ (t : List ℕ). is_some (counts_of (structured t))) (e ∙ bare_text_lem ids l)
+    ∙ ap (λ (x : Parsed (List Element)). is_some (counts_of x)) (structured_is es (bare_ok ids h))
+    ∙ by_test (λ b. is_some (counts_of (if b then found es (length (data_then es [])) else failed)) ≡ b) (all_different (ids_of es)) (λ _. refl) (λ _. refl)
     ∙ ap all_different (bare_ids ids)
 
 module _ (line : List ℕ) (end : ℕ) (c : Option Counts) (e : c ≡ counts_of (structured (take (end - 0) (drop 0 line)))) where
-  told : (r : Bool) → is_data c ≡ r → Tells (take end line) r
-  told r q =
+  pub bare_tells : (r : Bool) → r ≡ is_some c → Tells (take end line) r
+  bare_tells r q =
       let z : end - 0 ≡ end = omega arith in
-      record { tells = λ ids s l h. sym q ∙ ap is_data e ∙ rw z (counted_is (take end line) ids s l h) }
-
-  pub bare_no : c ≡ None → Tells (take end line) false
-  bare_no q = told false (ap is_data q)
-
-  pub bare_yes : (n m p : ℕ) → c ≡ Some (record { len = n; elements = m; params = p }) → Tells (take end line) true
-  bare_yes n m p q = told true (ap is_data q)
-
-pub ruleset bare_laws = (bare_no, bare_yes)
+      record { tells = λ ids s l h. q ∙ ap is_some e ∙ rw z (counted_is (take end line) ids s l h) }
 
 -- ---- a block
 

@@ -9,8 +9,6 @@ ghost use Rattle.output.specs.Fits.{Fits};
 ghost use Rattle.output.specs.Output.{Wrote};
 ghost use Rattle.ids.specs.Ids.{id_in, ids_in, ids_fit, Gathers, Tells, Meets};
 
-use strict_data::Counts;
-
 // The id of element `k`.
 pub fn id_at<'a>(text: &'a [u8], rows: &'a [[usize; 2]], k: usize) -> &'a [u8]
     requires rows_value { elements_suit text.now rows.now ≡ true }
@@ -105,11 +103,7 @@ fn bare_differ(line: &[u8], end: usize) -> bool
     requires end_le_line_limit { end ≤ line_limit }
     ensures { Tells (take end line.now) result }
 {
-    let counts = strict_data::count_data(&line[0..end]);
-    match counts {
-        None => false,
-        Some(Counts { .. }) => true,
-    }
+    strict_data::count_data(&line[..end]).is_some()
 }
 
 // The element behind a block, and whether the block's ids differ from each other and from all behind them.

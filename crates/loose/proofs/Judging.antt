@@ -45,11 +45,12 @@ passed line variant year o h e p a q = rw (le-ltb line_limit (length line) h.sho
 drafted : (s : List ℕ) (o : Outcome) → RowsIn s o → (rules : Rules) (r : Record) (at n m : ℕ) → Some (record { rules = rules; read = r; at = at; elements = n; params = m }) ≡ draft_of o → Drafts s o rules r at n m
 drafted s no_reading k rules r at n m q = let z : ◌≡◌ {A = ℕ} 0 1 = cc in absurd (omega arith)
 drafted s (is_reading x b rows) k rules r at n m q =
-    let er : x ≡ r = cc in
-    let eb : b ≡ at = cc in
-    let eu : rules_by x.protocol ≡ rules = cc in
-    let en : n ≡ length rows.elements = cc in
-    let em : m ≡ length rows.params = cc in
+    let y : ◌≡◌ {A = Draft} (record { rules = rules; read = r; at = at; elements = n; params = m }) (record { rules = rules_by x.protocol; read = x; at = b; elements = length rows.elements; params = length rows.params }) = cc in
+    let er : x ≡ r = sym (ap (λ (d : Draft). d.read) y) in
+    let eb : b ≡ at = sym (ap (λ (d : Draft). d.at) y) in
+    let eu : rules_by x.protocol ≡ rules = sym (ap (λ (d : Draft). d.rules) y) in
+    let en : n ≡ length rows.elements = ap (λ (d : Draft). d.elements) y in
+    let em : m ≡ length rows.params = ap (λ (d : Draft). d.params) y in
     let are : rows ≡ rows_or at (data_from rules s at) = k ∙ ap (λ (u : Rules). rows_or b (data_from u s b)) eu ∙ ap (λ (i : ℕ). rows_or i (data_from rules s i)) eb in
     record { is = rw (er, eb, ← are); elements_are = en ∙ rw (← are); params_are = em ∙ rw (← are) }
 

@@ -32,10 +32,10 @@ use Rattle.rfc5424.proofs.Headers.{start_within, four_within}
 use Rattle.record.specs.declared.Timestamp.{Timestamp}
 
 -- the rows that were counted
-counted : {P : Type 0} (d : Data) (n m next : ℕ) → Some (record { elements = n; params = m; next = next }) ≡ counts_of d
-    → ((rows : Rows) → d ≡ is_data rows → n ≡ length rows.elements → m ≡ length rows.params → next ≡ rows.next → P) → P
-counted no_data n m next e k = let z : ◌≡◌ {A = ℕ} 0 1 = cc in absurd (omega arith)
-counted (is_data rows) n m next e k = k rows refl (cc) (cc) (cc)
+counted : {P : Type 0} (d : Data) (c : Counts) → Some c ≡ counts_of d
+    → ((rows : Rows) → d ≡ is_data rows → c ≡ record { elements = length rows.elements; params = length rows.params; next = rows.next } → P) → P
+counted no_data c e k = let z : ◌≡◌ {A = ℕ} 0 1 = cc in absurd (omega arith)
+counted (is_data rows) c e k = k rows refl (cc)
 
 -- Behind the timestamp
 module _ (pri : Pri) (version : ℕ) (stamp : Option Timestamp) (s : List ℕ) (at : ℕ) (f : Option (Four × ℕ)) (e : f ≡ four_from s at) where
@@ -53,13 +53,13 @@ module _ (pri : Pri) (version : ℕ) (stamp : Option Timestamp) (s : List ℕ) (
         go no_data k q = refl
         go (is_data rows) k q = let m : ◌≡◌ {A = ℕ} 0 1 = cc in absurd (omega arith)
 
-    module _ (n m next : ℕ) (q : c ≡ Some (record { elements = n; params = m; next = next })) where
-      pub body_data : next ≤ length s
+    module _ (x : Counts) (q : c ≡ Some x) where
+      pub body_data : x.next ≤ length s
       body_data =
-          counted (data_from Rfc5424Rules s b) n m next (sym q ∙ ec)
-          (λ rows ed en em ex. rw ex (rows_within Rfc5424Rules s b rows ed (blanks_within s a b eb (four_within s at f e host app procid msgid a z))))
+          counted (data_from Rfc5424Rules s b) x (sym q ∙ ec)
+          (λ rows ed ex. rw ex (rows_within Rfc5424Rules s b rows ed (blanks_within s a b eb (four_within s at f e host app procid msgid a z))))
 
-      pub body_is : (message : ℕ) → message ≡ blanks_from s next
+      pub body_is : (message : ℕ) → message ≡ blanks_from s x.next
           → Some (record {
             rules = Rfc5424Rules;
             read = record {
@@ -74,14 +74,14 @@ module _ (pri : Pri) (version : ℕ) (stamp : Option Timestamp) (s : List ℕ) (
               message = record { start = message; len = length s - message };
             };
             at = b;
-            elements = n;
-            params = m;
+            elements = x.elements;
+            params = x.params;
           })
           ≡ draft_of (body_from pri version stamp s at)
       unfolding body_from
       body_is message em =
-          counted (data_from Rfc5424Rules s b) n m next (sym q ∙ ec)
-          (λ rows ed en ep ex. rw (← e, z, ← eb, ed, ← ex, ← em, en, ep))
+          counted (data_from Rfc5424Rules s b) x (sym q ∙ ec)
+          (λ rows ed ex. rw (← e, z, ← eb, ed, em, ex))
 
 pub ruleset body_laws = (body_no_four, body_no_data, body_data, body_is, four_within, blanks_within)
 

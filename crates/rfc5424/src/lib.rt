@@ -8,16 +8,16 @@ ghost use Rattle.rfc5424.specs.Rfc5424.{blank_host, blank_plain, start_from, fou
 use draft::Draft;
 use pri::Pri;
 use record::{Place, Protocol, Record, Span, Timestamp};
-use structured_data::{Counts, Rules};
+use structured_data::Rules;
 
-// @@Start
+// The version and the timestamp.
 #[derive(Clone, Copy)]
 pub struct Start {
     pub version: u32,
     pub timestamp: Option<Timestamp>,
 }
 
-// @@Four
+// Host, app, process id and message id.
 #[derive(Clone, Copy)]
 pub struct Four {
     pub host: Place,
@@ -96,18 +96,12 @@ fn body_from(pri: Pri, version: u32, stamp: Option<Timestamp>, s: &[u8], at: usi
         a,
     ) = four_from(s, at)?;
     let b = parsers::blanks_from(s, a);
-    let Counts {
-        elements,
-        params,
-        next,
-    } = structured_data::count_data(Rules::Rfc5424Rules, s, b)?;
-    let message = parsers::blanks_from(s, next);
-    let facility = pri.facility;
-    let severity = pri.severity;
+    let counts = structured_data::count_data(Rules::Rfc5424Rules, s, b)?;
+    let message = parsers::blanks_from(s, counts.next);
     let read = Record {
         protocol: Protocol::Rfc5424(version),
-        facility,
-        severity,
+        facility: pri.facility,
+        severity: pri.severity,
         timestamp: stamp,
         host,
         app,
@@ -122,8 +116,8 @@ fn body_from(pri: Pri, version: u32, stamp: Option<Timestamp>, s: &[u8], at: usi
         rules: Rules::Rfc5424Rules,
         read,
         at: b,
-        elements,
-        params,
+        elements: counts.elements,
+        params: counts.params,
     })
 }
 

@@ -1,7 +1,6 @@
 -- What a line says, written again: the same texts, but for the form of the offset and needless backslashes.
 use Rattle.std.specs.Prelude as std
 use Rattle.std.specs.Prelude.{if◌then◌else◌, Some, None}
-use Rattle.std.specs.Prelude as std
 use Rattle.record.specs.declared.Timestamp as stamped
 use Prim.Native.Nat.{ℕ, zero, suc, ◌+◌, ◌-◌, ◌*◌, ◌/◌, ◌%◌, ◌^◌, ◌≤◌, ◌<◌}
 use mathlib.Core.Path.{◌≡◌, refl, sym, ap, ◌∙◌}
@@ -34,7 +33,6 @@ use Rattle.claims.proofs.Numbers.{digits_again, prival_again, version_again}
 use Rattle.claims.proofs.Moments.{zone_minutes, frac_again, hour_again, minute_again, shows_again}
 use Rattle.writes.proofs.Rules.{Suitable, Writable}
 use Rattle.writes.proofs.Texts.{dash_is}
-use Rattle.record.specs.declared.Timestamp as stamped
 
 -- ---- the timestamp
 

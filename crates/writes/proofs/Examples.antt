@@ -1,7 +1,6 @@
 -- Worked examples, computed from the definitions: fields and the lines that are written of them, and what is refused.
 use Rattle.std.specs.Prelude as std
 use Rattle.std.specs.Prelude.{Some, None, Result, Ok, Err}
-use Rattle.std.specs.Prelude as std
 use Prim.Native.Nat.{ℕ}
 use mathlib.Core.Path.{◌≡◌, refl}
 use mathlib.Core.Bool.{true, false}

@@ -1,7 +1,6 @@
 -- The tests of refusals 7 and 17 say what the rules say.
 use Rattle.std.specs.Prelude as std
 use Rattle.std.specs.Prelude.{if◌then◌else◌, Some, None}
-use Rattle.std.specs.Prelude as std
 use Prim.Native.Nat.{ℕ, ◌-◌, ◌%◌, ◌^◌}
 use mathlib.Core.Path.{◌≡◌, refl, sym, ap, ◌∙◌}
 use mathlib.Core.Bool.{Bool, true, not, ◌&&◌}

@@ -1,7 +1,6 @@
 -- The rules of the fields, as facts: refusal 7 for the timestamp, refusal 17 for the rest.
 use Rattle.std.specs.Prelude as std
 use Rattle.std.specs.Prelude.{Some, None}
-use Rattle.std.specs.Prelude as std
 use Prim.Native.Nat.{ℕ, ◌≤◌}
 use mathlib.Core.Path.{◌≡◌}
 use mathlib.Core.List.{List, [], ◌∷◌}

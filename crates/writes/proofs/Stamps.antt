@@ -1,7 +1,6 @@
 -- The timestamp: what is written of it is a timestamp of the grammar and says the same; and what a timestamp of the grammar says may be written.
 use Rattle.std.specs.Prelude as std
 use Rattle.std.specs.Prelude.{Some, None}
-use Rattle.std.specs.Prelude as std
 use Prim.Native.Nat.{ℕ, suc, ◌≤◌}
 use mathlib.Core.Path.{◌≡◌, refl, ap}
 use mathlib.Core.Bool.{true}

@@ -1,7 +1,6 @@
 -- The fields of a strict line, as a caller has them.
 use Rattle.std.specs.Prelude as std
 use Rattle.std.specs.Prelude.{ℕ, List}
-use Rattle.std.specs.Prelude as std
 use Rattle.std.proofs.Math.Option.{Option}
 use Rattle.grammar.specs.Line.{Element}
 use Rattle.record.specs.declared.Timestamp.{Timestamp}

@@ -1,7 +1,6 @@
 -- Refusal 17: the fields that the grammar has a line for, apart from the timestamp's own rules (refusal 7).
 use Rattle.std.specs.Prelude as std
 use Rattle.std.specs.Prelude.{ℕ, Bool, true, not, ◌&&◌, List, [], ◌∷◌, leb, eqb, length, Some, None}
-use Rattle.std.specs.Prelude as std
 use Rattle.std.proofs.Math.Option.{Option, none, some}
 use Rattle.base.specs.Choose.{within, is_at}
 use Rattle.base.specs.Runs.{run}

@@ -1,7 +1,6 @@
 -- What is handed in over a lent text, and the contract of the writer: refusals 7, 17, 1 and 8, the length, and the output.
 use Rattle.std.specs.Prelude as std
 use Rattle.std.specs.Prelude.{ℕ, ◌≡◌, not, List, ltb, eqb, length, take, if◌then◌else◌, Some, None, Result, Ok, Err}
-use Rattle.std.specs.Prelude as std
 use Rattle.std.proofs.Math.Option.{Option, none, some}
 use Rattle.base.specs.Texts.{text_at}
 use Rattle.record.specs.Limits.{line_limit}

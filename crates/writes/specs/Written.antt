@@ -1,7 +1,6 @@
 -- The line that is written. Each field's text, laid out as the grammar lays out a division.
 use Rattle.std.specs.Prelude as std
 use Rattle.std.specs.Prelude.{ℕ, suc, ◌+◌, ◌*◌, ◌/◌, ◌%◌, ◌≡◌, true, false, List, [], ◌∷◌, ℤ, pos, negsuc, if◌then◌else◌, Some, None}
-use Rattle.std.specs.Prelude as std
 use Rattle.record.specs.declared.Timestamp as stamped
 use Rattle.std.proofs.Math.Option.{Option, none, some}
 use Rattle.digits.specs.Digits.{decimal}
@@ -11,7 +10,6 @@ use Rattle.lookup.specs.Unescape.{is_escaped}
 use Rattle.claims.specs.Texts.{clock_in, secfrac_of, clock_texts}
 use Rattle.grammar.specs.Line.{Param, Element, Offset, Timestamp, Division, Each, line_text}
 use Rattle.writes.specs.Fields.{Fields}
-use Rattle.record.specs.declared.Timestamp as stamped
 
 -- `"`, `\` and `]` with a backslash in front
 unfoldable pub escape : List ℕ → List ℕ
