@@ -101,7 +101,7 @@ module _ {line memory : List ℕ} {elements params : List (List ℕ)} where
         go : (n : ℕ) (a : Result StrictReading Refusal) → StrictReads line e₀ p₀ a elements params → read ≡ left_answer (with_reach n (strict_read_answer_of a)) strict_size (length out)
             → memory ≡ filled (strict_bytes_of a) out → Holds memory (StrictCommon line e₀ p₀ elements params)
         go k (Ok x) h n q =
-            laid_holds (StrictCommon line e₀ p₀ elements params) (λ r x.elements x.params k. Left.by_strict k.reads k.common)
+            laid_holds (StrictCommon line e₀ p₀ elements params) (λ r e p k. Left.by_strict k.reads k.common)
             x.reading.common x.elements x.params _ (q ∙ strict_front x.reading x.elements x.params _) (record { full = x.reading; common = refl; reads = h })
         go k (Err f) h n q = never k 0 f strict_size (length out) n
 

@@ -9,6 +9,7 @@ use borrow.Author.Tests.{ltb-false}
 use Rattle.record.specs.Limits.{line_limit}
 use Rattle.record.specs.Records.{message_alone}
 use Rattle.record.specs.Answers.{answer_of, strict_answer_of, output_answer_of}
+use Rattle.record.specs.declared.Record.{Record}
 use Rattle.record.specs.declared.StrictReading.{StrictReading}
 use Rattle.record.specs.declared.Reading.{Reading}
 use Rattle.record.specs.declared.Reading.TheVariants as loose
@@ -38,7 +39,7 @@ output_kept : (w : Result ℕ Refusal) (text old : List ℕ) → ((output_answer
 output_kept (Ok k) text old n = absurd (n refl)
 output_kept (Err f) text old n = refl
 
-strict_kept : {line : List ℕ} {e₀ : Elements} {p₀ : Params} {r : (Result StrictReading Refusal)} {e₁ : Elements} {p₁ : Params}
+strict_kept : {line : List ℕ} {e₀ : Elements} {p₀ : Params} {r : Result StrictReading Refusal} {e₁ : Elements} {p₁ : Params}
     → StrictReads line e₀ p₀ r e₁ p₁ → ((strict_answer_of r).number ≡ 0 → ⊥) → Lent.tables e₁ p₁ ≡ Lent.tables e₀ p₀
 strict_kept (too_long l a b c) n = ap₂ Lent.tables b c
 strict_kept (underivable l h a b c) n = ap₂ Lent.tables b c
@@ -76,7 +77,7 @@ refused_is_empty Service.lookup x n = output_empty x.answer n
 
 -- ---- a line that the rules give no reading
 
-module _ {line : List ℕ} {variant year : ℕ} {offset : ℤ} {e₀ : Elements} {p₀ : Params} {r : (Result Reading Refusal)} {e₁ : Elements} {p₁ : Params}
+module _ {line : List ℕ} {variant year : ℕ} {offset : ℤ} {e₀ : Elements} {p₀ : Params} {r : Result Reading Refusal} {e₁ : Elements} {p₁ : Params}
     (h : Reads line variant year offset e₀ p₀ r e₁ p₁) where
   module _ (a : AnsweredWhole r) where
     call : Reads line variant year offset e₀ p₀ (Ok (loose.Whole a.reading)) e₁ p₁
@@ -88,7 +89,7 @@ module _ {line : List ℕ} {variant year : ℕ} {offset : ℤ} {e₀ : Elements}
         record { limit = ltb-false line_limit (length line) w.short; settings = w.settings; text = w.text; none = w.is.none }
 
     alone : r ≡ Ok (loose.Whole (message_alone (length line)))
-    alone = a.is ∙ ap Ok (loose.Whole (whole_is call).is.alone)
+    alone = let whole : Record → Result Reading Refusal = λ x. Ok (loose.Whole x) in a.is ∙ ap whole (whole_is call).is.alone
 
   answered_whole : Unread line variant year offset → AnsweredWhole r
   answered_whole u =
@@ -135,7 +136,7 @@ module _ (line : List ℕ) (e₀ : Elements) (p₀ : Params) where
   Why (Ok x) = Derivable line e₀ p₀
   Why (Err f) = WhyRefused f
 
-  module _ {r : (Result StrictReading Refusal)} {e₁ : Elements} {p₁ : Params} where
+  module _ {r : Result StrictReading Refusal} {e₁ : Elements} {p₁ : Params} where
     why : StrictReads line e₀ p₀ r e₁ p₁ → Why r
     why (too_long l a b c) = rw a l
     why (underivable l h a b c) = rw a (l, h)
@@ -144,7 +145,7 @@ module _ (line : List ℕ) (e₀ : Elements) (p₀ : Params) where
     why (accepted d l h k m a b c) = rw a (record { division = d; derived = h; short = l; many = (k, m) })
 
     module _ (call : StrictReads line e₀ p₀ r e₁ p₁) where
-      because : {s : (Result StrictReading Refusal)} → r ≡ s → Why s
+      because : {s : Result StrictReading Refusal} → r ≡ s → Why s
       because q = subst Why q (why call)
 
       holds : (f : Derivable line e₀ p₀) → Holds f.division e₀ p₀ r e₁ p₁

@@ -44,7 +44,7 @@ judged_gives line no_reading e p = refl
 judged_gives line (is_reading r at rows) e p =
     either Service.loose of (ltb e (length rows.elements)) _ _ refl (either Service.loose of (ltb p (length rows.params)) _ _ refl refl)
 
-strict_gives : {line : List ℕ} {e₀ : Elements} {p₀ : Params} {r : (Result StrictReading Refusal)} {e₁ : Elements} {p₁ : Params}
+strict_gives : {line : List ℕ} {e₀ : Elements} {p₀ : Params} {r : Result StrictReading Refusal} {e₁ : Elements} {p₁ : Params}
     → StrictReads line e₀ p₀ r e₁ p₁ → Gives Service.strict (strict_answer_of r).number
 strict_gives (too_long l a b c) = rw a
 strict_gives (underivable l h a b c) = rw a

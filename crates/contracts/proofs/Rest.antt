@@ -49,7 +49,7 @@ judged_kept line (is_reading r at rows) e₀ p₀ =
     by_if K (ltb (length p₀) (length rows.params)) _ _ (λ q. refl)
     (λ q. ap₂ Lent.tables (rest_filled rows.elements e₀) (rest_filled rows.params p₀)))
 
-loose_kept : {line : List ℕ} {variant year : ℕ} {offset : ℤ} {e₀ e₁ : Elements} {p₀ p₁ : Params} {r : (Result Reading Refusal)}
+loose_kept : {line : List ℕ} {variant year : ℕ} {offset : ℤ} {e₀ e₁ : Elements} {p₀ p₁ : Params} {r : Result Reading Refusal}
     → Reads line variant year offset e₀ p₀ r e₁ p₁
     → let rest = past (answer_of r).elements (answer_of r).params 0 in rest (Lent.tables e₁ p₁) ≡ rest (Lent.tables e₀ p₀)
 loose_kept {line} {variant} {year} {offset} {e₀} {e₁} {p₀} {p₁} h =
@@ -62,7 +62,7 @@ loose_kept {line} {variant} {year} {offset} {e₀} {e₁} {p₀} {p₁} h =
 
 -- ---- the strict reader
 
-strict_kept : {line : List ℕ} {e₀ : Elements} {p₀ : Params} {r : (Result StrictReading Refusal)} {e₁ : Elements} {p₁ : Params} → StrictReads line e₀ p₀ r e₁ p₁
+strict_kept : {line : List ℕ} {e₀ : Elements} {p₀ : Params} {r : Result StrictReading Refusal} {e₁ : Elements} {p₁ : Params} → StrictReads line e₀ p₀ r e₁ p₁
     → let rest = past (strict_answer_of r).elements (strict_answer_of r).params 0 in rest (Lent.tables e₁ p₁) ≡ rest (Lent.tables e₀ p₀)
 strict_kept (too_long l a b c) = rw (b, c)
 strict_kept (underivable l h a b c) = rw (b, c)

@@ -1,5 +1,5 @@
 -- What is demanded of the services, as statements to be read without their proofs, which are in proofs/Demands.antt.
-use Rattle.std.specs.Prelude.{ℕ, ◌<◌, ◌≤◌, ◌≡◌, Bool, true, false, ◌||◌, List, [], ◌∷◌, eqb, length, ℤ, Ok, Err}
+use Rattle.std.specs.Prelude.{ℕ, ◌<◌, ◌≤◌, ◌≡◌, Bool, true, false, ◌||◌, List, [], ◌∷◌, eqb, length, ℤ, Result as StdResult, Ok, Err}
 use Rattle.base.specs.Fills.{filled}
 use Rattle.record.specs.Limits.{line_limit}
 use Rattle.record.specs.Records.{message_alone, empty_record, empty_strict}
@@ -75,7 +75,7 @@ pub record Exactly (P Q : Type 0) : Type 0 where
 -- ---- a line that the rules give no reading
 
 -- the answer is the whole line as the message
-pub record AnsweredWhole (r : Result Reading Refusal) : Type 0 where
+pub record AnsweredWhole (r : StdResult Reading Refusal) : Type 0 where
   pub reading : Record
   pub is : r ≡ Ok (Whole reading)
 
@@ -87,7 +87,7 @@ pub record Unread (line : List ℕ) (variant year : ℕ) (offset : ℤ) : Type 0
   pub none : outcome_of line variant year offset ≡ no_reading
 
 -- of a call of the loose reader on a line, with tables that held e₀ and p₀, which answers r and leaves e₁ and p₁ in them
-pub record LooseCall (line : List ℕ) (variant year : ℕ) (offset : ℤ) (e₀ : Elements) (p₀ : Params) (r : Result Reading Refusal) (e₁ : Elements) (p₁ : Params) : Type 0 where
+pub record LooseCall (line : List ℕ) (variant year : ℕ) (offset : ℤ) (e₀ : Elements) (p₀ : Params) (r : StdResult Reading Refusal) (e₁ : Elements) (p₁ : Params) : Type 0 where
   -- It answers the whole line exactly where the rules give no reading,
   pub whole_exactly : Exactly (AnsweredWhole r) (Unread line variant year offset)
   -- and then with the message alone, and the tables as they were.
@@ -96,13 +96,13 @@ pub record LooseCall (line : List ℕ) (variant year : ℕ) (offset : ℤ) (e₀
 
 pub record LooseCalls : Type 0 where
   -- Each call is as said above.
-  pub each_call : {line : List ℕ} {variant year : ℕ} {offset : ℤ} {e₀ : Elements} {p₀ : Params} {r : (Result Reading Refusal)} {e₁ : Elements} {p₁ : Params}
+  pub each_call : {line : List ℕ} {variant year : ℕ} {offset : ℤ} {e₀ : Elements} {p₀ : Params} {r : StdResult Reading Refusal} {e₁ : Elements} {p₁ : Params}
       → Reads line variant year offset e₀ p₀ r e₁ p₁ → LooseCall line variant year offset e₀ p₀ r e₁ p₁
 
 -- ---- the words of RULES Demands 3
 
 -- the answer is a record with its counts, and no refusal
-pub record Accepted (r : Result StrictReading Refusal) : Type 0 where
+pub record Accepted (r : StdResult StrictReading Refusal) : Type 0 where
   pub reading : StrictRecord
   pub elements : ℕ
   pub params : ℕ
@@ -132,7 +132,7 @@ abbrev pub Underivable : List ℕ → Type 0
 Underivable line = (d : Division) → Derives line d → ⊥
 
 -- the answer's record and counts are those of the division d, and so are the tables in front of the entries that they keep
-pub record Holds (d : Division) (e₀ : Elements) (p₀ : Params) (r : Result StrictReading Refusal) (e₁ : Elements) (p₁ : Params) : Type 0 where
+pub record Holds (d : Division) (e₀ : Elements) (p₀ : Params) (r : StdResult StrictReading Refusal) (e₁ : Elements) (p₁ : Params) : Type 0 where
   pub answer : r ≡ Ok (record { reading = record_of d; elements = length d.elements; params = param_count d.elements })
   pub elements : e₁ ≡ filled (element_rows (data_at d) d.elements) e₀
   pub params : p₁ ≡ filled (param_rows 0 (data_at d) d.elements) p₀
@@ -140,7 +140,7 @@ pub record Holds (d : Division) (e₀ : Elements) (p₀ : Params) (r : Result St
 -- ---- RULES Demands 3
 
 -- of a call of the strict reader on a line, with tables that held e₀ and p₀, which answers r and leaves e₁ and p₁ in them
-pub record StrictCall (line : List ℕ) (e₀ : Elements) (p₀ : Params) (r : Result StrictReading Refusal) (e₁ : Elements) (p₁ : Params) : Type 0 where
+pub record StrictCall (line : List ℕ) (e₀ : Elements) (p₀ : Params) (r : StdResult StrictReading Refusal) (e₁ : Elements) (p₁ : Params) : Type 0 where
   -- It accepts exactly what the grammar derives,
   pub accepts_exactly : Exactly (Accepted r) (Derivable line e₀ p₀)
   -- and refuses as no reading exactly what the grammar does not derive.
@@ -158,5 +158,5 @@ pub record Demand3 : Type 0 where
   -- No line has two divisions.
   pub one_division : (line : List ℕ) (d d' : Division) → Derives line d → Derives line d' → d ≡ d'
   -- Each call is as said above.
-  pub each_call : {line : List ℕ} {e₀ : Elements} {p₀ : Params} {r : (Result StrictReading Refusal)} {e₁ : Elements} {p₁ : Params}
+  pub each_call : {line : List ℕ} {e₀ : Elements} {p₀ : Params} {r : StdResult StrictReading Refusal} {e₁ : Elements} {p₁ : Params}
       → StrictReads line e₀ p₀ r e₁ p₁ → StrictCall line e₀ p₀ r e₁ p₁

@@ -1,5 +1,5 @@
 -- The four services side by side: what a call is given, what it leaves, and the contract between the two. Each contract is the one that its function ensures.
-use Rattle.std.specs.Prelude.{ℕ, List, drop, ℤ, Result}
+use Rattle.std.specs.Prelude.{ℕ, List, drop, ℤ, Result as StdResult}
 use Rattle.record.specs.Answers.{answer_of, strict_answer_of, output_answer_of}
 use Rattle.record.specs.declared.Record.{Record}
 use Rattle.record.specs.declared.Reading.{Reading}
@@ -71,12 +71,12 @@ pub record Tables (Answer : Type 0) : Type 0 where
   pub params : Params
 
 pub record Output : Type 0 where
-  pub answer : Result ℕ Refusal
+  pub answer : StdResult ℕ Refusal
   pub output : List ℕ
 
 abbrev pub Result : Service → Type 0
-Result Service.loose = Tables (Result Reading Refusal)
-Result Service.strict = Tables (Result StrictReading Refusal)
+Result Service.loose = Tables (StdResult Reading Refusal)
+Result Service.strict = Tables (StdResult StrictReading Refusal)
 Result Service.print = Output
 Result Service.lookup = Output
 

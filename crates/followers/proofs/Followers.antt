@@ -62,13 +62,13 @@ module _ (line : List ℕ) (d : Division) (h : Derives line d) where
         ap₂ (λ (n : ℕ) (rows : List (List ℕ)). params_suit line n 0 rows) (sym count_is ∙ sym (zero-add (length (element_rows (data_at d) d.elements)))) entries ∙ t.of_params 0 (omega arith) in
         rw (record_suits_lem, le-leb e (length elements) le, le-leb p (length params) lp, a, b, le-leb _ _ (stamp_in_lem line d h d.timestamp))
 
-    told : length line ≤ line_limit → Checks line (record_of d) e p elements params Ok tt
+    told : length line ≤ line_limit → Checks line (record_of d) e p elements params (Ok tt)
     unfolding claim_of
     told l = told_yes l claim_suits_lem (record { division = d; derives = h; is = rw (ids, entries) }) refl
 
 pub follower_is_told : FollowerIsTold
 follower_is_told line d e p elements params a l h le lp ids entries c =
-    one_answer line (record_of d) e p elements params a Ok tt c (told line d h e p elements params le lp ids entries l)
+    one_answer line (record_of d) e p elements params a (Ok tt) c (told line d h e p elements params le lp ids entries l)
 
 -- ---- what the strict reader leaves
 

@@ -7,13 +7,15 @@ use mathlib.Core.List.{List, [], ◌∷◌, ◌++◌}
 use native.Mathlib.Omega.{arith}
 use lib.Dec.{leb}
 use lib.ListN.{length, get_or, take}
+use Rattle.std.proofs.Common.{get_or-take}
 use lib.Seq.{length-take-le}
 use borrow.Author.Tests.{le-leb, lt-leb, lt-ltb, le-ltb, leb-true, leb-false, eq-eqb, ne_eqb}
 use mir.Syntax.{w64}
 use mir.Val
 use Rattle.base.proofs.Tests.{both}
 use Rattle.record.specs.Limits.{line_limit}
-use Rattle.record.specs.Params.{row_of}
+use Rattle.record.specs.Params.{row_of, rows, blank}
+use Rattle.record.proofs.Params.{rows_length, rows_get}
 use Rattle.record.specs.declared.Param.{Param}
 use Rattle.record.specs.declared.Protocol.{Protocol}
 use Rattle.record.specs.declared.Protocol.TheVariants.{Rfc3164, Rfc5424}
@@ -31,6 +33,16 @@ use Rattle.message.specs.Rooms.{room_for, fits_in, element_size, param_size, tot
 use Rattle.message.proofs.Texts.{message_in}
 use Rattle.message.proofs.Rooms.{room_over, room_rest, fits_both}
 use Rattle.message.proofs.Lengths.{printed_size}
+
+-- the first `n` entries of a table, as a slice lends them
+module _ (table : List Param) (n : ℕ) (fits : n ≤ length (rows table)) where
+  pub front_length : n ≡ length (take n table)
+  front_length = sym (length-take-le n table (omega (arith, rows_length table)))
+
+  pub front_row : (i : ℕ) → i < length (take n table) → row_of (get_or (take n table) i blank) ≡ get_or (rows table) i []
+  front_row i h =
+      let l : i < n = omega (arith, front_length) in
+      ap row_of (get_or-take n table i blank l) ∙ rows_get table i (omega (arith, rows_length table))
 
 -- after the elements
 module _ (p : Protocol) (n : ℕ) where

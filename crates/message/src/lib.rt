@@ -107,11 +107,8 @@ fn fits(
     ensures { result ≡ leb (length (printed line.now r (take element_count elements.now) (take param_count (rows params.now)))) room }
 {
     let mut left = Some(room);
-    let mut i = 0;
-    while i < param_count {
-        let p = entries::fetch(params, i);
-        left = param_room(left, p);
-        i += 1;
+    for p in &params[..param_count] {
+        left = param_room(left, *p);
     }
     rest_fits(left, line, r, element_count, elements)
 }
@@ -171,12 +168,9 @@ fn put_record(
 {
     let mut at = put_before(out, line, r, element_count, elements);
     let mut k = 0;
-    let mut i = 0;
-    while i < param_count {
-        let p = entries::fetch(params, i);
-        at = put_turn(out, at, line, element_count, elements, k, p);
+    for p in &params[..param_count] {
+        at = put_turn(out, at, line, element_count, elements, k, *p);
         k = p.element;
-        i += 1;
     }
     put_behind(out, at, line, r, element_count, elements, k)
 }

@@ -167,7 +167,7 @@ host_of_either file gate line e₀ p₀ e₁ p₁ r e p h (by_settings s x k w q
 
 -- ---- one answer
 
-same_settings : {s s' : Settings} → Ok s ≡ Ok s' → s ≡ s'
+same_settings : {s s' : Settings} → ◌≡◌ {A = Result Settings Refusal} (Ok s) (Ok s') → s ≡ s'
 same_settings e = ap settings_in e
 
 module _ (file : List ℕ) (gate : ℕ) (line : List ℕ) (e₀ p₀ : List (List ℕ)) where

@@ -230,14 +230,7 @@ fn site_answer_of(r: Result<SiteReading, Refusal>) -> SiteAnswer
     ensures { result ≡ site_answer_of r }
 {
     match r {
-        Ok(
-            SiteReading {
-                reading: _,
-                elements: _,
-                params: _,
-                holder: host,
-            },
-        ) => read_answer(host),
+        Ok(x) => read_answer(x.holder),
         Err(f) => SiteAnswer {
             number: u32::from(f),
             holder: 0,
@@ -269,18 +262,10 @@ fn leave(r: Result<SiteReading, Refusal>, memory: &mut [u8]) -> SiteAnswer
     ensures { Left r memory.old result memory.new }
 {
     let told = site_answer_of(r);
-    let Ok(
-        SiteReading {
-            reading: read,
-            elements: e,
-            params: p,
-            holder: _,
-        },
-    ) = r
-    else {
+    let Ok(x) = r else {
         return told;
     };
-    layout::put_record(memory, read, e, p);
+    layout::put_record(memory, x.reading, x.elements, x.params);
     told
 }
 

@@ -9,4 +9,4 @@ use Rattle.record.specs.declared.Refusal.{Refusal}
 
 abbrev pub LeftHasCell : Type 0
 LeftHasCell = (line : List ℕ) (r : Record) (e p : ℕ) (elements params : List (List ℕ)) → Left line r e p elements params
-    → (old new : Tally) (a : Result Unit Refusal) → Adds old r.facility r.severity a new → added_number a ≡ 7 → ⊥
+    → (old new : Tally) (a : Result (Unit {0}) Refusal) → Adds old r.facility r.severity a new → added_number a ≡ 7 → ⊥

@@ -8,45 +8,22 @@ use native.Mathlib.Omega.{arith}
 use lib.ListN.{length}
 use Rattle.base.proofs.Tests.{by_test, clash}
 use Rattle.record.specs.declared.Refusal.{Refusal}
-use Rattle.record.specs.declared.StrictRecord.{StrictRecord}
 use Rattle.record.specs.declared.StrictReading.{StrictReading}
-use Rattle.strict.specs.Scan.{answered}
 use Rattle.strict.proofs.Readings.{answers}
 use Rattle.frames.specs.declared.Options.{Options}
 use Rattle.frames.specs.declared.State.{State}
 use Rattle.frames.specs.States.{start_of}
-use Rattle.tally.specs.Tally.{Tally, row_of, column_of, addition, after, Adds}
+use Rattle.tally.specs.Tally.{Tally, row_of, column_of, addition, after}
 use Rattle.tally.specs.Counts.{Additions, none, accepted}
 use Rattle.tally.proofs.Sums.{counts_accepted}
 use Rattle.tallier.specs.declared.Tallied.{Tallied}
-use Rattle.tallier.specs.declared.Tallied.TheVariants as tallied
 use Rattle.tallier.specs.Frames.{told_of, reading_of, TalliesReading, Tallies, ReadAsListed, is_accepted, accept_count, is_refused, After, start, next, SumIsAccepted, Onward}
-
--- ---- one frame
-
-pub told_refused : (a : Result Unit Refusal) (f : Refusal) → a ≡ Err f → tallied.Refused f ≡ told_of a
-told_refused a f e = rw e
-
-pub ruleset told_laws = (told_refused)
-
-module _ (old new : Tally) where
-  pub reading_added : (reading : Result StrictReading Refusal) (r : StrictRecord) (e p : ℕ) (a : Result Unit Refusal) (t : Tallied)
-      → reading ≡ Ok (record { reading = r; elements = e; params = p }) → Adds old r.common.facility r.common.severity a new → t ≡ told_of a → TalliesReading old reading t new
-  reading_added reading r e p a t q h s = rw q (record { told = s ∙ ap told_of h.answers; leaves = rw h.answers at h.leaves })
-
-  pub reading_passed : (reading : Result StrictReading Refusal) (f : Refusal) → reading ≡ Err f → new ≡ old → TalliesReading old reading tallied.Passed new
-  reading_passed reading f q h = rw q (record { told = refl; leaves = h })
-
-  pub frame_added : (frame : List ℕ) (r : Result StrictReading Refusal) (a : Tallied) → r ≡ answered frame 64 256 → TalliesReading old r a new → Tallies old frame a new
-  frame_added frame r a e h = record { tallies = rw e at h }
-
-pub ruleset reading_laws = (reading_added, reading_passed, frame_added)
 
 -- ---- frames one behind the other
 
 -- a record that the tally refuses changes nothing
-after_refused : (old new : Tally) (i j : ℕ) (a : Tallied) (d : Result Unit Refusal) → a ≡ told_of d → new ≡ after d old i j → is_refused a ≡ true → new ≡ old
-after_refused old new i j a Ok tt q l t = clash (sym t ∙ ap is_refused q)
+after_refused : (old new : Tally) (i j : ℕ) (a : Tallied) (d : Result (Unit {0}) Refusal) → a ≡ told_of d → new ≡ after d old i j → is_refused a ≡ true → new ≡ old
+after_refused old new i j a (Ok tt) q l t = clash (sym t ∙ ap is_refused q)
 after_refused old new i j a (Err f) q l t = l
 
 refused_kept : (old new : Tally) (r : Result StrictReading Refusal) (a : Tallied) → TalliesReading old r a new → is_refused a ≡ true → new ≡ old
@@ -89,9 +66,9 @@ pub ruleset run_laws = (onward_same, onward_frame, run_starts, run_turns)
 
 -- ---- the statements
 
-adds_one : (old new : Tally) (n : ℕ) (facility severity : Option ℕ) (a : Tallied) (d : Result Unit Refusal) → d ≡ addition old (row_of facility) (column_of severity) → Additions old n → a ≡ told_of d
+adds_one : (old new : Tally) (n : ℕ) (facility severity : Option ℕ) (a : Tallied) (d : Result (Unit {0}) Refusal) → d ≡ addition old (row_of facility) (column_of severity) → Additions old n → a ≡ told_of d
     → new ≡ after d old (row_of facility) (column_of severity) → is_refused a ≡ false → Additions new (suc n)
-adds_one old new n facility severity a Ok tt q before e l t = accepted {facility = facility} {severity = severity} before (record { answers = q; leaves = l })
+adds_one old new n facility severity a (Ok tt) q before e l t = accepted {facility = facility} {severity = severity} before (record { answers = q; leaves = l })
 adds_one old new n facility severity a (Err f) q before e l t = clash (sym (ap is_refused e) ∙ t)
 
 adds : (old new : Tally) (n : ℕ) (r : Result StrictReading Refusal) (a : Tallied) → Additions old n → TalliesReading old r a new → is_refused a ≡ false

@@ -10,8 +10,8 @@ use Rattle.record.specs.declared.Refusal.{Refusal}
 
 -- ---- one frame
 
-abbrev pub told_of : Result Unit Refusal → Tallied
-told_of Ok tt = tallied.Added
+abbrev pub told_of : Result (Unit {0}) Refusal → Tallied
+told_of (Ok tt) = tallied.Added
 told_of (Err f) = tallied.Refused f
 
 -- A line that is read is added by its own facility and severity, as they stand; a refused one is passed over.
