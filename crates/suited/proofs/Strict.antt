@@ -22,8 +22,8 @@ use Rattle.calendar.specs.declared.DateTime.{DateTime}
 use Rattle.calendar.proofs.ThereAndBack.{back}
 use Rattle.record.specs.Limits.{line_limit}
 use Rattle.record.specs.declared.Place.{Place}
-use Rattle.record.specs.declared.StrictReading.{StrictReading}
 use Rattle.record.specs.declared.StrictRecord.{StrictRecord}
+use Rattle.record.specs.declared.StrictReading.{StrictReading}
 use Rattle.record.specs.declared.Refusal.{Refusal}
 use Rattle.grammar.specs.Abnf.{is_digit}
 use Rattle.grammar.specs.Line.{Param, Element, Timestamp, Division, Each, each_then, param_then, element_then, data_then, message_text, SecfracOk, TimestampOk, ParamOk, ElementOk, Derives}
@@ -148,7 +148,10 @@ module _ (line : List ℕ) where
 -- ---- the reading
 
 never : {A : Type 0} {s : StrictRecord} {e p : ℕ} (f : Refusal) → ◌≡◌ {A = Result StrictReading Refusal} (Ok (record { reading = s; elements = e; params = p })) (Err f) → A
-never f h = let z : true ≡ false = cc in clash z
+never f h = absurd (cc)
+
+same_reading : {r q : StrictReading} → ◌≡◌ {A = Result StrictReading Refusal} (Ok r) (Ok q) → r ≡ q
+same_reading h = cc
 
 -- the division of a line that was read
 pub record Divided (line : List ℕ) (s : StrictRecord) (e p : ℕ) (e₀ p₀ e₁ p₁ : List (List ℕ)) : Type 0 where
@@ -177,7 +180,7 @@ module _ {line : List ℕ} {e₀ p₀ e₁ p₁ : List (List ℕ)} {s : StrictRe
   reading_divided (elements_over d l h m a b c) = never _ a
   reading_divided (params_over d l h k m a b c) = never _ a
   reading_divided (accepted d l h k m a b c) =
-      let q : ◌≡◌ {A = StrictReading} (record { reading = s; elements = e; params = p }) (record { reading = record_of d; elements = length d.elements; params = param_count d.elements }) = cc in
+      let q = same_reading a in
       record {
         by = d;
         derives = h;
