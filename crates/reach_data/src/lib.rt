@@ -1,10 +1,10 @@
 // How far the structured data and the message of a line go. Each piece is walked from its place in the line, and answers the place after it, or the place where it breaks.
 #![tactic(auto)]
 
-ghost use Rattle.std.specs.Prelude.{◌≡◌, not, [], ◌+◌, ◌-◌, ◌≤◌, ◌<◌, length, get_or, set, take, drop};
+ghost use Rattle.std.specs.Prelude.{◌≡◌, not, [], ◌+◌, ◌-◌, ◌*◌, ◌^◌, ◌≤◌, ◌<◌, length, get_or, set, take, drop};
 ghost use Rattle.base.specs.Runs.{run};
 ghost use Rattle.grammar.specs.Abnf.{sd_name_byte};
-ghost use Rattle.reach_data.specs.Rows.{each_at, len_of, Noted, Noting, Leaves, Named, Long, is_like, mark_of, marks_with, Clear, Marks, is_asked, is_unseen, shut_at, id_end, Judging, Judged, Spacious, Tells, told_of};
+ghost use Rattle.reach_data.specs.Rows.{each_at, len_of, Noted, Noting, Leaves, Named, Long, is_like, mark_of, marks_with, Clear, Marks, is_asked, is_unseen, shut_at, id_end, Judging, Judged, Spacious, Tells};
 ghost use Rattle.reach_data.specs.Values.{utf8_at};
 ghost use Rattle.record.specs.Limits.{line_limit};
 ghost use Rattle.distinct.specs.Distinct.{id_of, Rows};
@@ -172,15 +172,13 @@ fn note(starts: &mut [u16], lens: &mut [u8], k: usize, start: usize, len: usize)
     lens[k] = len as u8;
 }
 
-// A walk over the elements notes a row for each id: all of them, and where the elements end or break, whatever their ids are; or there are more than the tables
-// have rows for.
-#[derive(Clone, Copy)]
-enum Walk {
-    Full,
-    Rowed(usize, Result<usize, usize>),
-}
-
-fn note_all(s: &[u8], at: usize, starts: &mut [u16], lens: &mut [u8]) -> Walk
+// Notes a row for each id: how many, and where the elements end or break, whatever their ids are; or nothing, where there are more than the tables have rows for.
+fn note_all(
+    s: &[u8],
+    at: usize,
+    starts: &mut [u16],
+    lens: &mut [u8],
+) -> Option<(usize, Result<usize, usize>)>
     requires { Noting s.now starts.old lens.old }
     ensures { Leaves s.now starts.old lens.old starts.new lens.new at result }
 {
@@ -188,7 +186,7 @@ fn note_all(s: &[u8], at: usize, starts: &mut [u16], lens: &mut [u8]) -> Walk
     let mut k = 0;
     while is_at(s, i, b'[') {
         if k == starts.len() {
-            return Walk::Full;
+            return None;
         }
         let j = i + 1;
         let end = name_end(s, j);
@@ -196,11 +194,11 @@ fn note_all(s: &[u8], at: usize, starts: &mut [u16], lens: &mut [u8]) -> Walk
         let w = element(s, j, end);
         k += 1;
         let Ok(n) = w else {
-            return Walk::Rowed(k, w);
+            return Some((k, w));
         };
         i = n;
     }
-    Walk::Rowed(k, Ok(i))
+    Some((k, Ok(i)))
 }
 
 // The id of row `k`.
@@ -347,12 +345,6 @@ fn judge<'a>(
 }
 
 // What tables tell of the elements, if they have rows enough.
-#[derive(Clone, Copy)]
-enum Tried {
-    Short,
-    Told(Result<usize, usize>),
-}
-
 fn tell(
     s: &[u8],
     at: usize,
@@ -360,62 +352,39 @@ fn tell(
     lens: &mut [u8],
     depths: &mut [u8],
     kids: &mut [u16],
-) -> Tried
+) -> Option<Result<usize, usize>>
     requires { Spacious s.now starts.old lens.old depths.old kids.old }
     ensures { Tells s.now at (length starts.old) result }
 {
-    let Walk::Rowed(n, w) = note_all(s, at, starts, lens) else {
-        return Tried::Short;
-    };
-    Tried::Told(judge(s, starts, lens, n, w, depths, kids))
+    let (n, w) = note_all(s, at, starts, lens)?;
+    Some(judge(s, starts, lens, n, w, depths, kids))
 }
 
-// The tables are on the stack and are cleared, so that each text pays for a size that fits it.
-fn few(s: &[u8], at: usize) -> Tried
-    requires { length s.now ≤ line_limit }
-    ensures { Tells s.now at 64 result }
+// The same by tables of a size. They are on the stack and are cleared, so that each text pays for a size that fits it: the large ones are not drawn into the caller.
+#[inline(never)]
+fn told<const ROWS: usize, const KIDS: usize>(s: &[u8], at: usize) -> Option<Result<usize, usize>>
+    requires short { length s.now ≤ line_limit }
+    requires rows { ROWS < 65536 }
+    requires fits { KIDS < 2 ^ 62 }
+    requires kids { 128 + 3 * ROWS ≤ KIDS }
+    ensures { Tells s.now at ROWS result }
 {
-    let mut starts = [0u16; 64];
-    let mut lens = [0u8; 64];
-    let mut depths = [0u8; 64];
-    let mut kids = [0u16; 320];
+    let mut starts = [0u16; ROWS];
+    let mut lens = [0u8; ROWS];
+    let mut depths = [0u8; ROWS];
+    let mut kids = [0u16; KIDS];
     tell(s, at, &mut starts, &mut lens, &mut depths, &mut kids)
 }
 
-// An element has three bytes or more: no text of 8,192 bytes has more than 2,731, the last of which may break.
-fn most(s: &[u8], at: usize) -> Tried
-    requires { length s.now ≤ line_limit }
-    ensures { Tells s.now at 2731 result }
-{
-    let mut starts = [0u16; 2731];
-    let mut lens = [0u8; 2731];
-    let mut depths = [0u8; 2731];
-    let mut kids = [0u16; 8321];
-    tell(s, at, &mut starts, &mut lens, &mut depths, &mut kids)
-}
-
-fn told_of(tried: Tried) -> Result<usize, usize>
-    ensures { result ≡ told_of tried }
-{
-    match tried {
-        Tried::Short => Err(0),
-        Tried::Told(w) => w,
-    }
-}
-
-// The elements, first by small tables. (A function that calls itself is not drawn into its caller by the compiler, nor large tables into it: only lines with many
-// elements pay for them.)
-fn elements(s: &[u8], at: usize, size: usize) -> Result<usize, usize>
+// The elements, first by small tables. An element has three bytes or more: no text of 8,192 bytes has more than 2,731, the last of which may break.
+fn elements(s: &[u8], at: usize) -> Result<usize, usize>
     requires { length s.now ≤ line_limit }
     ensures { result ≡ each_at [] s.now at }
 {
-    if 64 < size {
-        return told_of(most(s, at));
+    match told::<64, 320>(s, at) {
+        Some(w) => w,
+        None => told::<2731, 8321>(s, at).unwrap(),
     }
-    let Tried::Told(w) = few(s, at) else {
-        return elements(s, at, 2731);
-    };
-    w
 }
 
 // How far structured data goes that stands at a place of the line.
@@ -429,7 +398,7 @@ pub fn data(s: &[u8], at: usize) -> Result<usize, usize>
     if !is_at(s, at, b'[') {
         return Err(at);
     }
-    elements(s, at, 64)
+    elements(s, at)
 }
 
 // ---- the message

@@ -8,39 +8,16 @@ use native.Mathlib.Omega.{arith}
 use lib.ListN.{length}
 use Rattle.base.proofs.Tests.{by_test, clash}
 use Rattle.record.specs.declared.Refusal.{Refusal}
-use Rattle.record.specs.declared.StrictRecord.{StrictRecord}
 use Rattle.record.specs.declared.StrictReading.{StrictReading}
-use Rattle.strict.specs.Scan.{answered}
 use Rattle.strict.proofs.Readings.{answers}
 use Rattle.frames.specs.declared.Options.{Options}
 use Rattle.frames.specs.declared.State.{State}
 use Rattle.frames.specs.States.{start_of}
-use Rattle.tally.specs.Tally.{Tally, row_of, column_of, addition, after, Adds}
+use Rattle.tally.specs.Tally.{Tally, row_of, column_of, addition, after}
 use Rattle.tally.specs.Counts.{Additions, none, accepted}
 use Rattle.tally.proofs.Sums.{counts_accepted}
 use Rattle.tallier.specs.declared.Tallied.{Tallied}
-use Rattle.tallier.specs.declared.Tallied.TheVariants as tallied
 use Rattle.tallier.specs.Frames.{told_of, reading_of, TalliesReading, Tallies, ReadAsListed, is_accepted, accept_count, is_refused, After, start, next, SumIsAccepted, Onward}
-
--- ---- one frame
-
-pub told_refused : (a : Result (Unit {0}) Refusal) (f : Refusal) → a ≡ Err f → tallied.Refused f ≡ told_of a
-told_refused a f e = rw e
-
-pub ruleset told_laws = (told_refused)
-
-module _ (old new : Tally) where
-  pub reading_added : (reading : Result StrictReading Refusal) (r : StrictRecord) (e p : ℕ) (a : Result (Unit {0}) Refusal) (t : Tallied)
-      → reading ≡ Ok (record { reading = r; elements = e; params = p }) → Adds old r.common.facility r.common.severity a new → t ≡ told_of a → TalliesReading old reading t new
-  reading_added reading r e p a t q h s = rw q (record { told = s ∙ ap told_of h.answers; leaves = rw h.answers at h.leaves })
-
-  pub reading_passed : (reading : Result StrictReading Refusal) (f : Refusal) → reading ≡ Err f → new ≡ old → TalliesReading old reading tallied.Passed new
-  reading_passed reading f q h = rw q (record { told = refl; leaves = h })
-
-  pub frame_added : (frame : List ℕ) (r : Result StrictReading Refusal) (a : Tallied) → r ≡ answered frame 64 256 → TalliesReading old r a new → Tallies old frame a new
-  frame_added frame r a e h = record { tallies = rw e at h }
-
-pub ruleset reading_laws = (reading_added, reading_passed, frame_added)
 
 -- ---- frames one behind the other
 
