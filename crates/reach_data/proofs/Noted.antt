@@ -1,5 +1,5 @@
 -- The rows that a walk notes: what they say of the line, and what is told by the first that repeats.
-use Rattle.std.specs.Prelude.{if◌then◌else◌, Result, Ok, Err}
+use Rattle.std.specs.Prelude.{if◌then◌else◌, Option, Some, None, Result, Ok, Err}
 use Prim.Native.Nat.{ℕ, zero, suc, ◌+◌, ◌-◌, ◌*◌, ◌≤◌, ◌<◌}
 use mathlib.Core.Path.{◌≡◌, refl, sym, ap, ap₂, ◌∙◌, subst}
 use mathlib.Core.Bool.{Bool, true, false}
@@ -27,11 +27,7 @@ use Rattle.viable.specs.Ids.{is_used, is_shut}
 use Rattle.viable.proofs.Data.{no_name}
 use Rattle.viable.proofs.Walks.{got_past}
 use Rattle.reach_data.specs.Pieces.{plain_far, plain_at}
-use Rattle.reach_data.specs.Rows.{each_at, len_of, id_len, Elements, Noting, Noted, Ends, Listed, Beyond, Walked, Leaves, used_to, near_of, shut_at, id_end, Named, Spacious, Judging, Judged, Tells, told_of}
-use Rattle.reach_data.specs.declared.Tried.{Tried}
-use Rattle.reach_data.specs.declared.Tried.TheVariants.{Short, Told}
-use Rattle.reach_data.specs.declared.Walk.{Walk}
-use Rattle.reach_data.specs.declared.Walk.TheVariants.{Full, Rowed}
+use Rattle.reach_data.specs.Rows.{each_at, len_of, id_len, Elements, Noting, Noted, Ends, Listed, Beyond, Walked, Leaves, used_to, near_of, shut_at, id_end, Named, Spacious, Judging, Judged, Tells}
 use Rattle.reach_data.specs.Rows.Elements.{none, more}
 use Rattle.reach_data.specs.Rows.Ends.{ended, broke}
 use Rattle.reach_data.proofs.Each.{used_length, used_yes, differ_less, differ_new, each_end, each_on, each_used, each_plain}
@@ -203,14 +199,14 @@ walking_start s starts lens from a =
     record { elements = none; room = omega arith; one_size = a.one_size; starts_kept = refl; lens_kept = refl; short = a.short }
 
 module _ (s : List ℕ) (from i k : ℕ) (starts₀ lens₀ starts lens : List ℕ) (w : Walking s from i k starts₀ lens₀ starts lens) (t : Bool) (et : t ≡ is_at s i 91) where
-  pub walk_end : t ≡ false → Leaves s starts₀ lens₀ starts lens from (Rowed k (Ok i))
+  pub walk_end : t ≡ false → Leaves s starts₀ lens₀ starts lens from (Some (k, Ok i))
   walk_end h = record { walked = record { ends = ended w.elements (sym et ∙ h) refl; room = w.room }; starts_kept = w.starts_kept; lens_kept = w.lens_kept }
 
   module _ (h : t ≡ true) where
     here : i < length s
     here = at_below s i 90 (sym et ∙ h)
 
-    pub walk_full : k ≡ length starts → Leaves s starts₀ lens₀ starts lens from Full
+    pub walk_full : k ≡ length starts → Leaves s starts₀ lens₀ starts lens from None
     walk_full e =
         let l = here in
         record { walked = record { many = omega (arith, elements_size s starts lens from w.elements, e) }; starts_kept = w.starts_kept; lens_kept = w.lens_kept }
@@ -252,7 +248,7 @@ module _ (s : List ℕ) (from i k : ℕ) (starts₀ lens₀ starts lens : List �
         lens_size = ap length el ∙ length-set lens k m
 
         module _ (x : Result ℕ ℕ) (ex : x ≡ plain_at s (i + 1)) where
-          pub walk_broke : (j : ℕ) → x ≡ Err j → Leaves s starts₀ lens₀ starts' lens' from (Rowed (k + 1) x)
+          pub walk_broke : (j : ℕ) → x ≡ Err j → Leaves s starts₀ lens₀ starts' lens' from (Some (k + 1, x))
           walk_broke j e =
               record {
                 walked = record { ends = broke before (sym et ∙ h) new_start new_len refl j e ex; room = omega (arith, w.room, starts_size) };
@@ -336,13 +332,13 @@ module _ (s starts₀ lens₀ depths kids : List ℕ) (at : ℕ) (p : Spacious s
   pub tell_noting : Noting s starts₀ lens₀
   tell_noting = p.noting
 
-  module _ (starts lens : List ℕ) (r : Walk) (v : Leaves s starts₀ lens₀ starts lens at r) where
-    pub tell_short : r ≡ Full → Beyond s (length starts₀)
+  module _ (starts lens : List ℕ) (r : Option (ℕ × Result ℕ ℕ)) (v : Leaves s starts₀ lens₀ starts lens at r) where
+    pub tell_short : r ≡ None → Beyond s (length starts₀)
     tell_short e =
         let b : Beyond s (length starts) = subst (Walked s starts lens at) e v.walked in
         record { many = omega (arith, b.many, v.starts_kept) }
 
-    module _ (n : ℕ) (w : Result ℕ ℕ) (e : r ≡ Rowed n w) where
+    module _ (n : ℕ) (w : Result ℕ ℕ) (e : ◌≡◌ {A = Option (ℕ × Result ℕ ℕ)} r (Some (n, w))) where
       listed : Listed s starts lens at n w
       listed = subst (Walked s starts lens at) e v.walked
 
@@ -367,27 +363,3 @@ module _ (s starts₀ lens₀ depths kids : List ℕ) (at : ℕ) (p : Spacious s
       tell_told x j = j.is at listed
 
 pub ruleset tell_laws = (tell_noting, tell_short, tell_judging, tell_told)
-
-zeros : (n q : ℕ) → ◌≡◌ {A = ℕ} (get_or (replicate n 0) q 0) 0
-zeros zero q = refl
-zeros (suc n) zero = refl
-zeros (suc n) (suc q) = zeros n q
-
--- tables that were just made
-pub room_made : (s : List ℕ) (n slots : ℕ) → length s ≤ line_limit → n < 65536 → 128 + 3 * n ≤ slots → Spacious s (replicate n 0) (replicate n 0) (replicate n 0) (replicate slots 0)
-room_made s n slots l f h = record {
-  noting = record { one_size = refl; short = l };
-  room = record { few = simp length-replicate f; depths_room = omega arith; slots_room = simp length-replicate h };
-  clear = zeros slots;
-}
-
--- the largest tables have rows enough
-module _ (s : List ℕ) (at : ℕ) (short : length s ≤ line_limit) where
-  pub most_told : (r : Tried) → Tells s at 2731 r → (w : Result ℕ ℕ) → w ≡ told_of r → w ≡ each_at [] s at
-  most_told Short b w e = absurd (omega (arith, b.many))
-  most_told (Told v) t w e = e ∙ t
-
-  pub few_told : (r : Tried) → Tells s at 64 r → (w : Result ℕ ℕ) → r ≡ Told w → w ≡ each_at [] s at
-  few_told r t w e = subst (Tells s at 64) e t
-
-pub ruleset told_laws = (most_told, few_told)

@@ -1,5 +1,5 @@
 -- For private contracts alone: the ids of the elements that a walk notes, a row for each, and how far an id goes that is used.
-use Rattle.std.specs.Prelude.{ℕ, zero, suc, ◌+◌, ◌*◌, ◌≤◌, ◌<◌, ◌≡◌, Bool, true, false, not, ◌&&◌, ◌||◌, List, [], ◌∷◌, length, get_or, set, take, drop, leb, eqb, if◌then◌else◌, Result, Ok, Err}
+use Rattle.std.specs.Prelude.{ℕ, zero, suc, ◌+◌, ◌*◌, ◌≤◌, ◌<◌, ◌≡◌, Bool, true, false, not, ◌&&◌, ◌||◌, List, [], ◌∷◌, length, get_or, set, take, drop, leb, eqb, if◌then◌else◌, Option, Some, None, Result, Ok, Err}
 use Rattle.base.specs.Choose.{is_at}
 use Rattle.base.specs.Runs.{run}
 use Rattle.base.specs.Texts.{same_text}
@@ -15,10 +15,6 @@ use Rattle.viable.specs.Ids.{is_shut, room}
 use Rattle.viable.specs.Reach.{element_in, element_far, used_and}
 use Rattle.viable.specs.Walks.{went_at}
 use Rattle.reach_data.specs.Pieces.{plain_at}
-use Rattle.reach_data.specs.declared.Walk.{Walk}
-use Rattle.reach_data.specs.declared.Walk.TheVariants.{Full, Rowed}
-use Rattle.reach_data.specs.declared.Tried.{Tried}
-use Rattle.reach_data.specs.declared.Tried.TheVariants.{Short, Told}
 
 -- *SD-ELEMENT, where the ids of `used` are used
 abbrev pub each_at : List (List ℕ) → List ℕ → ℕ → Result ℕ ℕ
@@ -66,12 +62,12 @@ pub record Listed (s starts lens : List ℕ) (from n : ℕ) (w : Result ℕ ℕ)
 pub record Beyond (s : List ℕ) (size : ℕ) : Type 0 where
   pub many : 3 * size < length s
 
-abbrev pub Walked : List ℕ → List ℕ → List ℕ → ℕ → Walk → Type 0
-Walked s starts lens from Full = Beyond s (length starts)
-Walked s starts lens from (Rowed n w) = Listed s starts lens from n w
+abbrev pub Walked : List ℕ → List ℕ → List ℕ → ℕ → Option (ℕ × Result ℕ ℕ) → Type 0
+Walked s starts lens from None = Beyond s (length starts)
+Walked s starts lens from (Some x) = Listed s starts lens from x.0 x.1
 
 -- what a walk leaves
-pub record Leaves (s starts₀ lens₀ starts lens : List ℕ) (from : ℕ) (r : Walk) : Type 0 where
+pub record Leaves (s starts₀ lens₀ starts lens : List ℕ) (from : ℕ) (r : Option (ℕ × Result ℕ ℕ)) : Type 0 where
   pub walked : Walked s starts lens from r
   pub starts_kept : length starts ≡ length starts₀
   pub lens_kept : length lens ≡ length lens₀
@@ -152,11 +148,6 @@ pub record Judging (s starts lens depths kids : List ℕ) (n : ℕ) (w : Result 
 pub record Judged (s starts lens : List ℕ) (n : ℕ) (w r : Result ℕ ℕ) : Type 0 where
   pub is : (from : ℕ) → Listed s starts lens from n w → r ≡ each_at [] s from
 
-abbrev pub Tells : List ℕ → ℕ → ℕ → Tried → Type 0
-Tells s from size Short = Beyond s size
-Tells s from size (Told w) = w ≡ each_at [] s from
-
--- what is told; nothing else is asked of a walk that was short
-abbrev pub told_of : Tried → Result ℕ ℕ
-told_of Short = Err 0
-told_of (Told w) = w
+abbrev pub Tells : List ℕ → ℕ → ℕ → Option (Result ℕ ℕ) → Type 0
+Tells s from size None = Beyond s size
+Tells s from size (Some w) = w ≡ each_at [] s from

@@ -1,10 +1,10 @@
 // How far the structured data and the message of a line go. Each piece is walked from its place in the line, and answers the place after it, or the place where it breaks.
 #![tactic(auto)]
 
-ghost use Rattle.std.specs.Prelude.{◌≡◌, not, [], ◌+◌, ◌-◌, ◌≤◌, ◌<◌, length, get_or, set, take, drop};
+ghost use Rattle.std.specs.Prelude.{◌≡◌, not, [], ◌+◌, ◌-◌, ◌*◌, ◌^◌, ◌≤◌, ◌<◌, length, get_or, set, take, drop};
 ghost use Rattle.base.specs.Runs.{run};
 ghost use Rattle.grammar.specs.Abnf.{sd_name_byte};
-ghost use Rattle.reach_data.specs.Rows.{each_at, len_of, Noted, Noting, Leaves, Named, Long, is_like, mark_of, marks_with, Clear, Marks, is_asked, is_unseen, shut_at, id_end, Judging, Judged, Spacious, Tells, told_of};
+ghost use Rattle.reach_data.specs.Rows.{each_at, len_of, Noted, Noting, Leaves, Named, Long, is_like, mark_of, marks_with, Clear, Marks, is_asked, is_unseen, shut_at, id_end, Judging, Judged, Spacious, Tells};
 ghost use Rattle.reach_data.specs.Values.{utf8_at};
 ghost use Rattle.record.specs.Limits.{line_limit};
 ghost use Rattle.distinct.specs.Distinct.{id_of, Rows};
@@ -117,10 +117,11 @@ fn param(s: &[u8], at: usize) -> Result<usize, usize>
 fn bracket(s: &[u8], at: usize) -> Result<usize, usize>
     ensures { result ≡ bracket_at s.now at }
 {
-    if !is_at(s, at, b']') {
-        return Err(at);
+    if is_at(s, at, b']') {
+        Ok(at + 1)
+    } else {
+        Err(at)
     }
-    Ok(at + 1)
 }
 
 // The parameters of an element, and its `]`.
@@ -155,11 +156,7 @@ fn id_len(at: usize, end: usize) -> usize
     requires { at ≤ end }
     ensures { result ≡ len_of (end - at) }
 {
-    let n = end - at;
-    if 32 < n {
-        return 32;
-    }
-    n
+    (end - at).min(32)
 }
 
 // Row `k`: where an id starts and how many bytes it has.
@@ -172,15 +169,13 @@ fn note(starts: &mut [u16], lens: &mut [u8], k: usize, start: usize, len: usize)
     lens[k] = len as u8;
 }
 
-// A walk over the elements notes a row for each id: all of them, and where the elements end or break, whatever their ids are; or there are more than the tables
-// have rows for.
-#[derive(Clone, Copy)]
-enum Walk {
-    Full,
-    Rowed(usize, Result<usize, usize>),
-}
-
-fn note_all(s: &[u8], at: usize, starts: &mut [u16], lens: &mut [u8]) -> Walk
+// Notes a row for each id: how many, and where the elements end or break, whatever their ids are; or nothing, where there are more than the tables have rows for.
+fn note_all(
+    s: &[u8],
+    at: usize,
+    starts: &mut [u16],
+    lens: &mut [u8],
+) -> Option<(usize, Result<usize, usize>)>
     requires { Noting s.now starts.old lens.old }
     ensures { Leaves s.now starts.old lens.old starts.new lens.new at result }
 {
@@ -188,7 +183,7 @@ fn note_all(s: &[u8], at: usize, starts: &mut [u16], lens: &mut [u8]) -> Walk
     let mut k = 0;
     while is_at(s, i, b'[') {
         if k == starts.len() {
-            return Walk::Full;
+            return None;
         }
         let j = i + 1;
         let end = name_end(s, j);
@@ -196,11 +191,11 @@ fn note_all(s: &[u8], at: usize, starts: &mut [u16], lens: &mut [u8]) -> Walk
         let w = element(s, j, end);
         k += 1;
         let Ok(n) = w else {
-            return Walk::Rowed(k, w);
+            return Some((k, w));
         };
         i = n;
     }
-    Walk::Rowed(k, Ok(i))
+    Some((k, Ok(i)))
 }
 
 // The id of row `k`.
@@ -208,22 +203,9 @@ fn id_at<'a>(s: &'a [u8], starts: &'a [u16], lens: &'a [u8], k: usize) -> &'a [u
     requires { Rows s.now starts.now lens.now (k + 1) }
     ensures { result.now ≡ id_of s.now starts.now lens.now k }
 {
-    let start = wide(starts[k]);
-    let end = start + small(lens[k]);
+    let start = usize::from(starts[k]);
+    let end = start + usize::from(lens[k]);
     &s[start..end]
-}
-
-fn wide(x: u16) -> usize
-    ensures { result ≡ x }
-{
-    x as usize
-}
-
-fn small(x: u8) -> usize
-    ensures value { result ≡ x }
-    ensures upper_bound { result < 256 }
-{
-    x as usize
 }
 
 // Whether the other id begins with the first 31 bytes of this one.
@@ -231,10 +213,7 @@ fn is_like(own: &[u8], other: &[u8]) -> bool
     requires { 31 ≤ length own.now }
     ensures { result ≡ is_like (take 31 own.now) other.now }
 {
-    if other.len() < 31 {
-        return false;
-    }
-    base::same_text(&other[0..31], &own[0..31])
+    31 <= other.len() && base::same_text(&other[..31], &own[..31])
 }
 
 // The byte after the first 31, or 0 where there is none.
@@ -242,10 +221,7 @@ fn after_31(id: &[u8]) -> usize
     ensures value { result ≡ get_or id.now 31 0 }
     ensures upper_bound { result < 256 }
 {
-    if id.len() <= 31 {
-        return 0;
-    }
-    small(id[31])
+    id.get(31).map_or(0, |b| usize::from(*b))
 }
 
 fn mark_of(old: u8, like: bool) -> u8
@@ -271,11 +247,9 @@ fn mark<'a>(s: &'a [u8], starts: &'a [u16], lens: &'a [u8], j: usize, seen: &mut
     ensures { Marks (id_of s.now starts.now lens.now) (take 31 (id_of s.now starts.now lens.now j)) j seen.new }
 {
     let own = id_at(s, starts, lens, j);
-    let mut i = 0;
-    while i < j {
+    for i in 0..j {
         let other = id_at(s, starts, lens, i);
         mark_one(own, other, seen);
-        i += 1;
     }
 }
 
@@ -286,16 +260,15 @@ fn is_asked(c: usize) -> bool
 }
 
 // Whether all bytes of names are marked, and 0.
+#[tactic(auto, using(crate::proofs::Shut::looking_laws))]
 fn all_seen(seen: &[u8]) -> bool
     requires { length seen.now ≡ 256 }
     ensures { result ≡ not (any_below 127 (is_unseen seen.now)) }
 {
-    let mut c = 0;
-    while c < 127 {
+    for c in 0..127 {
         if is_asked(c) & (seen[c] != 1) {
             return false;
         }
-        c += 1;
     }
     true
 }
@@ -315,15 +288,15 @@ fn id_end<'a>(s: &'a [u8], starts: &'a [u16], lens: &'a [u8], j: usize) -> usize
     requires { Named s.now starts.now lens.now j }
     ensures { result ≡ id_end s.now starts.now lens.now j }
 {
-    let start = wide(starts[j]);
-    let n = small(lens[j]);
+    let start = usize::from(starts[j]);
+    let n = usize::from(lens[j]);
     if n <= 30 {
-        return start + n;
+        start + n
+    } else if is_shut(s, starts, lens, j) {
+        start + 30
+    } else {
+        start + 31
     }
-    if is_shut(s, starts, lens, j) {
-        return start + 30;
-    }
-    start + 31
 }
 
 // Where the elements end or break, by their rows: at the first id that repeats, if one does.
@@ -341,18 +314,13 @@ fn judge<'a>(
 {
     let j = distinct::first_repeat(s, starts, lens, n, depths, kids);
     if j == n {
-        return w;
+        w
+    } else {
+        Err(id_end(s, starts, lens, j))
     }
-    Err(id_end(s, starts, lens, j))
 }
 
 // What tables tell of the elements, if they have rows enough.
-#[derive(Clone, Copy)]
-enum Tried {
-    Short,
-    Told(Result<usize, usize>),
-}
-
 fn tell(
     s: &[u8],
     at: usize,
@@ -360,76 +328,54 @@ fn tell(
     lens: &mut [u8],
     depths: &mut [u8],
     kids: &mut [u16],
-) -> Tried
+) -> Option<Result<usize, usize>>
     requires { Spacious s.now starts.old lens.old depths.old kids.old }
     ensures { Tells s.now at (length starts.old) result }
 {
-    let Walk::Rowed(n, w) = note_all(s, at, starts, lens) else {
-        return Tried::Short;
-    };
-    Tried::Told(judge(s, starts, lens, n, w, depths, kids))
+    let (n, w) = note_all(s, at, starts, lens)?;
+    Some(judge(s, starts, lens, n, w, depths, kids))
 }
 
-// The tables are on the stack and are cleared, so that each text pays for a size that fits it.
-fn few(s: &[u8], at: usize) -> Tried
-    requires { length s.now ≤ line_limit }
-    ensures { Tells s.now at 64 result }
+// The same by tables of a size. They are on the stack and are cleared, so that each text pays for a size that fits it: the large ones are not drawn into the caller.
+#[inline(never)]
+fn told<const ROWS: usize, const KIDS: usize>(s: &[u8], at: usize) -> Option<Result<usize, usize>>
+    requires short { length s.now ≤ line_limit }
+    requires rows { ROWS < 65536 }
+    requires fits { KIDS < 2 ^ 62 }
+    requires kids { 128 + 3 * ROWS ≤ KIDS }
+    ensures { Tells s.now at ROWS result }
 {
-    let mut starts = [0u16; 64];
-    let mut lens = [0u8; 64];
-    let mut depths = [0u8; 64];
-    let mut kids = [0u16; 320];
+    let mut starts = [0u16; ROWS];
+    let mut lens = [0u8; ROWS];
+    let mut depths = [0u8; ROWS];
+    let mut kids = [0u16; KIDS];
     tell(s, at, &mut starts, &mut lens, &mut depths, &mut kids)
 }
 
-// An element has three bytes or more: no text of 8,192 bytes has more than 2,731, the last of which may break.
-fn most(s: &[u8], at: usize) -> Tried
-    requires { length s.now ≤ line_limit }
-    ensures { Tells s.now at 2731 result }
-{
-    let mut starts = [0u16; 2731];
-    let mut lens = [0u8; 2731];
-    let mut depths = [0u8; 2731];
-    let mut kids = [0u16; 8321];
-    tell(s, at, &mut starts, &mut lens, &mut depths, &mut kids)
-}
-
-fn told_of(tried: Tried) -> Result<usize, usize>
-    ensures { result ≡ told_of tried }
-{
-    match tried {
-        Tried::Short => Err(0),
-        Tried::Told(w) => w,
-    }
-}
-
-// The elements, first by small tables. (A function that calls itself is not drawn into its caller by the compiler, nor large tables into it: only lines with many
-// elements pay for them.)
-fn elements(s: &[u8], at: usize, size: usize) -> Result<usize, usize>
+// The elements, first by small tables. An element has three bytes or more: no text of 8,192 bytes has more than 2,731, the last of which may break.
+fn elements(s: &[u8], at: usize) -> Result<usize, usize>
     requires { length s.now ≤ line_limit }
     ensures { result ≡ each_at [] s.now at }
 {
-    if 64 < size {
-        return told_of(most(s, at));
+    match told::<64, 320>(s, at) {
+        Some(w) => w,
+        None => told::<2731, 8321>(s, at).unwrap(),
     }
-    let Tried::Told(w) = few(s, at) else {
-        return elements(s, at, 2731);
-    };
-    w
 }
 
 // How far structured data goes that stands at a place of the line.
+#[tactic(auto, using(crate::proofs::Each::data_laws))]
 pub fn data(s: &[u8], at: usize) -> Result<usize, usize>
     requires { length s.now ≤ line_limit }
     ensures { result ≡ data_at s.now at }
 {
     if is_at(s, at, b'-') {
-        return Ok(at + 1);
+        Ok(at + 1)
+    } else if is_at(s, at, b'[') {
+        elements(s, at)
+    } else {
+        Err(at)
     }
-    if !is_at(s, at, b'[') {
-        return Err(at);
-    }
-    elements(s, at, 64)
 }
 
 // ---- the message
@@ -485,21 +431,23 @@ fn text(s: &[u8], at: usize) -> Result<usize, usize>
     requires { at ≤ length s.now }
     ensures { result ≡ text_at s.now at }
 {
-    if !is_mark(base::past(s, at)) {
-        return Ok(s.len());
+    if is_mark(base::past(s, at)) {
+        utf8_to_end(s, at + 3)
+    } else {
+        Ok(s.len())
     }
-    utf8_to_end(s, at + 3)
 }
 
 // How far what is after the structured data goes: nothing, or a space and a message.
+#[tactic(auto, using(crate::proofs::Messages::message_laws))]
 pub fn message(s: &[u8], at: usize) -> Result<usize, usize>
     ensures { result ≡ message_at s.now at }
 {
     if is_at(s, at, b' ') {
-        return text(s, at + 1);
+        text(s, at + 1)
+    } else if at < s.len() {
+        Err(at)
+    } else {
+        Ok(at)
     }
-    if at < s.len() {
-        return Err(at);
-    }
-    Ok(at)
 }

@@ -16,7 +16,7 @@ use Rattle.digits.specs.Digits.{number_at}
 use Rattle.calendar.specs.Calendar.{offset_limit, last_year}
 use Rattle.pri.specs.Pri.{no_pri, pri_after, pri_at}
 use Rattle.pri.specs.declared.Pri.{Pri}
-use Rattle.parsers.specs.Steps.{blanks_from}
+use Rattle.parsers.specs.Steps.{blanks_from, on_read}
 use Rattle.parsers.proofs.Steps.{blanks_within}
 use Rattle.timestamp.specs.Timestamp.{rfc3164_from}
 use Rattle.timestamp.proofs.Answers.{StampIn, rfc3164_within, rfc3164_stamp}
@@ -102,7 +102,7 @@ module _ (line s : List ℕ) (inside : length s ≤ length line) (start : ℕ) w
         from : ℕ
         from = blanks_from s (start + pri.next)
 
-        go : (g : Option (Option Timestamp × ℕ)) → g ≡ rfc3164_from year offset s from → OutcomeSuits line (rfc3164.on_read g no_reading (λ stamp a. rfc3164.body_from pri stamp s a))
+        go : (g : Option (Option Timestamp × ℕ)) → g ≡ rfc3164_from year offset s from → OutcomeSuits line (on_read g no_reading (λ stamp a. rfc3164.body_from pri stamp s a))
         go None q = tt
         go (Some x) q =
             let p = pri_suits (drop start s) in
