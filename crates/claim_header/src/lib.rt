@@ -26,11 +26,9 @@ fn digits_at(line: &[u8], at: usize, k: usize, n: u32) -> bool
     requires { at + k ≤ length line.now }
     ensures { result ≡ stands_at line.now at (fixed k n) }
 {
-    let mut left = k;
     let mut rest = n;
-    while 0 < left {
-        left -= 1;
-        if line[at + left] != (48 + rest % 10) as u8 {
+    for i in (0..k).rev() {
+        if line[at + i] != (48 + rest % 10) as u8 {
             return false;
         }
         rest /= 10;
