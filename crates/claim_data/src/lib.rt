@@ -37,11 +37,7 @@ fn name_at(line: &[u8], at: usize, len: usize) -> bool
     requires { at + len ≤ length line.now }
     ensures { result ≡ class_at line.now 32 sd_name_byte at len }
 {
-    if !((1 <= len) & (len <= 32)) {
-        return false;
-    }
-    let end = at + len;
-    name_bytes(&line[at..end])
+    1 <= len && len <= 32 && name_bytes(&line[at..at + len])
 }
 
 // The same with `=` and a quote.
@@ -50,10 +46,7 @@ fn name_holds(line: &[u8], at: usize, len: usize) -> bool
     requires len_in_bounds { at + len ≤ length line.now }
     ensures { result ≡ name_holds line.now at len }
 {
-    if !name_at(line, at, len) {
-        return false;
-    }
-    is_at(line, at + len, b'=') & is_at(line, at + len + 1, b'"')
+    name_at(line, at, len) && is_at(line, at + len, b'=') && is_at(line, at + len + 1, b'"')
 }
 
 // Whether backslash pairs are taken from the left, with no quote and no bracket bare and no backslash left alone.
@@ -75,14 +68,8 @@ fn value_holds(line: &[u8], at: usize, len: usize) -> bool
     requires { at + len ≤ length line.now }
     ensures { result ≡ value_holds line.now at len }
 {
-    let end = at + len;
-    if !utf8::is_utf8(&line[at..end]) {
-        return false;
-    }
-    if !well_escaped(&line[at..end]) {
-        return false;
-    }
-    is_at(line, end, b'"')
+    let value = &line[at..at + len];
+    utf8::is_utf8(value) && well_escaped(value) && is_at(line, at + len, b'"')
 }
 
 // ---- entries
@@ -207,16 +194,11 @@ pub fn last(line: &[u8], at: usize, ids: &[[usize; 2]], k: usize) -> Option<usiz
 fn is_message(m: &[u8]) -> bool
     ensures { result ≡ is_message m.now }
 {
-    if !is_at(m, 0, 0xEF) {
-        return true;
+    if is_at(m, 0, 0xEF) && is_at(m, 1, 0xBB) && is_at(m, 2, 0xBF) {
+        utf8::is_utf8(base::past(m, 3))
+    } else {
+        true
     }
-    if !is_at(m, 1, 0xBB) {
-        return true;
-    }
-    if !is_at(m, 2, 0xBF) {
-        return true;
-    }
-    utf8::is_utf8(base::past(m, 3))
 }
 
 // Whether a space and the message stand at `at` and no byte is left over; or nothing, where none is claimed.
@@ -226,18 +208,12 @@ pub fn message_holds(line: &[u8], at: usize, has: bool, m: Span) -> bool
     ensures { result ≡ message_holds line.now at has m }
 {
     if !has {
-        return (m.start == 0) & (m.len == 0) & (at == line.len());
+        return m.start == 0 && m.len == 0 && at == line.len();
     }
-    if !is_at(line, at, b' ') {
-        return false;
-    }
-    if m.start != at + 1 {
-        return false;
-    }
-    if at + 1 + m.len != line.len() {
-        return false;
-    }
-    is_message(base::past(line, at + 1))
+    is_at(line, at, b' ')
+        && m.start == at + 1
+        && at + 1 + m.len == line.len()
+        && is_message(base::past(line, at + 1))
 }
 
 // ---- the ids
