@@ -11,7 +11,7 @@ use Rattle.digits.proofs.Decimals.{decimal_lt}
 use Rattle.record.specs.Limits.{line_limit}
 use Rattle.record.specs.declared.Record.{Record}
 use Rattle.pri.specs.Pri.{pri_at}
-use Rattle.parsers.specs.Steps.{blanks_from, some_blanks_from, number_from}
+use Rattle.parsers.specs.Steps.{blanks_from, some_blanks_from, number_from, on_read}
 use Rattle.timestamp.specs.Rfc3339.{rfc3339_from}
 use Rattle.timestamp.specs.Timestamp.{rfc3164_from}
 use Rattle.timestamp.proofs.Onward.{on_num_lem, on_pos_lem}
@@ -69,7 +69,7 @@ module _ (s : List ℕ) (short : length s ≤ line_limit) (start : ℕ) where
   unfolding rfc3164.rfc3164 rfc3164.body_from
   rfc3164_in year offset = go (rfc3164_from year offset s (blanks_from s (start + (pri_at (drop start s)).next)))
     where
-      go : (g : Option (Option Timestamp × ℕ)) → OutcomeIn (rfc3164.on_read g no_reading (λ stamp a. rfc3164.body_from (pri_at (drop start s)) stamp s a))
+      go : (g : Option (Option Timestamp × ℕ)) → OutcomeIn (on_read g no_reading (λ stamp a. rfc3164.body_from (pri_at (drop start s)) stamp s a))
       go None = tt
       go (Some x) = (tt, data_few Rfc3164Rules s _ short)
 
