@@ -24,13 +24,10 @@ use record::{Param, Span};
 fn name_bytes(t: &[u8]) -> bool
     ensures { result ≡ every sd_name_byte t.now }
 {
-    let mut i = 0;
-    while i < t.len() {
-        let b = t[i];
-        if !((33 <= b) & (b <= 126) & !((b == b'=') | (b == b']') | (b == b'"'))) {
+    for b in t {
+        if !((33 <= *b) & (*b <= 126) & !((*b == b'=') | (*b == b']') | (*b == b'"'))) {
             return false;
         }
-        i += 1;
     }
     true
 }
@@ -63,15 +60,12 @@ fn name_holds(line: &[u8], at: usize, len: usize) -> bool
 fn well_escaped(t: &[u8]) -> bool
     ensures { result ≡ well_escaped false t.now }
 {
-    let mut i = 0;
     let mut paired = false;
-    while i < t.len() {
-        let b = t[i];
-        if !paired & ((b == b'"') | (b == b']')) {
+    for b in t {
+        if !paired & ((*b == b'"') | (*b == b']')) {
             return false;
         }
-        paired = !paired & (b == b'\\');
-        i += 1;
+        paired = !paired & (*b == b'\\');
     }
     !paired
 }
@@ -173,11 +167,8 @@ fn opens(line: &[u8], at: usize, ids: &[[usize; 2]], k: usize, last: usize) -> O
     ensures { result ≡ opens_next line.now at (take (last - k) (drop (k + 1) ids.now)) }
 {
     let mut pos = at;
-    let mut j = k;
-    while j < last {
-        j += 1;
-        let row = ids[j];
-        pos = open(line, pos, row)?;
+    for j in k..last {
+        pos = open(line, pos, ids[j + 1])?;
     }
     Some(pos)
 }
@@ -256,12 +247,9 @@ fn note(ids: &[[usize; 2]], starts: &mut [u16], lens: &mut [u8])
     requires { Notable ids.now starts.old lens.old }
     ensures { Noted ids.now (length ids.now) starts.old lens.old starts.new lens.new }
 {
-    let mut i = 0;
-    while i < ids.len() {
-        let row = ids[i];
+    for (i, row) in ids.iter().enumerate() {
         starts[i] = row[0] as u16;
         lens[i] = row[1] as u8;
-        i += 1;
     }
 }
 

@@ -1,7 +1,7 @@
 -- Tables and an output that are always enough (specs/Enough.antt), from the bounds of a reading.
 use Rattle.std.specs.Prelude.{Result, Ok, Err}
 use Prim.Native.Nat.{ℕ, ◌+◌, ◌≤◌}
-use mathlib.Core.Path.{◌≡◌, refl}
+use mathlib.Core.Path.{◌≡◌, refl, ap}
 use mathlib.Core.List.{List, [], ◌∷◌}
 use mathlib.Core.Bool.{Bool, true, false, not, ◌&&◌}
 use native.Mathlib.Omega.{arith}
@@ -119,8 +119,11 @@ whole_bounded line =
       printed_small = rw pieces (rw pri_size (omega (arith, width_small 9 1 47 (omega arith), end_le Rfc3164 0, field_size line absent)));
     }
 
-never : {A : Type 0} {s : StrictRecord} {e p : ℕ} (f : Refusal) → Ok (record { reading = s; elements = e; params = p }) ≡ Err f → A
-never f h = let z : true ≡ false = cc in clash z
+never : {A : Type 0} {r : StrictReading} (f : Refusal) → ◌≡◌ {A = Result StrictReading Refusal} (Ok r) (Err f) → A
+never f h = absurd (cc)
+
+same_reading : {r q : StrictReading} → ◌≡◌ {A = Result StrictReading Refusal} (Ok r) (Ok q) → r ≡ q
+same_reading h = cc
 
 strict_bounded : {line : List ℕ} {e₀ p₀ e₁ p₁ : List (List ℕ)} {s : StrictRecord} {e p : ℕ}
     → StrictReads line e₀ p₀ (Ok (record { reading = s; elements = e; params = p })) e₁ p₁ → Bounded line s.common (take e e₁) (take p p₁)
@@ -130,9 +133,10 @@ strict_bounded (elements_over d l h m a b c) = never _ a
 strict_bounded (params_over d l h k m a b c) = never _ a
 strict_bounded {line} {e₀} {p₀} {s} {e} {p} (accepted d l h k m a b c) =
     let es = d.elements in
-    let its : s ≡ record_of d = cc in
-    let n : e ≡ length es = cc in
-    let m : p ≡ param_count es = cc in
+    let q = same_reading a in
+    let its : s ≡ record_of d = ap (λ (x : StrictReading). x.reading) q in
+    let n : e ≡ length es = ap (λ (x : StrictReading). x.elements) q in
+    let m : p ≡ param_count es = ap (λ (x : StrictReading). x.params) q in
     rw (its, n, m, b, c, ← elements_many (data_at d) es, ← all_many 0 (data_at d) es)
     (rows_bounded line (record_of d).common (element_rows (data_at d) es) (param_rows 0 (data_at d) es) e₀ p₀ (division_bounded line d h))
 

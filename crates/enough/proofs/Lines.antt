@@ -18,7 +18,7 @@ use Rattle.record.specs.declared.Record.{Record}
 use Rattle.output.proofs.Numerals.{length_fixed, width_le}
 use Rattle.pri.specs.Pri.{pri_at}
 use Rattle.pri.specs.declared.Pri.{Pri}
-use Rattle.parsers.specs.Steps.{blanks_from, some_blanks_from, number_from}
+use Rattle.parsers.specs.Steps.{blanks_from, some_blanks_from, number_from, on_read}
 use Rattle.parsers.proofs.Steps.{blanks_within}
 use Rattle.timestamp.specs.Rfc3339.{rfc3339_from}
 use Rattle.timestamp.specs.Timestamp.{rfc3164_from}
@@ -139,7 +139,7 @@ module _ (line s : List ℕ) (inside : length s ≤ length line) (start : ℕ) w
         from = blanks_from s (start + pri.next)
 
         go : (g : Option (Option Timestamp × ℕ)) → g ≡ rfc3164_from year offset s from → StampFrom 11 from g
-            → OutcomeBounded line (rfc3164.on_read g no_reading (λ stamp a. rfc3164.body_from pri stamp s a))
+            → OutcomeBounded line (on_read g no_reading (λ stamp a. rfc3164.body_from pri stamp s a))
         go None q f = tt
         go (Some x) q f =
             let within_line = rfc3164_within s from _ x.0 x.1 refl year offset q in

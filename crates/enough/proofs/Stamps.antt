@@ -156,10 +156,13 @@ module _ (s : List ℕ) where
 
 -- ---- a timestamp that was read at `at`: `least` bytes or more, and its fraction
 
+abbrev pub StampTo : ℕ → ℕ → Option Timestamp → ℕ → Type 0
+StampTo least at None n = at + 1 ≤ n
+StampTo least at (Some t) n = at + least + length (fraction_text t.digits t.nanos) ≤ n
+
 abbrev pub StampFrom : ℕ → ℕ → Option (Option Timestamp × ℕ) → Type 0
 StampFrom least at None = Unit {0}
-StampFrom least at (Some x) = at + 1 ≤ x.1
-StampFrom least at (Some (Some t, n)) = at + least + length (fraction_text t.digits t.nanos) ≤ n
+StampFrom least at (Some x) = StampTo least at x.0 x.1
 
 module _ (least at : ℕ) where
   stamp_from : (t : DateTime) (nanos digits : ℕ) (o : ℤ) (next : ℕ) → at + least + length (fraction_text digits nanos) ≤ next
@@ -232,8 +235,11 @@ module _ (s : List ℕ) where
 
     shorter : (x : Option (Option Timestamp × ℕ)) → StampFrom 20 at x → StampFrom 11 at x
     shorter None h = tt
-    shorter (Some x) h = h
-    shorter (Some (Some t, n)) h = omega arith
+    shorter (Some x) h = less x.0 h
+      where
+        less : (t : Option Timestamp) → StampTo 20 at t x.1 → StampTo 11 at t x.1
+        less None h = h
+        less (Some t) h = omega arith
 
     pub rfc3164_from_lem : (year : ℕ) → StampFrom 11 at (rfc3164_from year o s at)
     unfolding rfc3164_from

@@ -1,5 +1,5 @@
 -- Ids by blocks: elements with their ids alone, which the strict reader reads where the ids differ.
-use Rattle.std.specs.Prelude.{if◌then◌else◌, Option, Some, None, is_some}
+use Rattle.std.specs.Prelude.{if◌then◌else◌, Option, is_some}
 use Prim.Native.Nat.{ℕ, zero, suc, ◌+◌, ◌-◌, ◌≤◌, ◌<◌}
 use mathlib.Core.Path.{◌≡◌, refl, sym, ap, ◌∙◌, subst}
 use mathlib.Core.Bool.{Bool, true, false, not, ◌&&◌, ◌||◌}
@@ -11,7 +11,6 @@ use lib.Seq.{take-suc, take_at, drop-drop, get_or-drop, length-take-le}
 use borrow.Author.Tests.{not-true, not-false}
 use mir.Syntax.{w64}
 use mir.Val as val
-use Rattle.base.specs.Choose.{within}
 use Rattle.base.specs.Texts.{same_text, is_in, all_different}
 use Rattle.base.proofs.Tests.{clash, both, by_test}
 use Rattle.record.specs.Limits.{line_limit}
@@ -27,8 +26,7 @@ use Rattle.strict_data.specs.declared.Counts.{Counts}
 use Rattle.writes.proofs.Fits.{class_sound}
 use Rattle.writes.specs.Fits.{class_fits}
 use Rattle.ids.specs.declared.Block.{Block}
-use Rattle.ids.specs.declared.Met.{Met}
-use Rattle.ids.specs.Ids.{id_in, ids_in, ids_fit, bare_text, Gathers, Tells, Meets}
+use Rattle.ids.specs.Ids.{id_in, ids_in, ids_fit, bare_text, Gathers, Tells, Joins}
 
 -- ---- lists of ids
 
@@ -375,7 +373,7 @@ module _ (text : List ℕ) (rows : List (List ℕ)) (a : ℕ) (line : List ℕ) 
           pub meet_less : s.next < length rows → length rows - s.next < length rows - b
           meet_less l = let m : b < length rows = omega (arith, g.forward) in omega (arith, g.some m (omega (arith, w.half)))
 
-          pub meet_all : length rows ≤ s.next → Meets text rows a (record { next = c; differ = true })
+          pub meet_all : length rows ≤ s.next → Joins text rows a c
           unfolding ids_in
           meet_all l =
               let v = both (all_different first) (apart first other) yes_both.0 in
@@ -386,8 +384,8 @@ module _ (text : List ℕ) (rows : List (List ℕ)) (a : ℕ) (line : List ℕ) 
                 differ = left_on ∙ rw (z, apart_none first, v.0);
               }
 
-        pub meet_not : not r ≡ true → Meets text rows a (record { next = c; differ = false })
-        meet_not q = record { forward = w.forward; inside = omega (arith, w.onward, w.inside); differ = none }
+        pub meet_not : not r ≡ true → all_different (from text rows a) ≡ false
+        meet_not q = none
           where
             later : all_different (from text rows c) ≡ true → all_different other ≡ true
             later h =
@@ -416,14 +414,10 @@ module _ (text : List ℕ) (rows : List (List ℕ)) (a : ℕ) (w : all_different
   unfolding ids_in
   many_end h = sym (w ∙ ap (λ (r : List (List ℕ)). all_different (ids_in text r)) (drop_of_length-le rows {i = a} h))
 
-  module _ (m : Met) (g : Meets text rows a m) where
-    pub many_not : not m.differ ≡ true → false ≡ all_different (ids_in text rows)
-    many_not q = sym (w ∙ g.differ ∙ rw (not-true m.differ q))
+  pub many_not : all_different (ids_in text (drop a rows)) ≡ false → false ≡ all_different (ids_in text rows)
+  many_not q = sym (w ∙ q)
 
-    pub many_on : not m.differ ≡ false → all_different (ids_in text rows) ≡ all_different (ids_in text (drop m.next rows))
-    many_on q = w ∙ g.differ ∙ rw (not-false m.differ q)
+  pub many_on : (next : ℕ) → Joins text rows a next → all_different (ids_in text rows) ≡ all_different (ids_in text (drop next rows))
+  many_on next g = w ∙ g.differ
 
-    pub many_less : length rows - m.next < length rows - a
-    many_less = omega (arith, g.forward, g.inside)
-
-pub ruleset many_laws = (many_start, many_end, many_not, many_on, many_less)
+pub ruleset many_laws = (many_end, many_not, many_on)

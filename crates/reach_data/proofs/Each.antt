@@ -193,12 +193,12 @@ module _ (s : List ℕ) (at : ℕ) (t : Bool) (et : t ≡ is_at s at 45) where
   data_nil h = choose_yes _ _ _ _ 45 s at t et h (Ok (at + 1)) (ap Ok (let z : at + 1 ≡ at + 1 + 0 = omega arith in z))
 
   module _ (h : t ≡ false) (u : Bool) (eu : u ≡ is_at s at 91) where
-    pub data_none : not u ≡ true → Err at ≡ data_at s at
+    pub data_none : u ≡ false → Err at ≡ data_at s at
     unfolding structured_in structured_far went_at
-    data_none k = choose_no _ _ _ _ 45 s at t et h (Err at) (none_led at (drop at s) (at_here s at 91 ∙ sym eu ∙ not-true u k))
+    data_none k = choose_no _ _ _ _ 45 s at t et h (Err at) (none_led at (drop at s) (at_here s at 91 ∙ sym eu ∙ k))
 
-    pub data_elements : not u ≡ false → (x : Result ℕ ℕ) → x ≡ each_at [] s at → x ≡ data_at s at
+    pub data_elements : u ≡ true → (x : Result ℕ ℕ) → x ≡ each_at [] s at → x ≡ data_at s at
     unfolding structured_in structured_far went_at
-    data_elements k x e = choose_no _ _ _ _ 45 s at t et h x (e ∙ ap (onward_of at) (sym (all_elements (drop at s) (at_here s at 91 ∙ sym eu ∙ not-false u k))))
+    data_elements k x e = choose_no _ _ _ _ 45 s at t et h x (e ∙ ap (onward_of at) (sym (all_elements (drop at s) (at_here s at 91 ∙ sym eu ∙ k))))
 
 pub ruleset data_laws = (data_nil, data_none, data_elements)

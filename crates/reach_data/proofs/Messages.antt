@@ -126,25 +126,25 @@ module _ (s : List ℕ) (at : ℕ) (r : List ℕ) (er : r ≡ drop at s) (m : Bo
   marked : is_mark (drop at s) ≡ m
   marked = ap is_mark (sym er) ∙ sym em
 
-  pub text_any : not m ≡ true → at ≤ length s → Ok (length s) ≡ text_at s at
+  pub text_any : m ≡ false → at ≤ length s → Ok (length s) ≡ text_at s at
   unfolding went_at only all_left
   text_any h l =
-      let q = marked ∙ not-true m h in
+      let q = marked ∙ h in
       rw q (ap Ok (let z : length s ≡ at + length (drop at s) = omega (arith, length-drop at s) in z))
 
-  in_line : not m ≡ false → at + 3 ≤ length s
+  in_line : m ≡ true → at + 3 ≤ length s
   in_line h =
-      let (p, q) = both (is_at (drop at s) 0 0xEF && is_at (drop at s) 1 0xBB) (is_at (drop at s) 2 0xBF) (marked ∙ not-false m h) in
+      let (p, q) = both (is_at (drop at s) 0 0xEF && is_at (drop at s) 1 0xBB) (is_at (drop at s) 2 0xBF) (marked ∙ h) in
       let l = at_below (drop at s) 2 0xBE q in
       omega (arith, length-drop at s)
 
-  pub text_3_fits : not m ≡ false → length s < 2 ^ 64 → Fits w64 (at + 3)
+  pub text_3_fits : m ≡ true → length s < 2 ^ 64 → Fits w64 (at + 3)
   text_3_fits h k = let l = in_line h in record { fits = omega arith }
 
-  pub text_utf8 : not m ≡ false → (x : Result ℕ ℕ) → x ≡ utf8_at s (at + 3) → x ≡ text_at s at
+  pub text_utf8 : m ≡ true → (x : Result ℕ ℕ) → x ≡ utf8_at s (at + 3) → x ≡ text_at s at
   unfolding went_at only all_left message_far
   text_utf8 h x e =
-      let q = marked ∙ not-false m h in
+      let q = marked ∙ h in
       let l = in_line h in
       let y = drop 3 (drop at s) in
       let d : drop (at + 3) s ≡ y = sym (drop-drop 3 at s) in

@@ -117,10 +117,11 @@ fn param(s: &[u8], at: usize) -> Result<usize, usize>
 fn bracket(s: &[u8], at: usize) -> Result<usize, usize>
     ensures { result ≡ bracket_at s.now at }
 {
-    if !is_at(s, at, b']') {
-        return Err(at);
+    if is_at(s, at, b']') {
+        Ok(at + 1)
+    } else {
+        Err(at)
     }
-    Ok(at + 1)
 }
 
 // The parameters of an element, and its `]`.
@@ -155,11 +156,7 @@ fn id_len(at: usize, end: usize) -> usize
     requires { at ≤ end }
     ensures { result ≡ len_of (end - at) }
 {
-    let n = end - at;
-    if 32 < n {
-        return 32;
-    }
-    n
+    (end - at).min(32)
 }
 
 // Row `k`: where an id starts and how many bytes it has.
@@ -206,22 +203,9 @@ fn id_at<'a>(s: &'a [u8], starts: &'a [u16], lens: &'a [u8], k: usize) -> &'a [u
     requires { Rows s.now starts.now lens.now (k + 1) }
     ensures { result.now ≡ id_of s.now starts.now lens.now k }
 {
-    let start = wide(starts[k]);
-    let end = start + small(lens[k]);
+    let start = usize::from(starts[k]);
+    let end = start + usize::from(lens[k]);
     &s[start..end]
-}
-
-fn wide(x: u16) -> usize
-    ensures { result ≡ x }
-{
-    x as usize
-}
-
-fn small(x: u8) -> usize
-    ensures value { result ≡ x }
-    ensures upper_bound { result < 256 }
-{
-    x as usize
 }
 
 // Whether the other id begins with the first 31 bytes of this one.
@@ -229,10 +213,7 @@ fn is_like(own: &[u8], other: &[u8]) -> bool
     requires { 31 ≤ length own.now }
     ensures { result ≡ is_like (take 31 own.now) other.now }
 {
-    if other.len() < 31 {
-        return false;
-    }
-    base::same_text(&other[0..31], &own[0..31])
+    31 <= other.len() && base::same_text(&other[..31], &own[..31])
 }
 
 // The byte after the first 31, or 0 where there is none.
@@ -240,10 +221,7 @@ fn after_31(id: &[u8]) -> usize
     ensures value { result ≡ get_or id.now 31 0 }
     ensures upper_bound { result < 256 }
 {
-    if id.len() <= 31 {
-        return 0;
-    }
-    small(id[31])
+    id.get(31).map_or(0, |b| usize::from(*b))
 }
 
 fn mark_of(old: u8, like: bool) -> u8
@@ -269,11 +247,9 @@ fn mark<'a>(s: &'a [u8], starts: &'a [u16], lens: &'a [u8], j: usize, seen: &mut
     ensures { Marks (id_of s.now starts.now lens.now) (take 31 (id_of s.now starts.now lens.now j)) j seen.new }
 {
     let own = id_at(s, starts, lens, j);
-    let mut i = 0;
-    while i < j {
+    for i in 0..j {
         let other = id_at(s, starts, lens, i);
         mark_one(own, other, seen);
-        i += 1;
     }
 }
 
@@ -284,16 +260,15 @@ fn is_asked(c: usize) -> bool
 }
 
 // Whether all bytes of names are marked, and 0.
+#[tactic(auto, using(crate::proofs::Shut::looking_laws))]
 fn all_seen(seen: &[u8]) -> bool
     requires { length seen.now ≡ 256 }
     ensures { result ≡ not (any_below 127 (is_unseen seen.now)) }
 {
-    let mut c = 0;
-    while c < 127 {
+    for c in 0..127 {
         if is_asked(c) & (seen[c] != 1) {
             return false;
         }
-        c += 1;
     }
     true
 }
@@ -313,15 +288,15 @@ fn id_end<'a>(s: &'a [u8], starts: &'a [u16], lens: &'a [u8], j: usize) -> usize
     requires { Named s.now starts.now lens.now j }
     ensures { result ≡ id_end s.now starts.now lens.now j }
 {
-    let start = wide(starts[j]);
-    let n = small(lens[j]);
+    let start = usize::from(starts[j]);
+    let n = usize::from(lens[j]);
     if n <= 30 {
-        return start + n;
+        start + n
+    } else if is_shut(s, starts, lens, j) {
+        start + 30
+    } else {
+        start + 31
     }
-    if is_shut(s, starts, lens, j) {
-        return start + 30;
-    }
-    start + 31
 }
 
 // Where the elements end or break, by their rows: at the first id that repeats, if one does.
@@ -339,9 +314,10 @@ fn judge<'a>(
 {
     let j = distinct::first_repeat(s, starts, lens, n, depths, kids);
     if j == n {
-        return w;
+        w
+    } else {
+        Err(id_end(s, starts, lens, j))
     }
-    Err(id_end(s, starts, lens, j))
 }
 
 // What tables tell of the elements, if they have rows enough.
@@ -388,17 +364,18 @@ fn elements(s: &[u8], at: usize) -> Result<usize, usize>
 }
 
 // How far structured data goes that stands at a place of the line.
+#[tactic(auto, using(crate::proofs::Each::data_laws))]
 pub fn data(s: &[u8], at: usize) -> Result<usize, usize>
     requires { length s.now ≤ line_limit }
     ensures { result ≡ data_at s.now at }
 {
     if is_at(s, at, b'-') {
-        return Ok(at + 1);
+        Ok(at + 1)
+    } else if is_at(s, at, b'[') {
+        elements(s, at)
+    } else {
+        Err(at)
     }
-    if !is_at(s, at, b'[') {
-        return Err(at);
-    }
-    elements(s, at)
 }
 
 // ---- the message
@@ -454,21 +431,23 @@ fn text(s: &[u8], at: usize) -> Result<usize, usize>
     requires { at ≤ length s.now }
     ensures { result ≡ text_at s.now at }
 {
-    if !is_mark(base::past(s, at)) {
-        return Ok(s.len());
+    if is_mark(base::past(s, at)) {
+        utf8_to_end(s, at + 3)
+    } else {
+        Ok(s.len())
     }
-    utf8_to_end(s, at + 3)
 }
 
 // How far what is after the structured data goes: nothing, or a space and a message.
+#[tactic(auto, using(crate::proofs::Messages::message_laws))]
 pub fn message(s: &[u8], at: usize) -> Result<usize, usize>
     ensures { result ≡ message_at s.now at }
 {
     if is_at(s, at, b' ') {
-        return text(s, at + 1);
+        text(s, at + 1)
+    } else if at < s.len() {
+        Err(at)
+    } else {
+        Ok(at)
     }
-    if at < s.len() {
-        return Err(at);
-    }
-    Ok(at)
 }

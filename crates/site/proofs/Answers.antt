@@ -1,15 +1,13 @@
 -- The answers, by the cases of the settings and of the reading.
 use Rattle.std.specs.Prelude.{if◌then◌else◌, Result, Ok, Err}
 use Prim.Native.Nat.{ℕ}
-use mathlib.Core.Path.{◌≡◌, refl, sym, ap, ◌∙◌}
-use mathlib.Core.Bool.{Bool, true, false, not}
+use mathlib.Core.Path.{◌≡◌, refl, ap, ◌∙◌}
 use mathlib.Core.List.{List}
 use lib.Dec.{eqb}
-use lib.IntN.{ℤ, pos}
 use mir.Syntax.{w32}
 use mir.Val.{SFits, to_z, of_z}
 use mir.ValLaws.{to_z-of_z}
-use borrow.Author.Tests.{ne_eqb, not-true, not-false}
+use borrow.Author.Tests.{ne_eqb}
 use Rattle.base.specs.Fills.{filled}
 use Rattle.base.proofs.Tests.{by_test}
 use Rattle.record.specs.Refusals.{refusal_number}
@@ -30,19 +28,8 @@ use Rattle.site.specs.declared.SiteReading.{SiteReading}
 use Rattle.site.specs.declared.SiteAnswer.{SiteAnswer}
 use Rattle.site.specs.Site.{host_of, with_host}
 use Rattle.site.specs.Numbers.{read_with, site_answer_of, short_answer, kept}
-use Rattle.site.specs.Steps.{is_set, settings_in, answered_by, refused_by, AnswersWith, Left}
-use Rattle.site.specs.Steps.AnswersWith.{refuses, answers}
-
--- ---- the settings
-
-module _ (s : Result Settings Refusal) where
-  pub offset_read : (x : Settings) (o : ℤ) → SFits w32 o → s ≡ Ok x → o ≡ x.offset → to_z w32 (of_z w32 o) ≡ (settings_in s).offset
-  offset_read x o f e q = rw e (to_z-of_z w32 o f ∙ q)
-
-  pub offset_none : (f : Refusal) → s ≡ Err f → pos 0 ≡ (settings_in s).offset
-  offset_none f e = rw e
-
-pub ruleset offset_laws = (offset_read, offset_none)
+use Rattle.site.specs.Steps.{AnswersWith, Left}
+use Rattle.site.specs.Steps.AnswersWith.{answers}
 
 -- ---- the reading
 
@@ -58,35 +45,11 @@ module _ (default : Span) (x : Result Reading Refusal) where
 
 pub ruleset default_laws = (default_read, default_whole, default_refused)
 
-module _ (s : Result Settings Refusal) (x : Result Reading Refusal) where
-  pub by_set : (y : Settings) (r : Result SiteReading Refusal) → s ≡ Ok y → r ≡ with_host y.host x → r ≡ answered_by s x
-  by_set y r e q = rw e q
-
-  pub by_none : (f : Refusal) → s ≡ Err f → Err f ≡ answered_by s x
-  by_none f e = rw e
-
-pub ruleset by_laws = (by_set, by_none)
-
-module _ (s : Result Settings Refusal) where
-  pub refused_set : (y : Settings) → s ≡ Ok y → Err NoReading ≡ refused_by s
-  refused_set y e = rw e
-
-  pub refused_none : (f : Refusal) → s ≡ Err f → Err f ≡ refused_by s
-  refused_none f e = rw e
-
-pub ruleset refused_laws = (refused_set, refused_none)
-
-module _ (file : List ℕ) (gate : ℕ) (line : List ℕ) (e p : ℕ) (s : Result Settings Refusal) (h : settings.Reads last_version file gate s) (t : Bool) (et : t ≡ is_set s) where
-  pub answer_none : not t ≡ true → (r : Result SiteReading Refusal) → r ≡ refused_by s → AnswersWith file gate line e p r
-  answer_none q r k = refuses s h (sym et ∙ not-true t q) k
-
-  module _ (q : not t ≡ false) (v y : ℕ) (o : ℤ) (f : SFits w32 o) where
-    pub answer_set : v ≡ (settings_in s).variant → y ≡ (settings_in s).year → o ≡ (settings_in s).offset → (x : Result Reading Refusal) → x ≡ answered line v y (to_z w32 (of_z w32 o)) e p
-        → (r : Result SiteReading Refusal) → r ≡ answered_by s x → AnswersWith file gate line e p r
-    answer_set ev ey eo x ex r k =
-        answers s h (sym et ∙ not-false t q) (k ∙ ap (answered_by s) (ex ∙ rw (to_z-of_z w32 o f, ev, ey, eo)))
-
-pub ruleset answer_laws = (answer_none, answer_set)
+-- the settings' refusal, or the loose reading with them
+pub answer_set : (file : List ℕ) (gate : ℕ) (line : List ℕ) (e p : ℕ) (s : Settings) → settings.Reads last_version file gate (Ok s) → SFits w32 s.offset
+    → (x : Result Reading Refusal) → x ≡ answered line s.variant s.year (to_z w32 (of_z w32 s.offset)) e p
+    → (r : Result SiteReading Refusal) → r ≡ with_host s.host x → AnswersWith file gate line e p r
+answer_set file gate line e p s h f x ex r k = answers s h (k ∙ ap (with_host s.host) (ex ∙ rw (to_z-of_z w32 s.offset f)))
 
 -- ---- for C
 

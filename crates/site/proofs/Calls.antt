@@ -1,11 +1,10 @@
 -- A call of the reading, and of C: what is left, from what was answered and read.
 use Rattle.std.specs.Prelude.{if◌then◌else◌, Result, Ok, Err}
 use Prim.Native.Nat.{ℕ, ◌≤◌, ◌<◌}
-use mathlib.Core.Path.{◌≡◌, refl, sym, ap, ◌∙◌}
+use mathlib.Core.Path.{◌≡◌, refl, ap, ◌∙◌}
 use mathlib.Core.Bool.{Bool, true, false}
 use mathlib.Core.List.{List}
 use lib.Dec.{eqb}
-use lib.IntN.{ℤ}
 use lib.ListN.{length}
 use mir.Syntax.{w32}
 use mir.Val.{SFits, to_z, of_z}
@@ -26,7 +25,7 @@ use Rattle.site.specs.Site.{with_host, ReadsWith}
 use Rattle.site.specs.Site.ReadsWith.{unset, by_settings}
 use Rattle.site.specs.Numbers.{site_answer_of, short_answer, kept, LeavesSite}
 use Rattle.site.specs.Laws.{RefusedLeaves}
-use Rattle.site.specs.Steps.{is_set, settings_in, answered_by, refused_by, AnswersWith, Left}
+use Rattle.site.specs.Steps.{AnswersWith, Left}
 use Rattle.site.specs.Steps.AnswersWith.{refuses, answers}
 use Rattle.site.proofs.Answers.{read_zero, kept_same}
 use Rattle.settings.specs.declared.Settings.{Settings}
@@ -34,15 +33,9 @@ use Rattle.settings.specs.declared.Settings.{Settings}
 -- ---- the reading
 
 module _ (file : List ℕ) (gate : ℕ) (line : List ℕ) (e₀ p₀ : List (List ℕ)) where
-  pub reads_none : (s : Result Settings Refusal) → settings.Reads last_version file gate s → is_set s ≡ false → (r : Result SiteReading Refusal) → r ≡ refused_by s → ReadsWith file gate line e₀ p₀ r e₀ p₀
-  reads_none (Ok s) h t r q = clash t
-  reads_none (Err f) h t r q = unset f h q refl refl
-
-  pub reads_set : (s : Result Settings Refusal) → settings.Reads last_version file gate s → is_set s ≡ true → (v y : ℕ) (o : ℤ) → SFits w32 o
-      → v ≡ (settings_in s).variant → y ≡ (settings_in s).year → o ≡ (settings_in s).offset → (x : Result Reading Refusal) (e₁ p₁ : List (List ℕ))
-      → Reads line v y (to_z w32 (of_z w32 o)) e₀ p₀ x e₁ p₁ → (r : Result SiteReading Refusal) → r ≡ answered_by s x → ReadsWith file gate line e₀ p₀ r e₁ p₁
-  reads_set (Ok s) h t v y o f ev ey eo x e₁ p₁ k r q = by_settings s x h (rw (to_z-of_z w32 o f, ev, ey, eo) at k) q
-  reads_set (Err g) h t v y o f ev ey eo x e₁ p₁ k r q = clash (sym t)
+  pub reads_set : (s : Settings) → settings.Reads last_version file gate (Ok s) → SFits w32 s.offset → (x : Result Reading Refusal) (e₁ p₁ : List (List ℕ))
+      → Reads line s.variant s.year (to_z w32 (of_z w32 s.offset)) e₀ p₀ x e₁ p₁ → (r : Result SiteReading Refusal) → r ≡ with_host s.host x → ReadsWith file gate line e₀ p₀ r e₁ p₁
+  reads_set s h f x e₁ p₁ k r q = by_settings s x h (rw (to_z-of_z w32 s.offset f) at k) q
 
   -- with no table at hand there are the tables that the answer would leave
   pub record Found (r : Result SiteReading Refusal) : Type 0 where
@@ -51,8 +44,8 @@ module _ (file : List ℕ) (gate : ℕ) (line : List ℕ) (e₀ p₀ : List (Lis
     pub reads : ReadsWith file gate line e₀ p₀ r elements params
 
   pub found : (r : Result SiteReading Refusal) → AnswersWith file gate line (length e₀) (length p₀) r → Found r
-  found r (refuses s h t q) = record { elements = e₀; params = p₀; reads = reads_none s h t r q }
-  found r (answers (Ok s) h t q) =
+  found r (refuses f h q) = record { elements = e₀; params = p₀; reads = unset f h q refl refl }
+  found r (answers s h q) =
       let x = answered line s.variant s.year s.offset (length e₀) (length p₀) in
       let rows = rows_of (outcome_of line s.variant s.year s.offset) in
       record {
@@ -60,7 +53,6 @@ module _ (file : List ℕ) (gate : ℕ) (line : List ℕ) (e₀ p₀ : List (Lis
         params = table_after x rows.params p₀;
         reads = by_settings s x h (record { answer = refl; elements = refl; params = refl }) q;
       }
-  found r (answers (Err f) h t q) = clash (sym t)
 
 -- ---- a refused call
 

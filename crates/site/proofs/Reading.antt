@@ -4,6 +4,7 @@ use Prim.Native.Nat.{ℕ, ◌+◌, ◌*◌}
 use mathlib.Core.Path.{◌≡◌, refl, sym, ap, ap₂, subst, ◌∙◌}
 use mathlib.Core.Bool.{Bool, true, false, not}
 use mathlib.Core.List.{List}
+use native.Mathlib.Omega.{arith}
 use lib.Dec.{eqb, ltb}
 use lib.ListN.{length}
 use borrow.Author.Tests.{le-leb, eqb-true}
@@ -42,7 +43,6 @@ use Rattle.site.specs.Site.{host_of, host_text, with_host, ReadsWith}
 use Rattle.site.specs.Site.ReadsWith.{unset, by_settings}
 use Rattle.site.specs.Numbers.{site_answer_of, left_answer, kept, bytes_of}
 use Rattle.site.specs.Laws.{InRange, NeverTwo, HostOfEither, OneReading, OneAnswer}
-use Rattle.site.specs.Steps.{is_set, settings_in}
 
 -- ---- settings that were read
 
@@ -55,14 +55,17 @@ record Kept (file : List ℕ) (gate : ℕ) (s : Settings) : Type 0 where
   is : s ≡ settings_of meaning (at * record_size + host_place)
 
 unread : {A : Type 0} {s : Settings} {f : Refusal} → Ok s ≡ Err f → A
-unread e = clash (ap is_set e)
+unread e = let z : ◌≡◌ {A = ℕ} 0 1 = cc in absurd (omega arith)
+
+same_settings : {s s' : Settings} → ◌≡◌ {A = Result Settings Refusal} (Ok s) (Ok s') → s ≡ s'
+same_settings e = cc
 
 settings_kept : {greatest : ℕ} {file : List ℕ} {gate : ℕ} {s : Settings} → settings.Reads greatest file gate (Ok s) → Kept file gate s
 settings_kept (bad_length h q) = unread q
 settings_kept (no_record n q) = unread q
 settings_kept (unknown_version i c v q) = unread q
 settings_kept (bad_field i c v n q) = unread q
-settings_kept (taken i m c v h q) = record { at = i; meaning = m; chosen = c; holds = h; is = ap settings_in q }
+settings_kept (taken i m c v h q) = record { at = i; meaning = m; chosen = c; holds = h; is = same_settings q }
 
 pub in_range_lem : InRange
 in_range_lem greatest file gate s k =
@@ -166,9 +169,6 @@ host_of_either file gate line e₀ p₀ e₁ p₁ r e p h (by_settings s x k w q
     }
 
 -- ---- one answer
-
-same_settings : {s s' : Settings} → ◌≡◌ {A = Result Settings Refusal} (Ok s) (Ok s') → s ≡ s'
-same_settings e = ap settings_in e
 
 module _ (file : List ℕ) (gate : ℕ) (line : List ℕ) (e₀ p₀ : List (List ℕ)) where
   pub reads_one : {r s : (Result SiteReading Refusal)} {e₁ e₂ p₁ p₂ : List (List ℕ)} → ReadsWith file gate line e₀ p₀ r e₁ p₁ → ReadsWith file gate line e₀ p₀ s e₂ p₂

@@ -7,10 +7,9 @@ ghost use Rattle.record.specs.Params.{rows};
 ghost use Rattle.layout.specs.Layout.{record_size};
 ghost use Rattle.site.specs.Site.{host_of, host_text, with_host, ReadsWith};
 ghost use Rattle.site.specs.Numbers.{read_with, site_answer_of, short_answer, LeavesSite};
-ghost use Rattle.site.specs.Steps.{is_set, settings_in, answered_by, refused_by, AnswersWith, Left};
+ghost use Rattle.site.specs.Steps.{AnswersWith, Left};
 
 use record::{Param, Place, Reading, Record, Refusal, Span};
-use settings::Settings;
 
 // Which of the two slices holds the host, and its place there.
 #[derive(Clone, Copy)]
@@ -82,87 +81,20 @@ pub fn host<'a>(line: &'a [u8], file: &'a [u8], held: Holder) -> &'a [u8]
     }
 }
 
-// ---- for the prover alone: `read` names the parameter table and so only calls. Each of these asks one thing of the settings.
-
-fn is_set(s: Result<Settings, Refusal>) -> bool
-    ensures { result ≡ is_set s }
-{
-    match s {
-        Ok(_) => true,
-        Err(_) => false,
-    }
-}
-
-fn variant_of(s: Result<Settings, Refusal>) -> u32
-    ensures { result ≡ (settings_in s).variant }
-{
-    match s {
-        Ok(x) => x.variant,
-        Err(_) => 0,
-    }
-}
-
-fn year_of(s: Result<Settings, Refusal>) -> u32
-    ensures { result ≡ (settings_in s).year }
-{
-    match s {
-        Ok(x) => x.year,
-        Err(_) => 0,
-    }
-}
-
-fn offset_in(s: Settings) -> i32
-    ensures { result ≡ s.offset }
-{
-    s.offset
-}
-
-fn offset_of(s: Result<Settings, Refusal>) -> i32
-    ensures { result ≡ (settings_in s).offset }
-{
-    match s {
-        Ok(x) => offset_in(x),
-        Err(_) => 0,
-    }
-}
-
 // ---- the answer
 
 // A loose reading with the settings' host as the default; a line with no reading is refused.
 fn with_default(default: Span, x: Result<Reading, Refusal>) -> Result<SiteReading, Refusal>
     ensures { result ≡ with_host default x }
 {
-    match x {
-        Ok(Reading::Read(read, e, p)) => Ok(SiteReading {
-            reading: read,
-            elements: e,
-            params: p,
-            holder: host_of(read.host, default),
+    match x? {
+        Reading::Read(reading, elements, params) => Ok(SiteReading {
+            reading,
+            elements,
+            params,
+            holder: host_of(reading.host, default),
         }),
-        Ok(Reading::Whole(_)) => Err(Refusal::NoReading),
-        Err(f) => Err(f),
-    }
-}
-
-fn with_host(
-    s: Result<Settings, Refusal>,
-    x: Result<Reading, Refusal>,
-) -> Result<SiteReading, Refusal>
-    ensures { result ≡ answered_by s x }
-{
-    match s {
-        Ok(found) => with_default(found.host, x),
-        Err(f) => Err(f),
-    }
-}
-
-// The refusal of the settings, asked for where there are none.
-fn refused_of(s: Result<Settings, Refusal>) -> Result<SiteReading, Refusal>
-    ensures { result ≡ refused_by s }
-{
-    match s {
-        Ok(_) => Err(Refusal::NoReading),
-        Err(f) => Err(f),
+        Reading::Whole(_) => Err(Refusal::NoReading),
     }
 }
 
@@ -170,12 +102,9 @@ fn refused_of(s: Result<Settings, Refusal>) -> Result<SiteReading, Refusal>
 fn answer(file: &[u8], gate: u32, line: &[u8], e: usize, p: usize) -> Result<SiteReading, Refusal>
     ensures { AnswersWith file.now gate line.now e p result }
 {
-    let s = settings::read(file, gate);
-    if !is_set(s) {
-        return refused_of(s);
-    }
-    let x = loose::answer(line, variant_of(s), year_of(s), offset_of(s), e, p);
-    with_host(s, x)
+    let s = settings::read(file, gate)?;
+    let x = loose::answer(line, s.variant, s.year, s.offset, e, p);
+    with_default(s.host, x)
 }
 
 // Loose reading of a line with the settings of a gate.
@@ -188,15 +117,9 @@ pub fn read(
 ) -> Result<SiteReading, Refusal>
     ensures { ReadsWith file.now gate line.now elements.old (rows params.old) result elements.new (rows params.new) }
 {
-    let s = settings::read(file, gate);
-    if is_set(s) {
-        let variant = variant_of(s);
-        let year = year_of(s);
-        let offset = offset_of(s);
-        let x = loose::read(line, variant, year, offset, elements, params);
-        return with_host(s, x);
-    }
-    refused_of(s)
+    let s = settings::read(file, gate)?;
+    let x = loose::read(line, s.variant, s.year, s.offset, elements, params);
+    with_default(s.host, x)
 }
 
 // ---- for C

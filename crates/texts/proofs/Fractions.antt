@@ -31,8 +31,9 @@ use Rattle.grammar.specs.Line as grammar
 use Rattle.grammar.specs.Reading.{nanos_of, digits_of, stamp_of, record_of}
 use Rattle.pri.specs.Pri.{pri_at}
 use Rattle.pri.specs.declared.Pri.{Pri}
-use Rattle.parsers.specs.Steps.{moved, blanks_from, some_blanks_from, number_from}
+use Rattle.parsers.specs.Steps.{on_read, moved, blanks_from, some_blanks_from, number_from}
 use Rattle.parsers.proofs.Steps.{at_there}
+use Rattle.base.proofs.Pairs.{some_first, some_second}
 use Rattle.timestamp.specs.Clock.{clock_from}
 use Rattle.timestamp.specs.Rfc3339.{nanos_from, stamp_if, rfc3339_from}
 use Rattle.timestamp.specs.Timestamp.{day_from, utc_if, without_year, with_year, or_else, rfc3164_from}
@@ -85,21 +86,21 @@ fraction_again s v k i =
 -- ---- form (c)
 
 module _ (s : List ℕ) (at n a : ℕ) where
-  pointless : Some (0 , at) ≡ Some (n , a) → fraction_text (a - at - 1) n ≡ []
+  pointless : ◌≡◌ {A = std.Option (ℕ × ℕ)} (Some (0, at)) (Some (n, a)) → fraction_text (a - at - 1) n ≡ []
   pointless e =
-      let p : at ≡ a = cc in
+      let p : at ≡ a = some_second e in
       sym (fraction_none (a - at - 1) n (omega arith))
 
-  pointed : is_at s at 46 ≡ true → moved (at + 1) (fraction_at 9 (drop (at + 1) s)) ≡ Some (n , a)
+  pointed : is_at s at 46 ≡ true → moved (at + 1) (fraction_at 9 (drop (at + 1) s)) ≡ Some (n, a)
       → fraction_text (a - at - 1) n ≡ text_at s at (suc (digit_run (drop (at + 1) s)))
   pointed t e = go (fraction_at 9 (drop (at + 1) s)) refl e
     where
-      go : (r : std.Option (ℕ × ℕ)) → fraction_at 9 (drop (at + 1) s) ≡ r → moved (at + 1) r ≡ Some (n , a)
+      go : (r : std.Option (ℕ × ℕ)) → fraction_at 9 (drop (at + 1) s) ≡ r → moved (at + 1) r ≡ Some (n, a)
           → fraction_text (a - at - 1) n ≡ text_at s at (suc (digit_run (drop (at + 1) s)))
       go None q z = let m : ◌≡◌ {A = ℕ} 0 1 = cc in absurd (omega arith)
       go (Some x) q z =
-          let w : x.0 ≡ n = cc in
-          let p : at + 1 + x.1 ≡ a = cc in
+          let w : x.0 ≡ n = some_first z in
+          let p : at + 1 + x.1 ≡ a = some_second z in
           let d : a - at - 1 ≡ x.1 = omega arith in
           let i = fraction_is 9 (drop (at + 1) s) x.0 x.1 q in
           let front : drop at s ≡ 46 ∷ drop (at + 1) s =
@@ -110,12 +111,12 @@ module _ (s : List ℕ) (at n a : ℕ) where
           ∙ ap (λ (j : ℕ). 46 ∷ take j (drop (at + 1) s)) i.whole
           ∙ sym (ap (take (suc (digit_run (drop (at + 1) s)))) front)
 
-  stands : nanos_from s at ≡ Some (n , a) → fraction_text (a - at - 1) n ≡ standing s at
+  stands : nanos_from s at ≡ Some (n, a) → fraction_text (a - at - 1) n ≡ standing s at
   unfolding nanos_from
   stands =
       by_test
       (λ b.
-      (if b then moved (at + 1) (fraction_at 9 (drop (at + 1) s)) else Some (0 , at)) ≡ Some (n , a)
+      (if b then moved (at + 1) (fraction_at 9 (drop (at + 1) s)) else Some (0, at)) ≡ Some (n, a)
       → fraction_text (a - at - 1) n ≡ (if b then text_at s at (suc (digit_run (drop (at + 1) s))) else []))
       (is_at s at 46) pointed (λ t. pointless)
 
@@ -141,27 +142,30 @@ OutcomeKept year offset s no_reading = Unit {0}
 OutcomeKept year offset s (is_reading r at rows) = StampKept year offset s r.timestamp
 
 -- forms (a) and (b) have no digits
+abbrev StampDigitless : std.Option Timestamp → Type 0
+StampDigitless None = Unit {0}
+StampDigitless (Some t) = t.digits ≡ 0
+
 abbrev Digitless : std.Option (std.Option Timestamp × ℕ) → Type 0
 Digitless None = Unit {0}
-Digitless (Some x) = Unit {0}
-Digitless (Some (Some t , n)) = t.digits ≡ 0
+Digitless (Some x) = StampDigitless x.0
 
 stamp_none : (t : DateTime) (offset : ℤ) (next : ℕ) → Digitless (stamp_if t 0 0 offset next)
 stamp_none t offset next =
-    by_if Digitless (valid t) (Some (Some (record { seconds = seconds_of t offset; nanos = 0; digits = 0; offset = offset }) , next)) None (λ v. refl) (λ v. tt)
+    by_if Digitless (valid t) (Some (Some (record { seconds = seconds_of t offset; nanos = 0; digits = 0; offset = offset }), next)) None (λ v. refl) (λ v. tt)
 
 utc_none : (t : DateTime) (offset : ℤ) (next : ℕ) → Digitless (utc_if t offset next)
 utc_none t offset next =
     let seconds = seconds_of t (pos 0) in
-    by_if Digitless (valid t && is_shown (shown seconds offset)) (Some (Some (record { seconds = seconds; nanos = 0; digits = 0; offset = offset }) , next))
+    by_if Digitless (valid t && is_shown (shown seconds offset)) (Some (Some (record { seconds = seconds; nanos = 0; digits = 0; offset = offset }), next))
     None (λ v. refl) (λ v. tt)
 
 module _ (year : ℕ) (offset : ℤ) (s : List ℕ) where
   module _ (at : ℕ) where
     full_kept : (g : std.Option (std.Option Timestamp × ℕ)) → g ≡ rfc3339_from s at → FractionOf s (at + 19) g → StampingKept year offset s g
     full_kept None e f = tt
-    full_kept (Some x) e f = tt
-    full_kept (Some (Some t , n)) e f = in_form_c at n (sym e) (printed_again s (at + 19) t f)
+    full_kept (Some (None, n)) e f = tt
+    full_kept (Some (Some t, n)) e f = in_form_c at n (sym e) (printed_again s (at + 19) t f)
 
     rfc3339_kept : StampingKept year offset s (rfc3339_from s at)
     rfc3339_kept = full_kept (rfc3339_from s at) refl (rfc3339_of s at)
@@ -184,13 +188,13 @@ module _ (year : ℕ) (offset : ℤ) (s : List ℕ) where
 
     own_kept : (g : std.Option (std.Option Timestamp × ℕ)) → g ≡ or_else (without_year year offset s at) (with_year offset s at) → Digitless g → StampingKept year offset s g
     own_kept None e h = tt
-    own_kept (Some x) e h = tt
-    own_kept (Some (Some t , n)) e h = in_form_a_b at n (sym e) (sym (fraction_none t.digits t.nanos h))
+    own_kept (Some (None, n)) e h = tt
+    own_kept (Some (Some t, n)) e h = in_form_a_b at n (sym e) (sym (fraction_none t.digits t.nanos h))
 
     either_kept : (x y : std.Option (std.Option Timestamp × ℕ)) → x ≡ without_year year offset s at → y ≡ with_year offset s at → Digitless x → Digitless y
         → StampingKept year offset s (or_else x (or_else y (rfc3339_from s at)))
-    either_kept (Some x) y ex ey hx hy = own_kept (Some (x.0 , x.1)) (ap (λ (z : std.Option (std.Option Timestamp × ℕ)). or_else z (with_year offset s at)) ex) hx
-    either_kept None (Some x) ex ey hx hy = own_kept (Some (x.0 , x.1)) (ey ∙ ap (λ (z : std.Option (std.Option Timestamp × ℕ)). or_else z (with_year offset s at)) ex) hy
+    either_kept (Some x) y ex ey hx hy = own_kept (Some (x.0, x.1)) (ap (λ (z : std.Option (std.Option Timestamp × ℕ)). or_else z (with_year offset s at)) ex) hx
+    either_kept None (Some x) ex ey hx hy = own_kept (Some (x.0, x.1)) (ey ∙ ap (λ (z : std.Option (std.Option Timestamp × ℕ)). or_else z (with_year offset s at)) ex) hy
     either_kept None None ex ey hx hy = rfc3339_kept
 
     rfc3164_kept : StampingKept year offset s (rfc3164_from year offset s at)
@@ -228,7 +232,7 @@ module _ (year : ℕ) (offset : ℤ) (s : List ℕ) where
         from : ℕ
         from = blanks_from s (start + pri.next)
 
-        go : (g : std.Option (std.Option Timestamp × ℕ)) → StampingKept year offset s g → OutcomeKept year offset s (rfc3164.on_read g no_reading (λ stamp a. rfc3164.body_from pri stamp s a))
+        go : (g : std.Option (std.Option Timestamp × ℕ)) → StampingKept year offset s g → OutcomeKept year offset s (on_read g no_reading (λ stamp a. rfc3164.body_from pri stamp s a))
         go None h = tt
         go (Some x) h = h
 

@@ -241,6 +241,6 @@ module _ (s : List ℕ) (u : is_utf8 s ≡ true) where
       from : ℕ
       from = blanks_from s (start + pri.next)
 
-      go : (g : Option (Option Timestamp × ℕ)) → StampCut s g → OutcomeCut s (rfc3164.on_read g no_reading (λ stamp a. rfc3164.body_from pri stamp s a))
+      go : (g : Option (Option Timestamp × ℕ)) → StampCut s g → OutcomeCut s (on_read g no_reading (λ stamp a. rfc3164.body_from pri stamp s a))
       go None h = tt
       go (Some x) h = body_cut pri x.0 x.1 h
