@@ -26,11 +26,9 @@ fn digits_at(line: &[u8], at: usize, k: usize, n: u32) -> bool
     requires { at + k ≤ length line.now }
     ensures { result ≡ stands_at line.now at (fixed k n) }
 {
-    let mut left = k;
     let mut rest = n;
-    while 0 < left {
-        left -= 1;
-        if line[at + left] != (48 + rest % 10) as u8 {
+    for i in (0..k).rev() {
+        if line[at + i] != (48 + rest % 10) as u8 {
             return false;
         }
         rest /= 10;
@@ -43,10 +41,7 @@ fn marked_at(line: &[u8], at: usize, mark: u8, k: usize, n: u32) -> bool
     requires { at + (1 + k) ≤ length line.now }
     ensures { result ≡ stands_at line.now at (mark ∷ fixed k n) }
 {
-    if line[at] != mark {
-        return false;
-    }
-    digits_at(line, at + 1, k, n)
+    line[at] == mark && digits_at(line, at + 1, k, n)
 }
 
 // ---- the priority and the version
@@ -77,7 +72,7 @@ fn numbers(line: &[u8], priority: u32, version: u32) -> Option<usize>
 fn priority_of(facility: u8, severity: u8) -> u32
     ensures { result ≡ facility * 8 + severity }
 {
-    facility as u32 * 8 + severity as u32
+    u32::from(facility) * 8 + u32::from(severity)
 }
 
 fn head(
@@ -131,10 +126,7 @@ fn fraction_len(digits: u32) -> usize
     requires { digits ≤ 9 }
     ensures { result ≡ fraction_len digits }
 {
-    if digits == 0 {
-        return 0;
-    }
-    digits as usize + 1
+    if digits == 0 { 0 } else { digits as usize + 1 }
 }
 
 fn fraction_at(line: &[u8], at: usize, digits: u32, nanos: u32) -> bool
@@ -167,10 +159,7 @@ fn offset_parts(t: Timestamp) -> Diff
 fn zone_len(line: &[u8], at: usize) -> usize
     ensures { result ≡ zone_len line.now at }
 {
-    if is_at(line, at, b'Z') {
-        return 1;
-    }
-    6
+    if is_at(line, at, b'Z') { 1 } else { 6 }
 }
 
 // Whether minutes east or west of UTC stand at `at` with their sign, which is either for 0.
@@ -271,13 +260,10 @@ fn stamp(line: &[u8], at: usize, p: Place, stamp: Option<Timestamp>) -> Option<u
 fn printable(t: &[u8]) -> bool
     ensures { result ≡ every print_us_ascii t.now }
 {
-    let mut i = 0;
-    while i < t.len() {
-        let b = t[i];
-        if !((33 <= b) & (b <= 126)) {
+    for b in t {
+        if !((33 <= *b) & (*b <= 126)) {
             return false;
         }
-        i += 1;
     }
     true
 }
@@ -307,10 +293,7 @@ fn text_holds(line: &[u8], most: usize, at: usize, p: Place) -> bool
 fn len_of(p: Place) -> usize
     ensures { result ≡ len_of p }
 {
-    if p.present {
-        return p.len;
-    }
-    1
+    if p.present { p.len } else { 1 }
 }
 
 // A text and a space.
@@ -344,17 +327,8 @@ pub fn header(line: &[u8], r: StrictRecord) -> Option<usize>
     ensures { result ≡ header_next line.now r }
 {
     let c = r.common;
-    let timestamp_text = r.timestamp_text;
-    let facility = c.facility;
-    let severity = c.severity;
-    let protocol = c.protocol;
-    let timestamp = c.timestamp;
-    let host = c.host;
-    let app = c.app;
-    let procid = c.procid;
-    let msgid = c.msgid;
-    let a = head(line, facility, severity, protocol)?;
-    let b = stamp(line, a, timestamp_text, timestamp)?;
-    let d = text(line, 255, b, host)?;
-    names(line, d, app, procid, msgid)
+    let stamp_at = head(line, c.facility, c.severity, c.protocol)?;
+    let host_at = stamp(line, stamp_at, r.timestamp_text, c.timestamp)?;
+    let app_at = text(line, 255, host_at, c.host)?;
+    names(line, app_at, c.app, c.procid, c.msgid)
 }

@@ -1,5 +1,5 @@
 -- A true claim, in tables that hold its counts, suits its line; so it is told yes.
-use Rattle.std.specs.Prelude.{Ok, Err}
+use Rattle.std.specs.Prelude.{Result, Ok, Err}
 use Prim.Native.Nat.{ℕ, ◌+◌, ◌≤◌}
 use mathlib.Core.Path.{◌≡◌, refl, sym, ap, ap₂, ◌∙◌}
 use mathlib.Core.Bool.{true, false, ◌&&◌}
@@ -14,6 +14,7 @@ use Rattle.base.specs.Fills.{filled}
 use Rattle.base.proofs.Tests.{both, clash}
 use Rattle.record.specs.Limits.{line_limit}
 use Rattle.record.specs.declared.StrictRecord.{StrictRecord}
+use Rattle.record.specs.declared.StrictReading.{StrictReading}
 use Rattle.record.specs.declared.Refusal.{Refusal}
 use Rattle.grammar.specs.Line.{Division, Element, Timestamp, element_then, Derives}
 use Rattle.grammar.specs.Reading.{data_at, timestamp_place, record_of, element_rows, param_rows, param_count, StrictReads}
@@ -72,8 +73,11 @@ follower_is_told line d e p elements params a l h le lp ids entries c =
 
 -- ---- what the strict reader leaves
 
-never : {A : Type 0} {r : StrictRecord} {e p : ℕ} (f : Refusal) → Ok (record { reading = r; elements = e; params = p }) ≡ Err f → A
+never : {A : Type 0} {x : StrictReading} (f : Refusal) → ◌≡◌ {A = Result StrictReading Refusal} (Ok x) (Err f) → A
 never f h = let z : true ≡ false = cc in clash z
+
+same : {x y : StrictReading} → ◌≡◌ {A = Result StrictReading Refusal} (Ok x) (Ok y) → x ≡ y
+same h = cc
 
 pairs_of : (at : ℕ) (es : List Element) → pairs (element_rows at es) ≡ element_rows at es
 pairs_of at [] = refl
@@ -94,9 +98,9 @@ reader_is_told line e₀ p₀ e₁ p₁ r e p a (params_over d l h k m q b c) x 
 reader_is_told line e₀ p₀ e₁ p₁ r e p a (accepted d l h k m q b c) x =
     let at = data_at d in
     let es = d.elements in
-    let i : r ≡ record_of d = cc in
-    let n : e ≡ length (element_rows at es) = (let z : e ≡ length es = cc in omega (arith, elements_many at es)) in
-    let o : p ≡ length (param_rows 0 at es) = (let z : p ≡ param_count es = cc in omega (arith, all_many 0 at es)) in
+    let i : r ≡ record_of d = ap (λ (x : StrictReading). x.reading) (same q) in
+    let n : e ≡ length (element_rows at es) = (let z : e ≡ length es = ap (λ (x : StrictReading). x.elements) (same q) in omega (arith, elements_many at es)) in
+    let o : p ≡ length (param_rows 0 at es) = (let z : p ≡ param_count es = ap (λ (x : StrictReading). x.params) (same q) in omega (arith, all_many 0 at es)) in
     let y : Checks line (record_of d) e p (filled (element_rows at es) e₀) (filled (param_rows 0 at es) p₀) a = rw (← i, ← b, ← c) x in
     follower_is_told line d e p (filled (element_rows at es) e₀) (filled (param_rows 0 at es) p₀) a l h
     (filled_room e (element_rows at es) e₀ n) (filled_room p (param_rows 0 at es) p₀ o)
@@ -111,5 +115,5 @@ text_in (underivable l h q b c) = never _ q
 text_in (elements_over d l h m q b c) = never _ q
 text_in (params_over d l h k m q b c) = never _ q
 text_in {line} {e₀} {p₀} {e₁} {p₁} {r} (accepted d l h k m q b c) =
-    let i : r ≡ record_of d = cc in
+    let i : r ≡ record_of d = ap (λ (x : StrictReading). x.reading) (same q) in
     rw i (omega (arith, stamp_in_lem line d h d.timestamp))
