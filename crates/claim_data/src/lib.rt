@@ -24,13 +24,10 @@ use record::{Param, Span};
 fn name_bytes(t: &[u8]) -> bool
     ensures { result ≡ every sd_name_byte t.now }
 {
-    let mut i = 0;
-    while i < t.len() {
-        let b = t[i];
-        if !((33 <= b) & (b <= 126) & !((b == b'=') | (b == b']') | (b == b'"'))) {
+    for b in t {
+        if !((33 <= *b) & (*b <= 126) & !((*b == b'=') | (*b == b']') | (*b == b'"'))) {
             return false;
         }
-        i += 1;
     }
     true
 }
@@ -40,11 +37,7 @@ fn name_at(line: &[u8], at: usize, len: usize) -> bool
     requires { at + len ≤ length line.now }
     ensures { result ≡ class_at line.now 32 sd_name_byte at len }
 {
-    if !((1 <= len) & (len <= 32)) {
-        return false;
-    }
-    let end = at + len;
-    name_bytes(&line[at..end])
+    1 <= len && len <= 32 && name_bytes(&line[at..at + len])
 }
 
 // The same with `=` and a quote.
@@ -53,25 +46,19 @@ fn name_holds(line: &[u8], at: usize, len: usize) -> bool
     requires len_in_bounds { at + len ≤ length line.now }
     ensures { result ≡ name_holds line.now at len }
 {
-    if !name_at(line, at, len) {
-        return false;
-    }
-    is_at(line, at + len, b'=') & is_at(line, at + len + 1, b'"')
+    name_at(line, at, len) && is_at(line, at + len, b'=') && is_at(line, at + len + 1, b'"')
 }
 
 // Whether backslash pairs are taken from the left, with no quote and no bracket bare and no backslash left alone.
 fn well_escaped(t: &[u8]) -> bool
     ensures { result ≡ well_escaped false t.now }
 {
-    let mut i = 0;
     let mut paired = false;
-    while i < t.len() {
-        let b = t[i];
-        if !paired & ((b == b'"') | (b == b']')) {
+    for b in t {
+        if !paired & ((*b == b'"') | (*b == b']')) {
             return false;
         }
-        paired = !paired & (b == b'\\');
-        i += 1;
+        paired = !paired & (*b == b'\\');
     }
     !paired
 }
@@ -81,14 +68,8 @@ fn value_holds(line: &[u8], at: usize, len: usize) -> bool
     requires { at + len ≤ length line.now }
     ensures { result ≡ value_holds line.now at len }
 {
-    let end = at + len;
-    if !utf8::is_utf8(&line[at..end]) {
-        return false;
-    }
-    if !well_escaped(&line[at..end]) {
-        return false;
-    }
-    is_at(line, end, b'"')
+    let value = &line[at..at + len];
+    utf8::is_utf8(value) && well_escaped(value) && is_at(line, at + len, b'"')
 }
 
 // ---- entries
@@ -173,11 +154,8 @@ fn opens(line: &[u8], at: usize, ids: &[[usize; 2]], k: usize, last: usize) -> O
     ensures { result ≡ opens_next line.now at (take (last - k) (drop (k + 1) ids.now)) }
 {
     let mut pos = at;
-    let mut j = k;
-    while j < last {
-        j += 1;
-        let row = ids[j];
-        pos = open(line, pos, row)?;
+    for j in k..last {
+        pos = open(line, pos, ids[j + 1])?;
     }
     Some(pos)
 }
@@ -216,16 +194,11 @@ pub fn last(line: &[u8], at: usize, ids: &[[usize; 2]], k: usize) -> Option<usiz
 fn is_message(m: &[u8]) -> bool
     ensures { result ≡ is_message m.now }
 {
-    if !is_at(m, 0, 0xEF) {
-        return true;
+    if is_at(m, 0, 0xEF) && is_at(m, 1, 0xBB) && is_at(m, 2, 0xBF) {
+        utf8::is_utf8(base::past(m, 3))
+    } else {
+        true
     }
-    if !is_at(m, 1, 0xBB) {
-        return true;
-    }
-    if !is_at(m, 2, 0xBF) {
-        return true;
-    }
-    utf8::is_utf8(base::past(m, 3))
 }
 
 // Whether a space and the message stand at `at` and no byte is left over; or nothing, where none is claimed.
@@ -235,18 +208,12 @@ pub fn message_holds(line: &[u8], at: usize, has: bool, m: Span) -> bool
     ensures { result ≡ message_holds line.now at has m }
 {
     if !has {
-        return (m.start == 0) & (m.len == 0) & (at == line.len());
+        return m.start == 0 && m.len == 0 && at == line.len();
     }
-    if !is_at(line, at, b' ') {
-        return false;
-    }
-    if m.start != at + 1 {
-        return false;
-    }
-    if at + 1 + m.len != line.len() {
-        return false;
-    }
-    is_message(base::past(line, at + 1))
+    is_at(line, at, b' ')
+        && m.start == at + 1
+        && at + 1 + m.len == line.len()
+        && is_message(base::past(line, at + 1))
 }
 
 // ---- the ids
@@ -256,12 +223,9 @@ fn note(ids: &[[usize; 2]], starts: &mut [u16], lens: &mut [u8])
     requires { Notable ids.now starts.old lens.old }
     ensures { Noted ids.now (length ids.now) starts.old lens.old starts.new lens.new }
 {
-    let mut i = 0;
-    while i < ids.len() {
-        let row = ids[i];
+    for (i, row) in ids.iter().enumerate() {
         starts[i] = row[0] as u16;
         lens[i] = row[1] as u8;
-        i += 1;
     }
 }
 

@@ -276,17 +276,11 @@ fn text_holds(line: &[u8], most: usize, at: usize, p: Place) -> bool
     if !p.present {
         return (p.start == 0) & (p.len == 0) & is_at(line, at, b'-');
     }
-    if p.start != at {
-        return false;
-    }
-    if !((1 <= p.len) & (p.len <= most)) {
-        return false;
-    }
-    let end = at + p.len;
-    if !printable(&line[at..end]) {
-        return false;
-    }
-    !((p.len == 1) & is_at(line, at, b'-'))
+    p.start == at
+        && 1 <= p.len
+        && p.len <= most
+        && printable(&line[at..at + p.len])
+        && !(p.len == 1 && is_at(line, at, b'-'))
 }
 
 // How many bytes a place takes: that of an absent text is `-`.

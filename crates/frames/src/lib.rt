@@ -21,6 +21,7 @@ pub struct Options {
 }
 
 // What is to be done with what the splitter told, or at the end of the input.
+// A refusal stands as its number, by which the definition `refused_task` tells it and the programs write it.
 #[derive(Clone, Copy)]
 pub enum Task {
     // nothing

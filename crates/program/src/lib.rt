@@ -16,6 +16,7 @@ use std::process::ExitCode;
 
 // The process that a program runs in, with its arguments and its standard streams: why standard input could not be read, if it could not, whether some of what
 // was written to standard output is lost, and whether that is so because its reader has gone away: then nothing more is told, as that is no failure.
+// These are two flags, since the clauses of `say` and of `end` name `lost`.
 #[derive(Clone, Copy)]
 pub struct Process {
     rt: HostRuntime,
