@@ -77,7 +77,7 @@ impl<'a> Fields<'a> {
     }
 
     // The next field has to be this number.
-    pub fn expect(&mut self, wanted: u64) -> Result<(), Differs> {
+    pub(crate) fn expect(&mut self, wanted: u64) -> Result<(), Differs> {
         if self.number()? == wanted {
             Ok(())
         } else {
@@ -86,7 +86,7 @@ impl<'a> Fields<'a> {
     }
 
     // There has to be nothing more.
-    pub fn expect_end(&self) -> Result<(), Differs> {
+    pub(crate) fn expect_end(&self) -> Result<(), Differs> {
         if self.rest.is_empty() {
             Ok(())
         } else {
@@ -120,7 +120,7 @@ fn nibble(b: u8) -> u8
 }
 
 // The low 32 bits: no service takes a larger number.
-pub fn low_half(n: u64) -> u32 {
+pub(crate) fn low_half(n: u64) -> u32 {
     (n & 0xffff_ffff) as u32
 }
 
