@@ -1,5 +1,6 @@
--- For private contracts alone: two lines, one behind the other.
+-- Two lines, one behind the other: what a turn makes of where the program stands.
 use Rattle.std.specs.Prelude.{ℕ, ◌≤◌, Option, Some, None, IfSome}
+use Rattle.frames.specs.declared.State.{State}
 use Rattle.frames.specs.declared.Task.{Task}
 use Rattle.frames.specs.declared.Task.TheVariants.{More, Read, Refuse, End, Cut, Failed}
 use Rattle.comparer.specs.declared.Turn.{Turn}
@@ -12,6 +13,18 @@ line_of (Refuse n) room = Some room
 line_of (End n) room = None
 line_of (Cut n) room = None
 line_of Failed room = None
+
+-- Behind a turn that sought the first line of a pair, and behind one that sought the second.
+abbrev pub with_first : State → ℕ → Turn
+with_first s room = record { state = s; first = line_of s.task room; second = None }
+
+abbrev pub with_second : ℕ → State → ℕ → Turn
+with_second first s room = record { state = s; first = Some first; second = line_of s.task room }
+
+-- The first line is sought until it is there. `room₁` and `room₂` are the lengths of the buffers.
+abbrev pub sought : Option ℕ → State → ℕ → ℕ → Turn
+sought None s room₁ room₂ = with_first s room₁
+sought (Some first) s room₁ room₂ = with_second first s room₂
 
 -- within both line buffers and the chunk
 pub record Within (room₁ room₂ most : ℕ) (t : Turn) : Type 0 where

@@ -6,7 +6,7 @@ ghost use Rattle.std.specs.Prelude.{◌≡◌, ◌+◌, ◌≤◌, ◌<◌, leng
 ghost use Rattle.output.specs.Output.{Wrote};
 ghost use Rattle.base.specs.Texts.{text_at};
 ghost use Rattle.comparer.specs.Text.{is_odd, shown_of, name_text, spaced, levels_text, places_text, ids_text, names_text, named_text, quoted_text, pair_text, elements_text, fields_text, refused_text, done_text, answer_text, line_text};
-ghost use Rattle.comparer.specs.Turns.{line_of, Within};
+ghost use Rattle.comparer.specs.Turns.{line_of, sought, Within};
 
 use compare::Compared;
 use differ::Differences;
@@ -49,22 +49,26 @@ fn advance(
     requires left_nonzero { 0 < t.state.left }
     ensures within_2 { Within (length line1.old) (length line2.old) (length chunk.old) result }
     ensures left_lt_left { result.state.left < t.state.left }
+    ensures lines { result ≡ sought t.first result.state (length line1.old) (length line2.old) }
 {
-    if t.first.is_some() {
-        let state = frames::advance(process, line2, chunk, t.state);
-        frames::report(process, b"compare", state.task);
-        Turn {
-            state,
-            first: t.first,
-            second: line_of(state.task, line2.len()),
+    match t.first {
+        Some(_) => {
+            let state = frames::advance(process, line2, chunk, t.state);
+            frames::report(process, b"compare", state.task);
+            Turn {
+                state,
+                first: t.first,
+                second: line_of(state.task, line2.len()),
+            }
         }
-    } else {
-        let state = frames::advance(process, line1, chunk, t.state);
-        frames::report(process, b"compare", state.task);
-        Turn {
-            state,
-            first: line_of(state.task, line1.len()),
-            second: None,
+        None => {
+            let state = frames::advance(process, line1, chunk, t.state);
+            frames::report(process, b"compare", state.task);
+            Turn {
+                state,
+                first: line_of(state.task, line1.len()),
+                second: None,
+            }
         }
     }
 }

@@ -7,7 +7,7 @@ invariant-loop-t l =
     record {
       first_same : length l.line1 ≡ length l.initial.line1;
       second_same : length l.line2 ≡ length l.initial.line2;
-      inside : Within (length l.line1) (length l.line2) (length l.chunk) l.t
+      inside : Within (length l.line1) (length l.line2) (length l.chunk) l.t;
     }
 
 abbrev pub decreases-loop-t : goal.decreases-loop-t
