@@ -82,7 +82,7 @@ tag_end_from s at = omega (arith, colon_from_lem s (blanks_from s at))
 record Begins (at : ℕ) (t : Option Timestamp) (next : ℕ) : Type 0 where
   from : ℕ
   behind : at + 2 ≤ from
-  stamped : StampFrom 20 from (Some (t , next))
+  stamped : StampFrom 20 from (Some (t, next))
 
 abbrev StartFrom : ℕ → Option (Start × ℕ) → Type 0
 StartFrom at None = Unit {0}

@@ -4,4 +4,3 @@ use Rattle.reach_data.proofs.all_seen.Given as goal
 
 abbrev pub invariant-loop-c : goal.invariant-loop-c
 invariant-loop-c l = Looking l.seen l.c
-
