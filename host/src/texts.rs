@@ -10,7 +10,7 @@
 //! - **Unescaped**. Of a value that is UTF-8 either unescaping makes UTF-8: `WholeCharacters`, `lookup`. It asks that of all texts,
 //!   but what lookup writes depends on those of the tables alone (`Looks` in `crates/lookup/specs/Lookup.antt`), so a strict reading's
 //!   message is of no account.
-//! - **Settings**. The host of a settings record is bytes of 33 to 126: `inRange` in `crates/settings/specs/Record.antt`.
+//! - **Settings**. The host of a settings record is bytes of 33 to 126: `in_range` in `crates/settings/specs/Record.antt`.
 //! - **Printed**. Of texts that are UTF-8 printing makes UTF-8: `WholeCharacters`, `print`.
 //!
 //! A reading lets nobody change its line, its record or its tables, so what held when it was read holds while it lives. The archive

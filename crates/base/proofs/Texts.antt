@@ -1,17 +1,18 @@
 -- Texts compared: what the tests say, the walk that compares, and what is lent of a line.
 use Rattle.std.specs.Prelude.{if◌then◌else◌}
-use Prim.Native.Nat.compare
-use Prim.Native.Nat.{ℕ, zero, suc, ◌+◌, ◌-◌, ◌≤◌, ◌<◌}
+use Prim.Native.Nat.{ℕ, zero, suc, ◌+◌, ◌-◌, ◌<◌}
 use mathlib.Core.Path.{◌≡◌, refl, sym, ap, ◌∙◌}
-use mathlib.Core.Bool.{Bool, true, false, not, ◌&&◌, ◌||◌}
+use mathlib.Core.Bool.{Bool, true, false, not, ◌||◌}
 use mathlib.Core.List.{List, [], ◌∷◌}
+use Rattle.std.proofs.Math.Numerals.{one-add}
 use native.Mathlib.Omega.{arith}
 use lib.Dec.{eqb}
 use lib.ListN.{length, get_or, take, drop}
-use borrow.Author.Tests.{eq-eqb, ne_eqb, eqb-true, not-true}
+use borrow.Author.Tests.{eq-eqb, eqb-true, not-true}
+use Rattle.std.specs.List.{take_while, zip, prefix_len}
+use Rattle.std.specs.Prelude.{cond}
 use Rattle.base.specs.Texts.{text_at, same_text, common_len, Distinct, is_in, all_different}
 use Rattle.base.proofs.Tests.{both, clash, by_test}
-use Rattle.base.proofs.Parts.{step, ended}
 
 -- ---- the same text
 
@@ -38,54 +39,13 @@ same_lengths a b h = same_not a b (λ e. h (ap length e))
 pub same_bytes : (a b : List ℕ) (p : ℕ) → (get_or a p 0 ≡ get_or b p 0 → ⊥) → false ≡ same_text a b
 same_bytes a b p h = same_not a b (λ e. h (ap (λ (u : List ℕ). get_or u p 0) e))
 
--- ---- the walk that compares
-
--- texts of one length are the same where all of one is common
-pub common_tells : (a b : List ℕ) → length a ≡ length b → eqb (common_len a b) (length a) ≡ same_text a b
-common_tells [] [] l = refl
-common_tells [] (y ∷ b) l = absurd (omega arith)
-common_tells (x ∷ a) [] l = absurd (omega arith)
-common_tells (x ∷ a) (y ∷ b) l =
-    by_test (λ t. eqb (if t then suc (common_len a b) else 0) (suc (length a)) ≡ (t && same_text a b)) (eqb x y)
-    (λ _. rw compare.suc-suc (common_tells a b (omega arith))) (λ _. ne_eqb 0 (suc (length a)) (λ e. omega arith))
-
--- i bytes are common, and those of the rests
-pub record Common (a b : List ℕ) (i : ℕ) : Type 0 where
-  pub a_inside : i ≤ length a
-  pub b_inside : i ≤ length b
-  pub same : common_len a b ≡ i + common_len (drop i a) (drop i b)
-
-pub common_start : (a b : List ℕ) → Common a b 0
-common_start a b = record { a_inside = omega arith; b_inside = omega arith; same = omega arith }
-
-nothing_left_lem : (a b : List ℕ) → length b ≤ 0 → common_len a b ≡ 0
-nothing_left_lem [] b h = refl
-nothing_left_lem (x ∷ a) [] h = refl
-nothing_left_lem (x ∷ a) (y ∷ b) h = absurd (omega arith)
-
-module _ (a b : List ℕ) (i : ℕ) (w : Common a b i) where
-  pub common_end : length a ≤ i → i ≡ common_len a b
-  common_end h = let e : common_len (drop i a) (drop i b) ≡ 0 = rw (ended a i h) refl in omega (arith, w.same)
-
-  module _ (ha : i < length a) where
-    pub common_other_end : length b ≤ i → i ≡ common_len a b
-    common_other_end h = let e : common_len (drop i a) (drop i b) ≡ 0 = rw (ended b i h) (nothing_left_lem (drop i a) [] (omega arith)) in omega (arith, w.same)
-
-    module _ (hb : i < length b) where
-      pub common_off : (get_or a i 0 ≡ get_or b i 0 → ⊥) → i ≡ common_len a b
-      common_off n =
-          let e : common_len (drop i a) (drop i b) ≡ 0 = rw (step a i ha, step b i hb, ne_eqb (get_or a i 0) (get_or b i 0) n) refl in
-          omega (arith, w.same)
-
-      pub common_on : get_or a i 0 ≡ get_or b i 0 → Common a b (i + 1)
-      common_on q =
-          let e : common_len (drop i a) (drop i b) ≡ suc (common_len (drop (i + 1) a) (drop (i + 1) b)) = rw (step a i ha, step b i hb, eq-eqb (get_or a i 0) (get_or b i 0) q) refl in
-          record { a_inside = omega arith; b_inside = omega arith; same = omega (arith, w.same) }
-
-pub ruleset common_laws = (common_start, common_end, common_other_end, common_off, common_on)
-
-pub same_told : (a b : List ℕ) (n : ℕ) → n ≡ common_len a b → length a ≡ length b → eqb n (length a) ≡ same_text a b
-same_told a b n e l = rw e (common_tells a b l)
+-- how many pairs in front are of one byte twice
+pub common_is : (a b : List ℕ) → length (take_while (λ (p : ℕ × ℕ). eqb p.0 p.1) (zip a b)) ≡ common_len a b
+common_is [] t = refl
+common_is (a ∷ s) [] = refl
+common_is (a ∷ s) (b ∷ t) =
+    by_test (λ v. length (take (cond v (1 + prefix_len (λ (p : ℕ × ℕ). eqb p.0 p.1) (zip s t)) 0) ((a, b) ∷ zip s t)) ≡ (if v then suc (common_len s t) else 0)) (eqb a b)
+    (λ e. simp one-add (ap suc (common_is s t))) (λ e. refl)
 
 -- ---- pairwise different texts
 

@@ -1,4 +1,5 @@
 -- What a call of a reader left is served (specs/Called.antt: CalledIsServed): printing and lookup get the reading's own record and counts.
+use Rattle.std.specs.Prelude.{Result}
 use Prim.Native.Nat.{ℕ}
 use mathlib.Core.Path.{◌≡◌, sym, ap, ◌∙◌}
 use mathlib.Core.List.{List}
@@ -7,7 +8,6 @@ use lib.ListN.{length}
 use Rattle.base.proofs.Tests.{clash}
 use Rattle.record.specs.Answers.{output_answer_of}
 use Rattle.record.specs.declared.Record.{Record}
-use Rattle.record.specs.declared.Written.{Written}
 use Rattle.record.specs.declared.Refusal.{Refusal}
 use Rattle.record.specs.declared.OutputAnswer.{OutputAnswer}
 use Rattle.output.specs.Output.{output_after}
@@ -35,8 +35,8 @@ module _ {line memory : List ℕ} {elements params : List (List ℕ)} (called : 
 
   module _ {old new : List ℕ} {a : OutputAnswer} where
     -- the bytes hold a record, so the service answers
-    by_service : (P : OutputAnswer → Type 0) (first : Refusal) (Service : Record → ℕ → ℕ → Written → List ℕ → Type 0) → Serves memory first Service old a new
-        → ((w : Written) → Service (record_at memory) (element_count_at memory) (param_count_at memory) w new → P (output_answer_of w)) → P a
+    by_service : (P : OutputAnswer → Type 0) (first : Refusal) (Service : Record → ℕ → ℕ → Result ℕ Refusal → List ℕ → Type 0) → Serves memory first Service old a new
+        → ((w : Result ℕ Refusal) → Service (record_at memory) (element_count_at memory) (param_count_at memory) w new → P (output_answer_of w)) → P a
     by_service P first Service (held q w h e) k = rw e (k w h)
     by_service P first Service (unheld q e f) k = clash (sym called_holds.holds ∙ q)
 
@@ -46,7 +46,7 @@ module _ {line memory : List ℕ} {elements params : List (List ℕ)} (called : 
           let text = text_of line memory elements params in
           by_service (λ a. Answered (print_answer text (length old)) text old a new) _ _ h λ w k.
           let q = record_served.print_answers k in
-          record { answer = ap output_answer_of q; output = k.output ∙ ap (λ (w : Written). output_after w text old) q }
+          record { answer = ap output_answer_of q; output = k.output ∙ ap (λ (w : Result ℕ Refusal). output_after w text old) q }
 
       print_not_7 : a.number ≡ 7 → ⊥
       print_not_7 = by_service (λ a. a.number ≡ 7 → ⊥) _ _ h (λ w k. record_served.print_not_7 k)
@@ -57,7 +57,7 @@ module _ {line memory : List ℕ} {elements params : List (List ℕ)} (called : 
           let f = found_in line memory elements params id name in
           by_service (λ a. Answered (lookup_answer kind f (length old)) (value_text (eqb kind 0) f) old a new) _ _ h λ w k.
           let q = record_served.lookup_answers k in
-          record { answer = ap output_answer_of q; output = k.output ∙ ap (λ (w : Written). output_after w (value_text (eqb kind 0) f) old) q }
+          record { answer = ap output_answer_of q; output = k.output ∙ ap (λ (w : Result ℕ Refusal). output_after w (value_text (eqb kind 0) f) old) q }
 
       lookup_not_7 : a.number ≡ 7 → ⊥
       lookup_not_7 = by_service (λ a. a.number ≡ 7 → ⊥) _ _ h (λ w k. record_served.lookup_not_7 k)

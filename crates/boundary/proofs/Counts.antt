@@ -1,4 +1,5 @@
 -- How many elements and parameters a line of at most 8,192 bytes has: few enough for a word. (The bounds are as wide as the proofs are short.)
+use Rattle.std.specs.Prelude.{Option, Some, None}
 use Prim.Native.Nat.{ℕ, zero, suc, ◌+◌, ◌-◌, ◌*◌, ◌≤◌}
 use mathlib.Core.Bool.{◌&&◌}
 use mathlib.Core.List.{List, [], ◌∷◌}
@@ -16,7 +17,6 @@ use Rattle.structured_data.specs.Element.Element.{no_element, is_element}
 use Rattle.structured_data.specs.Data.{Rows, end_at, Item, item_of, item_and, item_from, elements_from, Data, hyphen_at, data_from, rows_or}
 use Rattle.structured_data.specs.Data.Item.{taken, skipped, ended}
 use Rattle.structured_data.specs.declared.Param.{Param}
-use Rattle.structured_data.specs.declared.Param.TheVariants.{NoParam, IsParam}
 use Rattle.structured_data.specs.declared.Rules.{Rules}
 use Rattle.structured_data.specs.declared.Rules.TheVariants.{Rfc3164Rules, Rfc5424Rules}
 use Rattle.grammar.specs.Line as grammar
@@ -29,9 +29,9 @@ use Rattle.strict_data.proofs.Filling.{params_length, param_length}
 -- ---- the loose reader
 
 -- the parameters of an element
-param_few : (e at before n : ℕ) (x : Param) (more : ℕ → Params) → ((len : ℕ) → length (more len).rows ≤ n) → length (param_and e at before x more).rows ≤ n + 1
-param_few e at before n NoParam more h = omega arith
-param_few e at before n (IsParam a v m len) more h = omega (arith, h len)
+param_few : (e at before n : ℕ) (x : Option Param) (more : ℕ → Params) → ((len : ℕ) → length (more len).rows ≤ n) → length (param_and e at before x more).rows ≤ n + 1
+param_few e at before n None more h = omega arith
+param_few e at before n (Some x) more h = omega (arith, h x.len)
 
 more_few : (e k at : ℕ) (t : List ℕ) → length (more_params e k at t).rows ≤ length t
 unfolding more_params

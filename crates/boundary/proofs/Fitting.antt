@@ -1,4 +1,5 @@
 -- What a reader left is in its types: each number of the record, and the counts, fit the words that they are laid out in.
+use Rattle.std.specs.Prelude.{Option, Some, None}
 use Prim.Native.Nat.{ℕ, ◌+◌, ◌^◌, ◌≤◌, ◌<◌}
 use mathlib.Core.Path.{◌≡◌, refl}
 use mathlib.Core.Bool.{true}
@@ -16,15 +17,10 @@ use Rattle.base.proofs.Diffs.{pos_sub, join_fits}
 use Rattle.calendar.specs.Calendar.{offset_limit}
 use Rattle.calendar.specs.Instant.{epoch, local_seconds, seconds_of, shown}
 use Rattle.calendar.specs.declared.DateTime.{DateTime}
-use Rattle.calendar.specs.declared.Shown.TheVariants.{At}
 use Rattle.calendar.proofs.Clocks.{local_below}
 use Rattle.calendar.proofs.Instants.{minus_diff, up_room, down_room}
 use Rattle.calendar.proofs.ThereAndBack.{there}
 use Rattle.record.specs.Limits.{line_limit}
-use Rattle.record.specs.declared.Level.{Level}
-use Rattle.record.specs.declared.Level.TheVariants.{Unset, Set}
-use Rattle.record.specs.declared.Stamp.{Stamp}
-use Rattle.record.specs.declared.Stamp.TheVariants.{Unstamped, Stamped}
 use Rattle.record.specs.declared.Record.{Record}
 use Rattle.suits.specs.Suits.{level_suits, stamp_suits, record_suits, suits}
 use Rattle.suits.proofs.Suited as suited
@@ -32,10 +28,11 @@ use Rattle.layout.proofs.Back.{LevelIn, StampIn, InTypes}
 use Rattle.suited.specs.Served.{Left}
 use Rattle.suited.proofs.AfterReading.{left_short, left_suits}
 use Rattle.boundary.proofs.Sizes.{left_sized}
+use Rattle.record.specs.declared.Timestamp.{Timestamp}
 
-level_in_lem : (most : ℕ) (l : Level) → most ≤ 255 → level_suits most l ≡ true → LevelIn l
-level_in_lem most Unset m h = tt
-level_in_lem most (Set n) m h = omega (arith, leb-true n most h)
+level_in_lem : (most : ℕ) (l : Option ℕ) → most ≤ 255 → level_suits most l ≡ true → LevelIn l
+level_in_lem most None m h = tt
+level_in_lem most (Some n) m h = omega (arith, leb-true n most h)
 
 -- ---- the timestamp
 
@@ -50,7 +47,7 @@ difference_in a b h k =
     rw (to_z-of_z w64 (pos a) f, to_z-of_z w64 (pos b) g, pos_sub a b) at (join_fits a b (pos a) (pos b) f g refl refl (h, k))
 
 -- an instant whose local year is one of 0 to 9999
-seconds_in : (z o : ℤ) (t : DateTime) → SFits w32 o → shown z o ≡ At t → SFits w64 z
+seconds_in : (z o : ℤ) (t : DateTime) → SFits w32 o → shown z o ≡ Some t → SFits w64 z
 unfolding seconds_of
 seconds_in z o t f h =
     let e : up (o *ℤ pos 60) < 2 ^ 62 = rw (to_z-of_z w32 o f) at (up_room o f _ refl) in
@@ -60,9 +57,9 @@ seconds_in z o t f h =
     let b : epoch + up (o *ℤ pos 60) < 2 ^ 63 = omega arith in
     rw (← q, minus_diff (local_seconds t) epoch (o *ℤ pos 60)) (difference_in _ _ a b)
 
-stamp_in_lem : (s : Stamp) → stamp_suits s ≡ true → StampIn s
-stamp_in_lem Unstamped h = tt
-stamp_in_lem (Stamped t) h =
+stamp_in_lem : (s : Option Timestamp) → stamp_suits s ≡ true → StampIn s
+stamp_in_lem None h = tt
+stamp_in_lem (Some t) h =
     let i = suited.stamp_in_lem t h in
     let f = offset_in t.offset i.offset_in in
     (seconds_in t.seconds t.offset i.clock f i.shows, omega (arith, i.nanos_in), omega (arith, i.digits_in), f)

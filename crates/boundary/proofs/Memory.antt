@@ -1,5 +1,5 @@
 -- The memory of the record after a call of a reader that answered 0 holds the reading's own record and counts (specs/Called.antt: MemoryHolds).
-use Rattle.std.specs.Prelude.{if◌then◌else◌}
+use Rattle.std.specs.Prelude.{if◌then◌else◌, Result, Ok, Err}
 use Prim.Native.Nat.{ℕ}
 use mathlib.Core.Path.{◌≡◌, refl, sym, ap, ◌∙◌}
 use mathlib.Core.Bool.{Bool, true, false}
@@ -17,7 +17,6 @@ use Rattle.record.specs.declared.Reading.{Reading}
 use Rattle.record.specs.declared.Reading.TheVariants as loose
 use Rattle.record.specs.declared.StrictRecord.{StrictRecord}
 use Rattle.record.specs.declared.StrictReading.{StrictReading}
-use Rattle.record.specs.declared.StrictReading.TheVariants as strict
 use Rattle.record.specs.declared.Refusal.{Refusal}
 use Rattle.layout.specs.Layout.{record_size, strict_size, words_bytes, mark, place_words, record_words, strict_words, record_bytes, strict_bytes}
 use Rattle.layout.proofs.Words.{words_append}
@@ -74,37 +73,37 @@ module _ {line memory : List ℕ} {elements params : List (List ℕ)} where
 
   module _ {variant year : ℕ} {offset : ℤ} {e₀ p₀ : List (List ℕ)} {out : List ℕ} where
     loose_holds : LeavesLoose line variant year offset e₀ p₀ out read elements params memory
-        → Holds memory (λ r e p. Reads line variant year offset e₀ p₀ (loose.Read r e p) elements params)
+        → Holds memory (λ r e p. Reads line variant year offset e₀ p₀ (Ok (loose.Read r e p)) elements params)
     loose_holds h = go h.answer (rw (← h.elements_are, ← h.params_are) at h.reads) h.told_is h.record_is
       where
-        go : (a : Reading) → Reads line variant year offset e₀ p₀ a elements params → read ≡ left_answer (read_answer_of a) record_size (length out)
-            → memory ≡ filled (bytes_of a) out → Holds memory (λ r e p. Reads line variant year offset e₀ p₀ (loose.Read r e p) elements params)
-        go (loose.Read r e p) k t q =
-            laid_holds (λ r e p. Reads line variant year offset e₀ p₀ (loose.Read r e p) elements params) (λ r e p k. Left.by_loose k) r e p _ q k
-        go (loose.Whole r) k t q = apart 0 1 record_size (length out) refl refl t
-        go (loose.Refused f) k t q = never 0 0 f record_size (length out) t
+        go : (a : Result Reading Refusal) → Reads line variant year offset e₀ p₀ a elements params → read ≡ left_answer (read_answer_of a) record_size (length out)
+            → memory ≡ filled (bytes_of a) out → Holds memory (λ r e p. Reads line variant year offset e₀ p₀ (Ok (loose.Read r e p)) elements params)
+        go (Ok (loose.Read r e p)) k t q =
+            laid_holds (λ r e p. Reads line variant year offset e₀ p₀ (Ok (loose.Read r e p)) elements params) (λ r e p k. Left.by_loose k) r e p _ q k
+        go (Ok (loose.Whole r)) k t q = apart 0 1 record_size (length out) refl refl t
+        go (Err f) k t q = never 0 0 f record_size (length out) t
 
     whole_holds : LeavesLoose line variant year offset e₀ p₀ out whole elements params memory → Holds memory (WholeLine line variant year offset e₀ p₀ elements params)
     whole_holds h = go h.answer (rw (← h.elements_are, ← h.params_are) at h.reads) h.told_is h.record_is
       where
-        go : (a : Reading) → Reads line variant year offset e₀ p₀ a elements params → whole ≡ left_answer (read_answer_of a) record_size (length out)
+        go : (a : Result Reading Refusal) → Reads line variant year offset e₀ p₀ a elements params → whole ≡ left_answer (read_answer_of a) record_size (length out)
             → memory ≡ filled (bytes_of a) out → Holds memory (WholeLine line variant year offset e₀ p₀ elements params)
-        go (loose.Read r e p) k t q = apart 1 0 record_size (length out) refl refl t
-        go (loose.Whole r) k t q =
+        go (Ok (loose.Read r e p)) k t q = apart 1 0 record_size (length out) refl refl t
+        go (Ok (loose.Whole r)) k t q =
             laid_holds (WholeLine line variant year offset e₀ p₀ elements params) (λ r e p k. Left.by_whole k.reads k.no_elements k.no_params)
             r 0 0 _ q (record { reads = k; no_elements = refl; no_params = refl })
-        go (loose.Refused f) k t q = never 0 1 f record_size (length out) t
+        go (Err f) k t q = never 0 1 f record_size (length out) t
 
   module _ {e₀ p₀ : List (List ℕ)} {out : List ℕ} where
     strict_holds : LeavesStrict line e₀ p₀ out read elements params memory → Holds memory (StrictCommon line e₀ p₀ elements params)
     strict_holds h = let l = h.leaves in go h.reach l.answer (rw (← l.elements_are, ← l.params_are) at l.reads) l.told_is l.record_is
       where
-        go : (n : ℕ) (a : StrictReading) → StrictReads line e₀ p₀ a elements params → read ≡ left_answer (with_reach n (strict_read_answer_of a)) strict_size (length out)
+        go : (n : ℕ) (a : Result StrictReading Refusal) → StrictReads line e₀ p₀ a elements params → read ≡ left_answer (with_reach n (strict_read_answer_of a)) strict_size (length out)
             → memory ≡ filled (strict_bytes_of a) out → Holds memory (StrictCommon line e₀ p₀ elements params)
-        go k (strict.Read s e p) h n q =
+        go k (Ok x) h n q =
             laid_holds (StrictCommon line e₀ p₀ elements params) (λ r e p k. Left.by_strict k.reads k.common)
-            s.common e p _ (q ∙ strict_front s e p _) (record { full = s; common = refl; reads = h })
-        go k (strict.Refused f) h n q = never k 0 f strict_size (length out) n
+            x.reading.common x.elements x.params _ (q ∙ strict_front x.reading x.elements x.params _) (record { full = x.reading; common = refl; reads = h })
+        go k (Err f) h n q = never k 0 f strict_size (length out) n
 
 pub memory_holds : MemoryHolds
 memory_holds = record { loose = loose_holds; whole_line = whole_holds; strict = strict_holds }

@@ -1,4 +1,5 @@
 -- What the loose and the strict reader leave fits the layout, from the version that a line has.
+use Rattle.std.specs.Prelude.{Option, Some, None}
 use Prim.Native.Nat.{ℕ, ◌+◌, ◌*◌, ◌^◌, ◌≤◌, ◌<◌}
 use mathlib.Core.List.{List}
 use native.Mathlib.Nat.{pow-le-pow_right}
@@ -10,11 +11,9 @@ use Rattle.digits.proofs.Decimals.{decimal_lt}
 use Rattle.record.specs.Limits.{line_limit}
 use Rattle.record.specs.declared.Record.{Record}
 use Rattle.pri.specs.Pri.{pri_at}
-use Rattle.parsers.specs.Steps.{blanks_from, some_blanks_from, number_from}
+use Rattle.parsers.specs.Steps.{blanks_from, some_blanks_from, number_from, on_read}
 use Rattle.timestamp.specs.Rfc3339.{rfc3339_from}
 use Rattle.timestamp.specs.Timestamp.{rfc3164_from}
-use Rattle.timestamp.specs.declared.Stamping.{Stamping}
-use Rattle.timestamp.specs.declared.Stamping.TheVariants.{NoStamp, IsStamp}
 use Rattle.timestamp.proofs.Onward.{on_num_lem, on_pos_lem}
 use Rattle.structured_data.specs.Data.{data_from}
 use Rattle.structured_data.specs.declared.Rules.TheVariants.{Rfc3164Rules, Rfc5424Rules}
@@ -23,7 +22,6 @@ use Rattle.draft.specs.Outcome.Outcome.{no_reading, is_reading}
 use Rattle.rfc3164.specs.Rfc3164 as rfc3164
 use Rattle.rfc5424.specs.Rfc5424 as rfc5424
 use Rattle.rfc5424.specs.declared.Start.{Start}
-use Rattle.rfc5424.specs.declared.Start.TheVariants.{NoStart, IsStart}
 use Rattle.rfc5424.proofs.Lines.{on_start_lem, on_four_lem, on_data_lem}
 use Rattle.loose.specs.Loose.{outcome_of}
 use Rattle.loose.proofs.Variants.{of_variant}
@@ -36,10 +34,11 @@ use Rattle.suited.proofs.Frame.{Judged, reading_judged}
 use Rattle.suited.proofs.Strict.{line_length, reading_divided}
 use Rattle.boundary.proofs.Counts.{Few, data_few, division_few}
 use Rattle.boundary.proofs.Outcomes.{NumIn, number_in}
+use Rattle.record.specs.declared.Timestamp.{Timestamp}
 
-abbrev StartIn : Start → Type 0
-StartIn NoStart = Unit {0}
-StartIn (IsStart v t n) = v < 4294967296
+abbrev StartIn : Option (Start × ℕ) → Type 0
+StartIn None = Unit {0}
+StartIn (Some x) = x.0.version < 4294967296
 
 start_in : (s : List ℕ) (at : ℕ) → StartIn (rfc5424.start_from s at)
 unfolding rfc5424.start_from
@@ -48,9 +47,9 @@ start_in s at =
     on_pos_lem StartIn (some_blanks_from s a) _ _ tt λ b f.
     go v (rfc3339_from s b) (rw e at (number_in s at))
   where
-    go : (v : ℕ) (r : Stamping) → v < 4294967296 → StartIn (rfc5424.start_of v r)
-    go v NoStamp h = tt
-    go v (IsStamp t n) h = h
+    go : (v : ℕ) (r : Option (Option Timestamp × ℕ)) → v < 4294967296 → StartIn (rfc5424.start_of v r)
+    go v None h = tt
+    go v (Some x) h = h
 
 abbrev OutcomeIn : Outcome → Type 0
 OutcomeIn no_reading = Unit {0}
@@ -70,9 +69,9 @@ module _ (s : List ℕ) (short : length s ≤ line_limit) (start : ℕ) where
   unfolding rfc3164.rfc3164 rfc3164.body_from
   rfc3164_in year offset = go (rfc3164_from year offset s (blanks_from s (start + (pri_at (drop start s)).next)))
     where
-      go : (g : Stamping) → OutcomeIn (rfc3164.on_stamping g no_reading (λ stamp a. rfc3164.body_from (pri_at (drop start s)) stamp s a))
-      go NoStamp = tt
-      go (IsStamp t a) = (tt, data_few Rfc3164Rules s _ short)
+      go : (g : Option (Option Timestamp × ℕ)) → OutcomeIn (on_read g no_reading (λ stamp a. rfc3164.body_from (pri_at (drop start s)) stamp s a))
+      go None = tt
+      go (Some x) = (tt, data_few Rfc3164Rules s _ short)
 
 outcome_in : (line : List ℕ) → length line ≤ line_limit → (variant year : ℕ) (offset : ℤ) → OutcomeIn (outcome_of line variant year offset)
 unfolding outcome_of

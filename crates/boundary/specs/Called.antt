@@ -1,11 +1,9 @@
 -- What a call of a reader left is served by the calls of printing and lookup, never refused with 7: statements to be read without their proofs, which are in proofs/Memory.antt and proofs/AfterCall.antt.
-use Rattle.std.specs.Prelude.{ℕ, ◌≡◌, true, List, eqb, length, take, ℤ}
+use Rattle.std.specs.Prelude.{ℕ, ◌≡◌, true, List, eqb, length, take, ℤ, Result, Ok}
 use Rattle.record.specs.Answers.{output_answer_of}
 use Rattle.record.specs.declared.Record.{Record}
 use Rattle.record.specs.declared.Reading.TheVariants as loose
 use Rattle.record.specs.declared.StrictRecord.{StrictRecord}
-use Rattle.record.specs.declared.StrictReading.TheVariants as strict
-use Rattle.record.specs.declared.Written.{Written}
 use Rattle.record.specs.declared.OutputAnswer.{OutputAnswer}
 use Rattle.record.specs.declared.ReadAnswer.{ReadAnswer}
 use Rattle.output.specs.Output.{output_after}
@@ -16,6 +14,7 @@ use Rattle.lookup.specs.Lookup.{Found, found, value_text}
 use Rattle.message.specs.Message.{printed}
 use Rattle.exports.specs.Exports.{LeavesLoose, LeavesStrict, ServesPrint, ServesLookup}
 use Rattle.suited.specs.Served.{print_answer, lookup_answer}
+use Rattle.record.specs.declared.Refusal.{Refusal}
 
 -- ---- the record's memory
 
@@ -35,11 +34,11 @@ whole = record { number = 0; whole = 1; reach = 0 }
 pub record StrictCommon (line : List ℕ) (e₀ p₀ elements params : List (List ℕ)) (r : Record) (e p : ℕ) : Type 0 where
   pub full : StrictRecord
   pub common : r ≡ full.common
-  pub reads : StrictReads line e₀ p₀ (strict.Read full e p) elements params
+  pub reads : StrictReads line e₀ p₀ (Ok (record { reading = full; elements = e; params = p })) elements params
 
 -- what the loose reader says of a line that is the message
 pub record WholeLine (line : List ℕ) (variant year : ℕ) (offset : ℤ) (e₀ p₀ elements params : List (List ℕ)) (r : Record) (e p : ℕ) : Type 0 where
-  pub reads : Reads line variant year offset e₀ p₀ (loose.Whole r) elements params
+  pub reads : Reads line variant year offset e₀ p₀ (Ok (loose.Whole r)) elements params
   pub no_elements : e ≡ 0
   pub no_params : p ≡ 0
 
@@ -47,7 +46,7 @@ pub record WholeLine (line : List ℕ) (variant year : ℕ) (offset : ℤ) (e₀
 pub record MemoryHolds : Type 0 where
   pub loose : {line out memory : List ℕ} {variant year : ℕ} {offset : ℤ} {e₀ p₀ elements params : List (List ℕ)}
       → LeavesLoose line variant year offset e₀ p₀ out read elements params memory
-      → Holds memory (λ r e p. Reads line variant year offset e₀ p₀ (loose.Read r e p) elements params)
+      → Holds memory (λ r e p. Reads line variant year offset e₀ p₀ (Ok (loose.Read r e p)) elements params)
   pub whole_line : {line out memory : List ℕ} {variant year : ℕ} {offset : ℤ} {e₀ p₀ elements params : List (List ℕ)}
       → LeavesLoose line variant year offset e₀ p₀ out whole elements params memory
       → Holds memory (WholeLine line variant year offset e₀ p₀ elements params)
@@ -66,7 +65,7 @@ pub data Called (line memory : List ℕ) (elements params : List (List ℕ)) : T
   by_strict : {e₀ p₀ : List (List ℕ)} {out : List ℕ} → LeavesStrict line e₀ p₀ out read elements params memory → Called line memory elements params
 
 -- a call that answers `w` in its number and length, with `text` in the output where that is done
-pub record Answered (w : Written) (text old : List ℕ) (a : OutputAnswer) (new : List ℕ) : Type 0 where
+pub record Answered (w : Result ℕ Refusal) (text old : List ℕ) (a : OutputAnswer) (new : List ℕ) : Type 0 where
   pub answer : a ≡ output_answer_of w
   pub output : new ≡ output_after w text old
 

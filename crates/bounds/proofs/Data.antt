@@ -1,4 +1,5 @@
 -- Structured data of a loose reading: how many bytes of the line it takes at least, and how far it grows in print.
+use Rattle.std.specs.Prelude.{Option, Some, None}
 use Prim.Native.Nat.{ℕ, zero, suc, ◌+◌, ◌-◌, ◌*◌, ◌≤◌}
 use mathlib.Core.Path.{◌≡◌}
 use mathlib.Core.List.{List, [], ◌∷◌, ◌++◌}
@@ -18,7 +19,6 @@ use Rattle.structured_data.specs.Element.Element.{no_element, is_element}
 use Rattle.structured_data.specs.Data.{Rows, Item, item_of, item_from, item_and, elements_from, Data, hyphen_at, data_from, rows_or}
 use Rattle.structured_data.specs.Data.Item.{taken, skipped, ended}
 use Rattle.structured_data.specs.declared.Param.{Param}
-use Rattle.structured_data.specs.declared.Param.TheVariants.{NoParam, IsParam}
 use Rattle.structured_data.specs.declared.Rules.{Rules}
 use Rattle.structured_data.specs.declared.Rules.TheVariants.{Rfc3164Rules, Rfc5424Rules}
 use Rattle.structured_data.proofs.Hyphen.{hyphen_there}
@@ -31,9 +31,9 @@ total_append size [] b = omega arith
 total_append size (row ∷ a) b = omega (arith, total_append size a b)
 
 -- a parameter at the front of `n` bytes: name, `=` and two quotes at least, and the name is not empty
-abbrev ParamTakes : ℕ → Param → Type 0
-ParamTakes t NoParam = Unit {0}
-ParamTakes t (IsParam n v m len) = (1 ≤ n) × (n + m + 3 ≤ len) × (len ≤ t)
+abbrev ParamTakes : ℕ → Option Param → Type 0
+ParamTakes t None = Unit {0}
+ParamTakes t (Some x) = (1 ≤ x.name) × (x.name + x.value_len + 3 ≤ x.len) × (x.len ≤ t)
 
 param_takes : (t : List ℕ) → ParamTakes (length t) (param_at t)
 unfolding param_at
@@ -79,12 +79,12 @@ more_params_lem e zero at (b ∷ t) h =
     (λ q. here (param_at t) (param_takes t) (λ len l. more_params_lem e len (at + 1) t l))
     (λ q. none_take (at + 0) at _ (omega arith) (omega arith))
   where
-    here : (x : Param) → ParamTakes (length t) x → ((len : ℕ) → len ≤ length t → ParamsTake (at + 1 + len) (at + 1 + length t) 0 (more_params e len (at + 1) t))
+    here : (x : Option Param) → ParamTakes (length t) x → ((len : ℕ) → len ≤ length t → ParamsTake (at + 1 + len) (at + 1 + length t) 0 (more_params e len (at + 1) t))
         → ParamsTake (at + 0) (at + suc (length t)) 0 (param_and e (at + 1) at x (λ len. more_params e len (at + 1) t))
-    here NoParam h k = none_take (at + 0) at _ (omega arith) (omega arith)
-    here (IsParam n v m len) h k =
-        one_takes e (at + 1) (at + 1 + v) n m len (more_params e len (at + 1) t) (at + 0) (at + 1 + len) (at + 1 + length t) (at + suc (length t)) 0
-        (h.0, h.1) (omega arith) (omega arith) (omega arith) (omega arith) (k len h.2)
+    here None h k = none_take (at + 0) at _ (omega arith) (omega arith)
+    here (Some x) h k =
+        one_takes e (at + 1) (at + 1 + x.value) x.name x.value_len x.len (more_params e x.len (at + 1) t) (at + 0) (at + 1 + x.len) (at + 1 + length t) (at + suc (length t)) 0
+        (h.0, h.1) (omega arith) (omega arith) (omega arith) (omega arith) (k x.len h.2)
 
 -- the first of them may stand where its element's id ends, with no blank before it
 record First (from end : ℕ) (ps : Params) : Type 0 where
@@ -96,15 +96,15 @@ params_from_lem : (e at : ℕ) (t : List ℕ) → First at (at + length t) (para
 unfolding params_from
 params_from_lem e at t = here (param_at t) (param_takes t)
   where
-    here : (x : Param) → ParamTakes (length t) x → First at (at + length t) (param_and e at at x (λ len. more_params e len at t))
-    here NoParam h = record { grown = 0; once = omega arith; take = none_take at at _ (omega arith) (omega arith) }
-    here (IsParam n v m len) h =
+    here : (x : Option Param) → ParamTakes (length t) x → First at (at + length t) (param_and e at at x (λ len. more_params e len at t))
+    here None h = record { grown = 0; once = omega arith; take = none_take at at _ (omega arith) (omega arith) }
+    here (Some x) h =
         record {
           grown = 1;
           once = omega arith;
           take =
-              one_takes e at (at + v) n m len (more_params e len at t) at (at + len) (at + length t) (at + length t) 1
-              (h.0, h.1) (omega arith) (omega arith) (omega arith) (omega arith) (more_params_lem e len at t h.2);
+              one_takes e at (at + x.value) x.name x.value_len x.len (more_params e x.len at t) at (at + x.len) (at + length t) (at + length t) 1
+              (h.0, h.1) (omega arith) (omega arith) (omega arith) (omega arith) (more_params_lem e x.len at t h.2);
         }
 
 -- What was read from `from` to `next`, in a text that ends at `end`: `e` elements and `p` parameters, of `size` bytes in print. An element takes 3 bytes at least,

@@ -65,7 +65,7 @@ pub years_more : (y : ℕ) → days_before_year (suc y) ≡ days_before_year y +
 unfolding days_before_year
 years_more y = refl
 
-years_all : days_before_year 10000 ≡ 3652425
+pub years_all : days_before_year 10000 ≡ 3652425
 years_all = let e = years 10000 in omega arith
 
 pub years_mono : (a b : ℕ) → a ≤ b → days_before_year a ≤ days_before_year b

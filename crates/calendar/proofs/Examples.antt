@@ -1,4 +1,5 @@
 -- Worked examples, computed from the definitions.
+use Rattle.std.specs.Prelude.{Some, None}
 use Prim.Native.Nat.{ℕ, suc}
 use mathlib.Core.Path.{◌≡◌, refl}
 use mathlib.Core.List.{List, [], ◌∷◌, map}
@@ -9,7 +10,6 @@ use Rattle.calendar.specs.Calendar.{leap, month_days, valid_date, valid_time, va
 use Rattle.calendar.specs.Instant.{local_seconds, seconds_of, span_from, year_of, month_of, clock_of, shown}
 use Rattle.calendar.specs.Order.{before, earlier}
 use Rattle.calendar.specs.declared.DateTime.{DateTime}
-use Rattle.calendar.specs.declared.Shown.TheVariants.{Outside, At}
 
 abbrev minus : ℕ → ℤ
 minus n = neg_ℤ (pos n)
@@ -76,13 +76,13 @@ there : map (λ e. seconds_of e.local e.offset) instants ≡ map (λ e. e.second
 unfolding seconds_of local_seconds day_number days_before_year days_of_months month_days year_days leap
 there = refl
 
-back : map (λ e. shown e.seconds e.offset) instants ≡ map (λ e. At e.local) instants
+back : map (λ e. shown e.seconds e.offset) instants ≡ map (λ e. Some e.local) instants
 unfolding shown clock_of year_of month_of span_from days_before_year days_of_months month_days year_days leap
 back = refl
 
 -- one second before the year 0 and one after the year 9999, and an offset that moves across
 outside : map (λ (e : ℤ × ℤ). shown e.0 e.1) ((minus 62167219201, pos 0) ∷ (pos 253402300800, pos 0) ∷ (minus 62167219200, minus 1) ∷ (pos 253402300799, pos 1) ∷ [])
-    ≡ Outside ∷ Outside ∷ Outside ∷ Outside ∷ []
+    ≡ None ∷ None ∷ None ∷ None ∷ []
 unfolding shown
 outside = refl
 

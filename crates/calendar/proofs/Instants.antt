@@ -1,24 +1,23 @@
 -- Signed seconds, computed by differences.
-use Prim.Native.Nat.{ℕ, zero, suc, ◌+◌, ◌-◌, ◌*◌, ◌^◌, ◌≤◌, ◌<◌}
+use Rattle.std.specs.Prelude.{if◌then◌else◌, Some, None, Result, Ok, Err}
+use Rattle.std.specs.Result.{OkIff, result_ok}
+use Rattle.std.specs.Int.{FitsUnsignedBits}
+use Rattle.base.proofs.Tests.{by_test}
+use Prim.Native.Nat.{ℕ, zero, suc, ◌+◌, ◌*◌, ◌^◌, ◌≤◌, ◌<◌}
 use mathlib.Core.Path.{◌≡◌, refl, sym, ap, ◌∙◌}
-use mathlib.Core.Bool.{true, ◌&&◌, and-true}
 use native.Mathlib.Omega.{arith}
-use native.Mathlib.Nat.{add-zero}
-use lib.Dec.{leb}
-use lib.IntN.{ℤ, pos, negsuc, neg_ℤ, sub_ℕ, ◌+ℤ◌, ◌-ℤ◌, ◌*ℤ◌}
+use lib.Dec.{ltb}
+use lib.IntN.{ℤ, pos, negsuc, neg_ℤ, nat_abs, sub_ℕ, ◌+ℤ◌, ◌-ℤ◌, ◌*ℤ◌}
 use lib.Signed.{mag}
 use mir.Syntax.{w32, w64}
-use mir.Val.{Fits, SFits, to_z, of_z}
+use mir.Val.{SFits, to_z, of_z}
 use mir.ValLaws.{to_z-of_z}
-use borrow.Author.Tests.{lt-ltb, le-ltb}
+use borrow.Author.Tests.{lt-ltb, le-ltb, ltb-true}
 use Rattle.base.specs.Diff.{up, down, diff_of}
 use Rattle.base.specs.declared.Diff.{Diff}
-use Rattle.base.proofs.Diffs.{pos_sub, as_diff, add_diff, sub_ge, sub_lt}
-use Rattle.calendar.specs.Calendar.{offset_limit, valid_offset, valid}
-use Rattle.calendar.specs.Instant.{epoch, local_seconds, seconds_of, clock_of, all_seconds, shown}
+use Rattle.base.proofs.Diffs.{pos_sub, as_diff, add_diff}
+use Rattle.calendar.specs.Instant.{epoch, clock_of, all_seconds, shown_at, shown}
 use Rattle.calendar.specs.declared.DateTime.{DateTime}
-use Rattle.calendar.specs.declared.Shown.TheVariants.{Outside, At}
-use Rattle.calendar.proofs.Clocks.{local_below}
 
 -- an offset of minutes in seconds, taken apart
 sixty : (o : ℤ) → record { up = up o * 60; down = down o * 60 } ≡ diff_of (o *ℤ pos 60)
@@ -29,11 +28,6 @@ sixty (negsuc n) = neg (suc n * 60)
     neg zero = refl
     neg (suc m) = refl
 
--- one of the two parts is 0
-near : (o : ℤ) → (leb (up o) offset_limit && leb (down o) offset_limit) ≡ valid_offset o
-near (pos n) = and-true (leb n offset_limit)
-near (negsuc n) = refl
-
 -- how large the two parts are
 record Small (b : ℕ) (d : Diff) : Type 0 where
   up_to : d.up < b
@@ -42,22 +36,6 @@ record Small (b : ℕ) (d : Diff) : Type 0 where
 small : (z : ℤ) (b : ℕ) → mag z < b → Small b (diff_of z)
 small (pos n) b h = record { up_to = h; down_to = omega arith }
 small (negsuc n) b h = record { up_to = omega arith; down_to = h }
-
-module _ (o w : ℤ) (fo : SFits w32 o) (fw : SFits w64 w) (ew : w ≡ to_z w32 (of_z w32 o)) (q : Diff) (eq : q ≡ diff_of (to_z w64 (of_z w64 w))) where
-  apart : q ≡ diff_of o
-  apart = eq ∙ ap diff_of (to_z-of_z w64 w fw ∙ ew ∙ to_z-of_z w32 o fo)
-
-  pub offset_is : (leb q.up offset_limit && leb q.down offset_limit) ≡ valid_offset o
-  offset_is = rw apart (near o)
-
-  pub shift_up : Fits w64 (q.up * 60)
-  shift_up = rw apart (record { fits = omega (arith, small o (2 ^ 31) fo.sfits) })
-
-  pub shift_down : Fits w64 (q.down * 60)
-  shift_down = rw apart (record { fits = omega (arith, small o (2 ^ 31) fo.sfits) })
-
-  pub shift_is : record { up = q.up * 60; down = q.down * 60 } ≡ diff_of (o *ℤ pos 60)
-  shift_is = rw apart (sixty o)
 
 -- sums and differences of signed numbers as one difference
 neg_diff : (s : ℤ) → neg_ℤ s ≡ sub_ℕ (down s) (up s)
@@ -69,26 +47,7 @@ pub minus_diff : (n e : ℕ) (s : ℤ) → pos n -ℤ pos e -ℤ s ≡ sub_ℕ (
 minus_diff n e s =
     ap (λ (x : ℤ). x -ℤ s) (pos_sub n e) ∙ ap (λ (x : ℤ). sub_ℕ n e +ℤ x) (neg_diff s) ∙ add_diff n e (down s) (up s)
 
-plus_diff : (z s : ℤ) (e : ℕ) → z +ℤ s +ℤ pos e ≡ sub_ℕ (up z + up s + e) (down z + down s)
-plus_diff z s e =
-    ap (λ (x : ℤ). x +ℤ s +ℤ pos e) (as_diff z)
-    ∙ ap (λ (x : ℤ). sub_ℕ (up z) (down z) +ℤ x +ℤ pos e) (as_diff s)
-    ∙ ap (λ (x : ℤ). x +ℤ pos e) (add_diff (up z) (down z) (up s) (down s))
-    ∙ ap (λ (x : ℤ). sub_ℕ (up z + up s) (down z + down s) +ℤ x) (as_diff (pos e))
-    ∙ add_diff (up z + up s) (down z + down s) e 0
-    ∙ ap (λ (m : ℕ). sub_ℕ (up z + up s + e) m) (add-zero (down z + down s))
-
--- room for the sums
-pub wide : (n : ℕ) → n < 2 ^ 63 → Fits w64 n
-wide n h = record { fits = omega arith }
-
-pub sum_room : (a b : ℕ) → a < 2 ^ 62 → b < 2 ^ 62 → a + b < 2 ^ 63
-sum_room a b p q = omega arith
-
-pub local_room : (t : DateTime) (n : ℕ) → n ≡ local_seconds t → valid t ≡ true → n < 2 ^ 62
-local_room t n e v = omega (arith, local_below t v)
-
--- `d` is what `shift` makes of the offset `o`
+-- `d` is the offset `o` in seconds, as a difference
 module _ (o : ℤ) (fo : SFits w32 o) (d : Diff) (ed : d ≡ diff_of (to_z w32 (of_z w32 o) *ℤ pos 60)) where
   shifted : d ≡ diff_of (o *ℤ pos 60)
   shifted = ed ∙ ap (λ (x : ℤ). diff_of (x *ℤ pos 60)) (to_z-of_z w32 o fo)
@@ -102,48 +61,36 @@ module _ (o : ℤ) (fo : SFits w32 o) (d : Diff) (ed : d ≡ diff_of (to_z w32 (
   pub down_room : d.down < 2 ^ 62
   down_room = omega (arith, shifted_small)
 
-  pub seconds_is : (t : DateTime) (n : ℕ) → n ≡ local_seconds t
-      → (r : ℤ) → SFits w64 r → r ≡ sub_ℕ (n + d.down) (epoch + d.up) → to_z w64 (of_z w64 r) ≡ seconds_of t o
-  unfolding seconds_of
-  seconds_is t n en r fr er = to_z-of_z w64 r fr ∙ er ∙ rw (shifted, en) (sym (minus_diff (local_seconds t) epoch (o *ℤ pos 60)))
+-- What an instant shows, by the seconds on the local clock: they are none of 64 bits, they are below 0, or they are `n`
+clock_at : (x : ℤ) → (SFits w64 x → ⊥) → None ≡ shown_at x
+clock_at (pos n) h = by_test (λ b. None ≡ (if b then Some (clock_of n) else None)) (ltb n all_seconds) (λ t. absurd (h (record { sfits = omega (arith, ltb-true n all_seconds t) }))) (λ t. refl)
+clock_at (negsuc n) h = refl
 
--- `p` is what `split` makes of the instant `z`
-module _ (z : ℤ) (fz : SFits w64 z) (p : Diff) (ep : p ≡ diff_of (to_z w64 (of_z w64 z))) where
-  instant : p ≡ diff_of z
-  instant = ep ∙ ap diff_of (to_z-of_z w64 z fz)
+below_zero : {E : Type 0} (x : ℤ) (r : Result ℕ E) → SFits w64 x → OkIff r (FitsUnsignedBits 64 x) (nat_abs x) → None ≡ result_ok r → None ≡ shown_at x
+below_zero x (Ok n) f h e = absurd (let z : ◌≡◌ {A = ℕ} 0 1 = cc in omega arith)
+below_zero (pos n) (Err e) f h q = absurd (h (omega (arith, f.sfits)))
+below_zero (negsuc n) (Err e) f h q = refl
 
-  instant_small : Small (2 ^ 63) p
-  instant_small = rw instant (small z (2 ^ 63) fz.sfits)
+on_clock : {E : Type 0} (x : ℤ) (r : Result ℕ E) (n : ℕ) → OkIff r (FitsUnsignedBits 64 x) (nat_abs x) → Some n ≡ result_ok r → x ≡ pos n
+on_clock (pos m) (Ok k) n h e = let q : n ≡ k = cc in ap pos (sym h.1 ∙ sym q)
+on_clock (negsuc m) (Ok k) n h e = absurd h.0
+on_clock x (Err k) n h e = absurd (let z : ◌≡◌ {A = ℕ} 0 1 = cc in omega arith)
 
-  pub shown_up : (j : ℕ) → j < 2 ^ 62 → Fits w64 (p.up + j)
-  shown_up j h = record { fits = omega (arith, instant_small) }
+module _ (z o : ℤ) where
+  pub shown_unfit : (SFits w64 (z +ℤ o *ℤ pos 60 +ℤ pos epoch) → ⊥) → None ≡ shown z o
+  unfolding shown
+  shown_unfit h = clock_at _ h
 
-  pub shown_more : (j k : ℕ) → j < 2 ^ 62 → k < 2 ^ 62 → Fits w64 (p.up + j + k)
-  shown_more j k g h = record { fits = omega (arith, instant_small) }
-
-  pub shown_down : (j : ℕ) → j < 2 ^ 62 → Fits w64 (p.down + j)
-  shown_down j h = record { fits = omega (arith, instant_small) }
-
-  module _ (o : ℤ) (fo : SFits w32 o) (d : Diff) (ed : d ≡ diff_of (to_z w32 (of_z w32 o) *ℤ pos 60)) where
-    whole : z +ℤ o *ℤ pos 60 +ℤ pos epoch ≡ sub_ℕ (p.up + d.up + epoch) (p.down + d.down)
-    whole = rw (instant, shifted o fo d ed) (plus_diff z (o *ℤ pos 60) epoch)
-
-    pub shown_early : p.up + d.up + epoch < p.down + d.down → Outside ≡ shown z o
+  module _ {E : Type 0} (x : ℤ) (r : Result ℕ E) (e : x ≡ z +ℤ o *ℤ pos 60 +ℤ pos epoch) (h : OkIff r (FitsUnsignedBits 64 x) (nat_abs x)) where
+    pub shown_early : SFits w64 x → None ≡ result_ok r → None ≡ shown z o
     unfolding shown
-    shown_early l = rw (whole, sub_lt _ _ l)
+    shown_early f q = rw (← e) (below_zero x r f h q)
 
-    module _ (h : p.down + d.down ≤ p.up + d.up + epoch) where
-      pub shown_late : all_seconds ≤ p.up + d.up + epoch - (p.down + d.down) → Outside ≡ shown z o
+    module _ (n : ℕ) (q : Some n ≡ result_ok r) where
+      pub shown_late : all_seconds ≤ n → None ≡ shown z o
       unfolding shown
-      shown_late l = rw (whole, sub_ge _ _ h, le-ltb _ _ l)
+      shown_late l = rw (← e, on_clock x r n h q, le-ltb n all_seconds l)
 
-      pub shown_in : p.up + d.up + epoch - (p.down + d.down) < all_seconds
-          → (t : DateTime) → t ≡ clock_of (p.up + d.up + epoch - (p.down + d.down)) → At t ≡ shown z o
+      pub shown_in : n < all_seconds → (t : DateTime) → t ≡ clock_of n → Some t ≡ shown z o
       unfolding shown
-      shown_in l t e = rw (whole, sub_ge _ _ h, lt-ltb _ _ l, e)
-
-pub ruleset shift_laws = (shift_up, shift_down, shift_is)
-
-pub ruleset seconds_laws = (wide, sum_room, local_room, up_room, down_room, seconds_is)
-
-pub ruleset shown_laws = (up_room, down_room, shown_up, shown_more, shown_down, shown_early, shown_late, shown_in)
+      shown_in l t c = rw (← e, on_clock x r n h q, lt-ltb n all_seconds l, c)

@@ -1,5 +1,5 @@
 -- A valid date and clock are what their instant shows; what an instant shows is valid and names that instant; and instants grow with dates.
-use Rattle.std.specs.Prelude.{if◌then◌else◌}
+use Rattle.std.specs.Prelude.{if◌then◌else◌, Some, None}
 use Prim.Native.Nat.{ℕ, suc, ◌+◌, ◌-◌, ◌≤◌, ◌<◌}
 use mathlib.Core.Path.{◌≡◌, refl, sym, ap, ◌∙◌}
 use mathlib.Core.Bool.{Bool, true}
@@ -16,7 +16,6 @@ use Rattle.calendar.specs.Calendar.{valid, days_before_year, days_of_months, day
 use Rattle.calendar.specs.Instant.{epoch, local_seconds, seconds_of, clock_of, all_seconds, shown_at, shown}
 use Rattle.calendar.specs.Order.{before, earlier}
 use Rattle.calendar.specs.declared.DateTime.{DateTime}
-use Rattle.calendar.specs.declared.Shown.TheVariants.{Outside, At}
 use Rattle.calendar.proofs.Dates.{Parts, valid_parts}
 use Rattle.calendar.proofs.Days.{years_mono, months_mono}
 use Rattle.calendar.proofs.Clocks.{day_of, day_in_month, day_in_year, local_below, clock_back, clock_valid, clock_local}
@@ -29,7 +28,7 @@ module _ (t : DateTime) (o : ℤ) (v : valid t ≡ true) where
       ap (λ (x : ℤ). x +ℤ pos epoch) (-ℤ-+ℤ_cancel (pos (local_seconds t) -ℤ pos epoch) (o *ℤ pos 60))
       ∙ -ℤ-+ℤ_cancel (pos (local_seconds t)) (pos epoch)
 
-  pub back : shown (seconds_of t o) o ≡ At t
+  pub back : shown (seconds_of t o) o ≡ Some t
   unfolding shown
   back = rw (again, lt-ltb (local_seconds t) all_seconds (local_below t v), clock_back t (valid_parts t v))
 
@@ -40,20 +39,20 @@ record Shows (z : ℤ) (t : DateTime) : Type 0 where
   local : z ≡ pos n
   clock : clock_of n ≡ t
 
-never : {A : Type 0} (t : DateTime) → Outside ≡ At t → A
+never : {A : Type 0} (t : DateTime) → None ≡ Some t → A
 never t h = let z : ◌≡◌ {A = ℕ} 0 1 = cc in absurd (omega arith)
 
-shows : (z : ℤ) (t : DateTime) → shown_at z ≡ At t → Shows z t
+shows : (z : ℤ) (t : DateTime) → shown_at z ≡ Some t → Shows z t
 shows (pos n) t h =
     by_test
-    (λ b. (if b then At (clock_of n) else Outside) ≡ At t → Shows (pos n) t)
+    (λ b. (if b then Some (clock_of n) else None) ≡ Some t → Shows (pos n) t)
     (ltb n all_seconds)
     (λ l e. record { n = n; to = ltb-true n all_seconds l; local = refl; clock = cc })
     (λ l. never t)
     h
 shows (negsuc n) t h = never t h
 
-module _ (z o : ℤ) (t : DateTime) (h : shown z o ≡ At t) where
+module _ (z o : ℤ) (t : DateTime) (h : shown z o ≡ Some t) where
   local_shows : Shows (z +ℤ o *ℤ pos 60 +ℤ pos epoch) t
   unfolding shown
   local_shows = shows (z +ℤ o *ℤ pos 60 +ℤ pos epoch) t h

@@ -3,7 +3,6 @@ use Prim.Native.Nat.{ℕ, zero, suc, ◌+◌, ◌-◌, ◌*◌, ◌/◌, ◌≤�
 use mathlib.Core.Path.{◌≡◌, refl, sym, ap, ◌∙◌}
 use mathlib.Core.Bool.{Bool, true, false}
 use mathlib.Core.List.{List, [], ◌∷◌}
-use native.Mathlib.Decide.{dec_le}
 use native.Mathlib.Omega.{arith}
 use native.Mathlib.Numerals.{add-one}
 use native.Mathlib.Nat.{add-zero, zero-add}
@@ -13,7 +12,7 @@ use mir.Val.{Fits}
 use Rattle.calendar.specs.Calendar.{last_year, leap, months, row, month_days, year_days, days_before_year, days_of_months, day_number}
 use Rattle.calendar.specs.Instant.{year_of, month_of}
 use Rattle.calendar.proofs.Years.{years}
-use Rattle.calendar.proofs.Days.{months_none, months_more, months_to, months_all, month_found, years_to, year_found}
+use Rattle.calendar.proofs.Days.{months_none, months_more, months_to, months_all, month_found, years_all, years_to, year_found}
 
 -- what stands before each number of a list, and behind the last: the sum of those before it
 unfoldable sums : ℕ → List ℕ → List ℕ
@@ -55,46 +54,53 @@ pub months_at : (y n l : ℕ) → l ≡ row (leap y) → n ≤ 12
     → get_or (get_or befores l []) n 0 ≡ days_of_months y n
 months_at y n l e h = rw e (table y n (leap y) refl h)
 
--- the month of day `n` of the year, `k` months and all but `left` days passed
-pub record MonthAt (y n k left : ℕ) : Type 0 where
+-- day `n` of the year falls in month `k`, from 0, or in a later one
+pub record MonthAt (y n k : ℕ) : Type 0 where
   pub one_of : k ≤ 11
-  pub is : left + days_of_months y k ≡ n
+  pub from : days_of_months y k ≤ n
 
-pub month_start : (y n : ℕ) → MonthAt y n 0 n
-month_start y n = record { one_of = omega arith; is = omega (arith, months_none y) }
+pub month_start : (y n : ℕ) → MonthAt y n 0
+month_start y n = record { one_of = omega arith; from = omega (arith, months_none y) }
 
-module _ (y n k left d : ℕ) (i : MonthAt y n k left) (e : d ≡ month_days y (k + 1)) where
-  upto : days_of_months y (suc k) ≡ days_of_months y k + d
-  upto = rw (e, add-one k) (months_more y k)
+module _ (y n k : ℕ) (i : MonthAt y n k) where
+  month_ends : n < days_of_months y (k + 1) → k ≡ month_of y n
+  month_ends l = sym (month_found y n k (record { one_of = omega (arith, i.one_of); from = i.from; to = rw add-one at l }))
 
-  pub month_next : n < year_days y → d ≤ left → MonthAt y n (k + 1) (left - d)
-  month_next h l = record { one_of = omega (arith, last (dec_le k 10)); is = rw (add-one k) (omega (arith, upto, i.is)) }
-    where
-      last : Dec (k ≤ 10) → k ≤ 10
-      last (yes p) = p
-      last (no p) =
-          let o : suc k ≡ 12 = omega (arith, i.one_of) in
-          omega (arith, rw o at upto, months_all y, i.is)
+  module _ (d : ℕ) (e : d ≡ days_of_months y (k + 1)) where
+    pub month_next : k < 11 → d ≤ n → MonthAt y n (k + 1)
+    month_next h l = record { one_of = omega arith; from = omega arith }
 
-  pub month_end : left < d → k ≡ month_of y n
-  month_end l =
-      sym (month_found y n k (record { one_of = omega (arith, i.one_of); from = omega (arith, i.is); to = omega (arith, upto, i.is) }))
+    pub month_end : n < d → k ≡ month_of y n
+    month_end l = month_ends (omega arith)
 
--- the year of day `n`: the guess is never late, and at most four years early
+  pub month_last : n < year_days y → 11 ≤ k → 11 ≡ month_of y n
+  month_last h l =
+      let k_is : k ≡ 11 = omega (arith, i.one_of) in
+      sym k_is ∙ month_ends (rw k_is (omega (arith, months_all y)))
+
+-- day `n` falls in year `y` or in a later one; a guess by four years of 1461 days is never late
 pub record YearAt (n y : ℕ) : Type 0 where
   pub one_of : y ≤ last_year
-  pub near : y ≤ n / 1461 * 4 + 4
   pub from : days_before_year y ≤ n
 
 pub year_start : (n : ℕ) → n < 3652425 → YearAt n (n / 1461 * 4)
-year_start n h = record { one_of = omega arith; near = omega arith; from = omega (arith, years (n / 1461 * 4)) }
+year_start n h = record { one_of = omega arith; from = omega (arith, years (n / 1461 * 4)) }
 
-module _ (n y next : ℕ) (i : YearAt n y) (e : next ≡ days_before_year (y + 1)) where
-  pub year_next : n < 3652425 → next ≤ n → YearAt n (y + 1)
-  year_next h l = let c = years (y + 1) in record { one_of = omega (arith, i.one_of); near = omega (arith, i.one_of); from = omega arith }
+module _ (n y : ℕ) (i : YearAt n y) where
+  year_ends : n < days_before_year (y + 1) → y ≡ year_of n
+  year_ends l = sym (year_found n y (record { one_of = omega (arith, i.one_of); from = i.from; to = rw add-one at l }))
 
-  pub year_end : n < next → y ≡ year_of n
-  year_end l = sym (year_found n y (record { one_of = omega (arith, i.one_of); from = i.from; to = rw (e, add-one) at l }))
+  module _ (next : ℕ) (e : next ≡ days_before_year (y + 1)) where
+    pub year_next : y < last_year → next ≤ n → YearAt n (y + 1)
+    year_next h l = record { one_of = omega arith; from = omega arith }
+
+    pub year_end : n < next → y ≡ year_of n
+    year_end l = year_ends (omega arith)
+
+  pub year_last : n < 3652425 → last_year ≤ y → last_year ≡ year_of n
+  year_last h l =
+      let y_is : y ≡ last_year = omega (arith, i.one_of) in
+      sym y_is ∙ year_ends (rw y_is (omega (arith, years_all)))
 
 -- the number of a day
 module _ (y m d a b : ℕ) (p : a ≡ days_before_year y) (q : b ≡ days_of_months y (m - 1)) where
@@ -109,8 +115,8 @@ module _ (y m d a b : ℕ) (p : a ≡ days_before_year y) (q : b ≡ days_of_mon
     pub day_fits : d ≤ 31 → Fits w32 (a + b + (d - 1))
     day_fits h = record { fits = omega (arith, years_to y (omega arith), months_to y (m - 1) (omega arith)) }
 
-pub ruleset month_laws = (month_start, month_next, month_end)
+pub ruleset month_laws = (month_start, month_next, month_end, month_last)
 
-pub ruleset year_laws = (year_start, year_next, year_end)
+pub ruleset year_laws = (year_start, year_next, year_end, year_last)
 
 pub ruleset day_laws = (day_first, day_fits, day_is)

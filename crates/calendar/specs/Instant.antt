@@ -1,9 +1,7 @@
 -- Seconds since 1970-01-01T00:00:00Z, and the local date and clock that they show.
-use Rattle.std.specs.Prelude.{ℕ, zero, suc, ◌+◌, ◌-◌, ◌*◌, ◌/◌, ◌%◌, Bool, true, false, ltb, ℤ, pos, negsuc, ◌+ℤ◌, ◌-ℤ◌, ◌*ℤ◌, if◌then◌else◌}
+use Rattle.std.specs.Prelude.{ℕ, zero, suc, ◌+◌, ◌-◌, ◌*◌, ◌/◌, ◌%◌, Bool, true, false, ltb, ℤ, pos, negsuc, ◌+ℤ◌, ◌-ℤ◌, ◌*ℤ◌, if◌then◌else◌, Option, Some, None}
 use Rattle.calendar.specs.Calendar.{year_days, month_days, days_before_year, days_of_months, day_number}
 use Rattle.calendar.specs.declared.DateTime.{DateTime}
-use Rattle.calendar.specs.declared.Shown.{Shown}
-use Rattle.calendar.specs.declared.Shown.TheVariants.{Outside, At}
 
 -- from 0000-01-01T00:00:00 to 1970-01-01T00:00:00, in seconds
 abbrev pub epoch : ℕ
@@ -51,15 +49,15 @@ clock_of n =
 abbrev pub all_seconds : ℕ
 all_seconds = 315569520000
 
-abbrev pub shown_at : ℤ → Shown
-shown_at (pos n) = if ltb n all_seconds then At (clock_of n) else Outside
-shown_at (negsuc n) = Outside
+abbrev pub shown_at : ℤ → Option DateTime
+shown_at (pos n) = if ltb n all_seconds then Some (clock_of n) else None
+shown_at (negsuc n) = None
 
 -- what an instant shows `offset` minutes east of UTC, where the year there is one of 0 to 9999
-unfoldable pub shown : ℤ → ℤ → Shown
+unfoldable pub shown : ℤ → ℤ → Option DateTime
 shown seconds offset = shown_at (seconds +ℤ offset *ℤ pos 60 +ℤ pos epoch)
 
 -- whether the local year is one of 0 to 9999
-abbrev pub is_shown : Shown → Bool
-is_shown Outside = false
-is_shown (At t) = true
+abbrev pub is_shown : Option DateTime → Bool
+is_shown None = false
+is_shown (Some t) = true

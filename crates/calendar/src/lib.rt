@@ -1,8 +1,7 @@
 // The Gregorian calendar, seconds since 1970-01-01T00:00:00Z, and the date and clock that they show.
 #![tactic(auto)]
 
-ghost use Rattle.std.specs.Prelude.{◌≡◌, true, ◌≤◌, ◌<◌, pos, ◌*ℤ◌};
-ghost use Rattle.base.specs.Diff.{diff_of};
+ghost use Rattle.std.specs.Prelude.{◌≡◌, true, ◌≤◌, ◌<◌};
 ghost use Rattle.calendar.specs.Calendar.{last_year, leap, row, month_days, valid_date, valid_time, valid_offset, valid, year_days, days_before_year, days_of_months, day_number};
 ghost use Rattle.calendar.specs.Instant.{local_seconds, seconds_of, year_of, month_of, clock_of, all_seconds, shown, is_shown};
 
@@ -35,23 +34,14 @@ pub struct DateTime {
     pub second: u32,
 }
 
-// What an instant shows; outside: its local year is none of 0 to 9999.
-#[derive(Clone, Copy)]
-pub enum Shown {
-    Outside,
-    At(DateTime),
-}
-
 // Whether the local year is one of 0 to 9999.
-pub fn is_shown(x: Shown) -> bool
+pub fn is_shown(x: Option<DateTime>) -> bool
     ensures { result ≡ is_shown x }
 {
-    match x {
-        Shown::Outside => false,
-        Shown::At(_) => true,
-    }
+    x.is_some()
 }
 
+#[tactic(auto, unfolding(crate::specs::Calendar::leap))]
 fn is_leap(y: u32) -> bool
     ensures { result ≡ leap y }
 {
@@ -61,38 +51,26 @@ fn is_leap(y: u32) -> bool
 fn leap_row(y: u32) -> usize
     ensures { result ≡ row (leap y) }
 {
-    if is_leap(y) {
-        return 1;
-    }
-    0
+    usize::from(is_leap(y))
 }
 
 fn month_days(y: u32, m: u32) -> u32
     requires { (1 ≤ m) × (m ≤ 12) }
     ensures { result ≡ month_days y m }
 {
-    let l = leap_row(y);
-    let k = (m - 1) as usize;
-    MONTHS[l][k]
+    MONTHS[leap_row(y)][(m - 1) as usize]
 }
 
 // Whether year `y` has such a month and such a day.
+#[tactic(auto, unfolding(crate::specs::Calendar::valid_date))]
 pub fn is_date(y: u32, m: u32, d: u32) -> bool
     ensures { result ≡ valid_date y m d }
 {
-    if m < 1 {
-        return false;
-    }
-    if 12 < m {
-        return false;
-    }
-    if d < 1 {
-        return false;
-    }
-    d <= month_days(y, m)
+    (1..=12).contains(&m) && (1..=month_days(y, m)).contains(&d)
 }
 
 // Whether a day has such a clock: no hour 24, no second 60.
+#[tactic(auto, unfolding(crate::specs::Calendar::valid_time))]
 pub fn is_time(h: u32, m: u32, s: u32) -> bool
     ensures { result ≡ valid_time h m s }
 {
@@ -103,21 +81,15 @@ pub fn is_time(h: u32, m: u32, s: u32) -> bool
 pub fn is_offset(offset: i32) -> bool
     ensures { result ≡ valid_offset offset }
 {
-    let minutes = base::split(base::widen(offset));
-    (minutes.up <= OFFSET_LIMIT) & (minutes.down <= OFFSET_LIMIT)
+    u64::from(offset.unsigned_abs()) <= OFFSET_LIMIT
 }
 
 // A date of the years 0 to 9999, and a clock.
+#[tactic(auto, unfolding(crate::specs::Calendar::valid))]
 pub fn is_valid(t: DateTime) -> bool
     ensures { result ≡ valid t }
 {
-    if LAST_YEAR < t.year {
-        return false;
-    }
-    if !is_date(t.year, t.month, t.day) {
-        return false;
-    }
-    is_time(t.hour, t.minute, t.second)
+    t.year <= LAST_YEAR && is_date(t.year, t.month, t.day) && is_time(t.hour, t.minute, t.second)
 }
 
 // The days of the years before `y`: of those every fourth is a leap year, but for the hundredth ones, of which every fourth is.
@@ -133,9 +105,7 @@ fn days_of_months(y: u32, n: u32) -> u32
     requires { n ≤ 12 }
     ensures { result ≡ days_of_months y n }
 {
-    let l = leap_row(y);
-    let k = n as usize;
-    BEFORE[l][k]
+    BEFORE[leap_row(y)][n as usize]
 }
 
 // Days since 0000-01-01.
@@ -151,30 +121,23 @@ fn local_seconds(t: DateTime) -> u64
     requires { valid t ≡ true }
     ensures { result ≡ local_seconds t }
 {
-    let days = day_number(t.year, t.month, t.day) as u64;
-    let clock = (t.hour * 3600 + t.minute * 60 + t.second) as u64;
+    let days = u64::from(day_number(t.year, t.month, t.day));
+    let clock = u64::from(t.hour * 3600 + t.minute * 60 + t.second);
     days * 86400 + clock
 }
 
-// An offset of minutes, in seconds, taken apart.
-fn shift(offset: i32) -> base::Diff
-    ensures { result ≡ diff_of (offset *ℤ pos 60) }
-{
-    let o = base::split(base::widen(offset));
-    base::Diff {
-        up: o.up * 60,
-        down: o.down * 60,
-    }
-}
+// From 0000-01-01T00:00:00 to 1970-01-01T00:00:00, in seconds.
+const EPOCH: i64 = 62_167_219_200;
+
+// The seconds of the years 0 to 9999.
+const ALL_SECONDS: u64 = 315_569_520_000;
 
 // Seconds since 1970-01-01T00:00:00Z of a date and a clock `offset` minutes east of UTC.
 pub fn seconds_of(t: DateTime, offset: i32) -> i64
     requires { valid t ≡ true }
     ensures { result ≡ seconds_of t offset }
 {
-    let o = shift(offset);
-    let up = local_seconds(t) + o.down;
-    base::join(up, 62167219200 + o.up)
+    local_seconds(t) as i64 - EPOCH - i64::from(offset) * 60
 }
 
 // The year of day `n` since 0000-01-01. Four years have at most 1461 days, so the guess is never late; it is at most four years early.
@@ -182,14 +145,12 @@ fn year_of(n: u32) -> u32
     requires { n < 3652425 }
     ensures { result ≡ year_of n }
 {
-    let mut y = n / 1461 * 4;
-    loop {
-        let next = days_before_year(y + 1);
-        if n < next {
+    for y in n / 1461 * 4..LAST_YEAR {
+        if n < days_before_year(y + 1) {
             return y;
         }
-        y += 1;
     }
+    LAST_YEAR
 }
 
 // The month, from 0, of day `n` of the year.
@@ -197,16 +158,12 @@ fn month_of(y: u32, n: u32) -> u32
     requires { n < year_days y }
     ensures { result ≡ month_of y n }
 {
-    let mut k = 0;
-    let mut left = n;
-    loop {
-        let d = month_days(y, k + 1);
-        if left < d {
-            return k;
+    for m in 0..11 {
+        if n < days_of_months(y, m + 1) {
+            return m;
         }
-        left -= d;
-        k += 1;
     }
+    11
 }
 
 // The date and the clock that `n` seconds since 0000-01-01T00:00:00 show.
@@ -231,19 +188,14 @@ fn clock_of(n: u64) -> DateTime
 }
 
 // What an instant shows `offset` minutes east of UTC.
-pub fn shown_at(seconds: i64, offset: i32) -> Shown
+pub fn shown_at(seconds: i64, offset: i32) -> Option<DateTime>
     ensures { result ≡ shown seconds offset }
 {
-    let z = base::split(seconds);
-    let o = shift(offset);
-    let up = z.up + o.up + 62167219200;
-    let down = z.down + o.down;
-    if up < down {
-        return Shown::Outside;
+    let local = seconds.checked_add(i64::from(offset) * 60 + EPOCH)?;
+    let n = u64::try_from(local).ok()?;
+    if n < ALL_SECONDS {
+        Some(clock_of(n))
+    } else {
+        None
     }
-    let n = up - down;
-    if 315569520000 <= n {
-        return Shown::Outside;
-    }
-    Shown::At(clock_of(n))
 }

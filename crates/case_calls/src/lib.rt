@@ -1,135 +1,164 @@
-// The services over a parameter table of their own. Rows go in and come out, so that the other functions see no table of structs.
+// The calls of a case over the C boundary, each over tables of its own.
 #![tactic(auto)]
 
-pub mod answers;
+ghost use Rattle.std.specs.Prelude.{◌<◌};
 
-ghost use Rattle.std.specs.Prelude.{◌≤◌};
+use layout::{RECORD_SIZE, STRICT_SIZE};
+use record::{OutputAnswer, Param, Place, ReadAnswer, Record};
 
-use record::{OutputAnswer, Param, ReadAnswer};
+// Variant, year and offset.
+#[derive(Clone, Copy)]
+pub struct Settings {
+    pub variant: u32,
+    pub year: u32,
+    pub offset: i32,
+}
 
-// ---- for the prover alone: `copy_rows` and `copy_entries` name the parameter table and so only call. `put_row` takes an entry, `entry_at` gives one.
+// What a reader left: whether the whole line is the message, the bytes of the record, and both tables.
+#[derive(Clone, Copy)]
+pub struct Left<const SIZE: usize> {
+    pub whole: u32,
+    memory: [u8; SIZE],
+    elements: [[usize; 2]; 64],
+    params: [Param; 256],
+}
 
-// An entry as a row, if there is room.
-fn put_row(rows: &mut [[usize; 5]], at: usize, p: Param) {
-    if at < rows.len() {
-        rows[at] = [
-            p.element,
-            p.name_start,
-            p.name_len,
-            p.value_start,
-            p.value_len,
-        ];
+impl<const SIZE: usize> Left<SIZE> {
+    fn new() -> Left<SIZE> {
+        Left {
+            whole: 0,
+            memory: [0; SIZE],
+            elements: [[0; 2]; 64],
+            params: [record::blank(); 256],
+        }
+    }
+
+    // What is left, or the number of the refusal.
+    fn told(self, a: ReadAnswer) -> Result<Left<SIZE>, u32> {
+        if a.number == 0 {
+            Ok(Left {
+                whole: a.whole,
+                ..self
+            })
+        } else {
+            Err(a.number)
+        }
+    }
+
+    // Word `i` of the record's bytes; 0 past the end.
+    pub fn word(&self, i: usize) -> u64 {
+        match self.memory.chunks_exact(8).nth(i) {
+            Some(&[a, b, c, d, e, f, g, h]) => u64::from_le_bytes([a, b, c, d, e, f, g, h]),
+            _ => 0,
+        }
+    }
+
+    // The place that starts with word `i`.
+    pub fn place(&self, i: usize) -> Place
+        requires { i < 64 }
+    {
+        Place {
+            present: self.word(i) == 1,
+            start: self.word(i + 1) as usize,
+            len: self.word(i + 2) as usize,
+        }
+    }
+
+    // The record. (A reader leaves none that is not well formed.)
+    pub fn record(&self) -> Record {
+        if layout::holds_record(&self.memory) {
+            layout::record_at(&self.memory)
+        } else {
+            record::empty_record()
+        }
+    }
+
+    // The elements that were read.
+    pub fn elements(&self) -> &[[usize; 2]] {
+        let count = self.word(layout::ELEMENTS_WORD) as usize;
+        &self.elements[..count.min(64)]
+    }
+
+    // The parameters that were read.
+    pub fn params(&self) -> &[Param] {
+        let count = self.word(layout::PARAMS_WORD) as usize;
+        &self.params[..count.min(256)]
     }
 }
 
-// A row as an entry; a blank one where there is no row.
-fn entry_at(rows: &[[usize; 5]], at: usize) -> Param {
-    if rows.len() <= at {
-        return record::blank();
-    }
-    let row = rows[at];
-    Param {
-        element: row[0],
-        name_start: row[1],
-        name_len: row[2],
-        value_start: row[3],
-        value_len: row[4],
-    }
-}
-
-// ---- the services
-
-// The entries of a table as rows.
-pub fn copy_rows(params: &[Param], rows: &mut [[usize; 5]]) {
-    let n = params.len();
-    let mut i = 0;
-    while i < n {
-        let p = params[i];
-        put_row(rows, i, p);
-        i += 1;
-    }
-}
-
-// `p` is how many entries the table has.
-pub fn loose(
-    line: &[u8],
-    variant: u32,
-    year: u32,
-    offset: i32,
-    elements: &mut [[usize; 2]],
-    p: usize,
-    memory: &mut [u8],
-    rows: &mut [[usize; 5]],
-) -> ReadAnswer
-    requires { p ≤ 256 }
-{
-    let blank = record::blank();
-    let mut params = [blank; 256];
-    let a = loose_call::khamdoriem_read_loose(
+// A loose reading into tables of `e` and `p` entries, at most 64 and 256.
+pub fn reading(line: &[u8], s: Settings, e: usize, p: usize) -> Result<Left<RECORD_SIZE>, u32> {
+    let mut left = Left::<RECORD_SIZE>::new();
+    let told = loose_call::khamdoriem_read_loose(
         line,
-        variant,
-        year,
-        offset,
-        elements,
-        &mut params[..p],
-        memory,
+        s.variant,
+        s.year,
+        s.offset,
+        &mut left.elements[..e.min(64)],
+        &mut left.params[..p.min(256)],
+        &mut left.memory,
     );
-    copy_rows(&params, rows);
-    a
+    left.told(told)
 }
 
-// The same by strict reading.
-pub fn strict(
-    line: &[u8],
-    elements: &mut [[usize; 2]],
-    memory: &mut [u8],
-    rows: &mut [[usize; 5]],
-) -> ReadAnswer {
-    let blank = record::blank();
-    let mut params = [blank; 256];
-    let a = strict_call::khamdoriem_read_strict(line, elements, &mut params, memory);
-    copy_rows(&params, rows);
-    a
+// A strict reading.
+pub fn strict_reading(line: &[u8]) -> Result<Left<STRICT_SIZE>, u32> {
+    let mut left = Left::<STRICT_SIZE>::new();
+    let told = strict_call::khamdoriem_read_strict(
+        line,
+        &mut left.elements,
+        &mut left.params,
+        &mut left.memory,
+    );
+    left.told(told)
 }
 
-// The rows as the entries of a table.
-pub fn copy_entries(rows: &[[usize; 5]], params: &mut [Param]) {
-    let n = params.len();
-    let mut i = 0;
-    while i < n {
-        let p = entry_at(rows, i);
-        params[i] = p;
-        i += 1;
+// The text that was put in the output, or the number of the refusal.
+fn text_of(a: OutputAnswer, out: &[u8]) -> Result<&[u8], u32> {
+    if a.number == 0 {
+        Ok(&out[..a.len.min(out.len())])
+    } else {
+        Err(a.number)
     }
 }
 
-// Printing over the rows.
-pub fn print(
+// A reading, and its record printed over the line's first `len` bytes.
+pub fn printing<'a>(
     line: &[u8],
-    memory: &[u8],
-    elements: &[[usize; 2]],
-    rows: &[[usize; 5]],
-    out: &mut [u8],
-) -> OutputAnswer {
-    let blank = record::blank();
-    let mut params = [blank; 256];
-    copy_entries(rows, &mut params);
-    text_calls::khamdoriem_print(line, memory, elements, &params, out)
+    s: Settings,
+    len: usize,
+    out: &'a mut [u8],
+) -> Result<&'a [u8], u32> {
+    let left = reading(line, s, 64, 256)?;
+    let a = text_calls::khamdoriem_print(
+        &line[..len.min(line.len())],
+        &left.memory,
+        &left.elements,
+        &left.params,
+        out,
+    );
+    text_of(a, out)
 }
 
-// Lookup over the rows.
-pub fn lookup(
+// A reading, and a value of it looked up.
+pub fn looking<'a>(
     line: &[u8],
-    memory: &[u8],
-    elements: &[[usize; 2]],
-    rows: &[[usize; 5]],
+    s: Settings,
     id: &[u8],
     name: &[u8],
     kind: u32,
-    out: &mut [u8],
-) -> OutputAnswer {
-    let blank = record::blank();
-    let mut params = [blank; 256];
-    copy_entries(rows, &mut params);
-    text_calls::khamdoriem_lookup(line, memory, elements, &params, id, name, kind, out)
+    out: &'a mut [u8],
+) -> Result<&'a [u8], u32> {
+    let left = reading(line, s, 64, 256)?;
+    let a = text_calls::khamdoriem_lookup(
+        line,
+        &left.memory,
+        &left.elements,
+        &left.params,
+        id,
+        name,
+        kind,
+        out,
+    );
+    text_of(a, out)
 }

@@ -2,5 +2,5 @@
 #![tactic(auto)]
 
 pub mod case;
-pub mod text;
+pub mod fields;
 pub mod words;

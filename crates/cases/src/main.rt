@@ -2,38 +2,22 @@
 // offset, `S` for a strict one; then, after one space, the line that is read.
 #![tactic(auto)]
 
+use case_text::fields::Fields;
 use case_text::words::say;
 use program::{Process, Status, Takes};
 use std::process::ExitCode;
 
-fn show(process: &mut Process, text: &[u8]) {
-    let s = case_text::case::settings(text, 2);
-    let start = s.next;
-    if text.len() < start {
-        return;
-    }
-    case_words::show_reading(process, &text[start..], s.settings);
-}
-
 fn show_case(process: &mut Process, text: &[u8]) {
     say(process, text);
     say(process, b"\n");
-    if text.len() < 2 {
-        return;
-    }
-    match text[0] {
-        b'R' => show(process, text),
-        _ => case_words::show_strict(process, &text[2..]),
-    }
-}
-
-// Shows each line of the list.
-fn show_cases(process: &mut Process, list: &[u8]) {
-    let mut at = 0;
-    while at < list.len() {
-        let end = at + case_text::text::line_len(&list[at..]);
-        show_case(process, &list[at..end]);
-        at = end + 1;
+    match text {
+        [b'R', _, ..] => {
+            let mut fields = Fields::of(text);
+            let s = fields.settings();
+            case_words::show_reading(process, fields.rest, s);
+        }
+        [_, _, line @ ..] => case_words::show_strict(process, line),
+        _ => {}
     }
 }
 
@@ -54,7 +38,9 @@ fn run(process: &mut Process) -> Status {
     }
     let mut list = [0u8; 65536];
     let n = program::read_full(process, &mut list);
-    show_cases(process, &list[0..n]);
+    for line in list[..n].split_inclusive(|b| *b == b'\n') {
+        show_case(process, line.strip_suffix(b"\n").unwrap_or(line));
+    }
     let whole = program::is_at_end(process, b"cases");
     program::end(process, b"cases", whole)
 }

@@ -1,4 +1,5 @@
 -- Worked examples, computed: a strict record as bytes.
+use Rattle.std.specs.Prelude.{Some}
 use Prim.Native.Nat.{ℕ}
 use mathlib.Core.Path.{◌≡◌, refl}
 use mathlib.Core.Bool.{true, false}
@@ -8,8 +9,6 @@ use lib.ListN.{take}
 use Rattle.record.specs.Places.{absent, place}
 use Rattle.record.specs.Refusals.{refusal_number}
 use Rattle.record.specs.declared.Protocol.TheVariants.{Rfc5424}
-use Rattle.record.specs.declared.Level.TheVariants.{Set}
-use Rattle.record.specs.declared.Stamp.TheVariants.{Stamped}
 use Rattle.record.specs.declared.StrictRecord.{StrictRecord}
 use Rattle.layout.specs.Layout.{little, words_bytes, record_words, strict_words, strict_bytes}
 use Rattle.layout.specs.Incoming.{number, word_at, front_held, marks_held, holds_record, record_at, element_count_at, param_count_at}
@@ -21,9 +20,9 @@ reading =
     record {
       common = record {
         protocol = Rfc5424 1;
-        facility = Set 4;
-        severity = Set 2;
-        timestamp = Stamped (record { seconds = pos 3600; nanos = 500000000; digits = 1; offset = negsuc 59 });
+        facility = Some 4;
+        severity = Some 2;
+        timestamp = Some (record { seconds = pos 3600; nanos = 500000000; digits = 1; offset = negsuc 59 });
         host = place 34 1;
         app = absent;
         procid = absent;

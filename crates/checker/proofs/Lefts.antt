@@ -1,5 +1,5 @@
 -- What is left of the structured data, in a walk over the parameters.
-use Rattle.std.specs.Prelude.{if◌then◌else◌}
+use Rattle.std.specs.Prelude.{if◌then◌else◌, Option, Some, None}
 use Prim.Native.Nat.{ℕ, zero, suc, ◌+◌, ◌-◌, ◌≤◌, ◌<◌}
 use mathlib.Core.Path.{◌≡◌, refl, sym, ap, ◌∙◌}
 use mathlib.Core.Bool.{false}
@@ -13,24 +13,22 @@ use lib.Seq.{drop-cons}
 use borrow.Author.Tests.{eq-eqb, ne_eqb}
 use Rattle.claims.specs.Claims.{pair_of, pairs}
 use Rattle.claims.specs.Holds.{on_next, byte_next, param_next, params_next, id_next, nothing_left, front, rest, elements_next, data_next}
-use Rattle.claims.specs.declared.Next.{Next}
-use Rattle.claims.specs.declared.Next.TheVariants.{Off, At}
 use Rattle.claim_data.specs.Walks.{first_next, open_next, opens_next, turn_next, last_next}
 
-pub next_assoc : (x : Next) (f g : ℕ → Next) → on_next (on_next x f) g ≡ on_next x (λ a. on_next (f a) g)
-next_assoc Off f g = refl
-next_assoc (At n) f g = refl
+pub next_assoc : (x : Option ℕ) (f g : ℕ → Option ℕ) → on_next (on_next x f) g ≡ on_next x (λ a. on_next (f a) g)
+next_assoc None f g = refl
+next_assoc (Some n) f g = refl
 
-pub next_same : (x : Next) (f g : ℕ → Next) → ((a : ℕ) → f a ≡ g a) → on_next x f ≡ on_next x g
-next_same Off f g h = refl
-next_same (At n) f g h = h n
+pub next_same : (x : Option ℕ) (f g : ℕ → Option ℕ) → ((a : ℕ) → f a ≡ g a) → on_next x f ≡ on_next x g
+next_same None f g h = refl
+next_same (Some n) f g h = h n
 
-next_id : (x : Next) → on_next x At ≡ x
-next_id Off = refl
-next_id (At n) = refl
+next_id : (x : Option ℕ) → on_next x Some ≡ x
+next_id None = refl
+next_id (Some n) = refl
 
 -- at `at`, where element k is open and the rows are left
-unfoldable pub left_next : List ℕ → List (List ℕ) → ℕ → ℕ → List (List ℕ) → Next
+unfoldable pub left_next : List ℕ → List (List ℕ) → ℕ → ℕ → List (List ℕ) → Option ℕ
 left_next line ids k at rows =
     if eqb (length ids) 0 then on_next (nothing_left rows at) (λ a. byte_next line a 45)
     else on_next (params_next line k at (front k rows)) λ b. on_next (byte_next line b 93) λ c. elements_next line (k + 1) c (pairs (drop (k + 1) ids)) (rest k rows)

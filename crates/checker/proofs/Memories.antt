@@ -1,26 +1,23 @@
 -- A strict record that comes in as bytes, and the numbers of the answers.
+use Rattle.std.specs.Prelude.{Result}
 use Prim.Native.Nat.{ℕ, ◌+◌, ◌-◌, ◌*◌, ◌≤◌, ◌<◌}
 use mathlib.Core.Path.{◌≡◌, sym, ap, ◌∙◌}
-use mathlib.Core.Bool.{Bool, true, false, not, ◌&&◌}
+use mathlib.Core.Bool.{true, ◌&&◌}
 use mathlib.Core.List.{List}
 use native.Mathlib.Omega.{arith}
 use lib.Dec.{eqb, leb, ltb}
 use lib.ListN.{length, take, drop, length-drop}
 use lib.Seq.{drop-drop}
-use borrow.Author.Tests.{le-leb, lt-leb, leb-true, lt-ltb, le-ltb, not-true, not-false}
+use borrow.Author.Tests.{leb-true}
 use Rattle.base.proofs.Tests.{clash, both}
-use Rattle.record.specs.Limits.{line_limit}
-use Rattle.record.specs.Refusals.{refusal_number}
 use Rattle.record.specs.declared.Record.{Record}
 use Rattle.record.specs.declared.StrictRecord.{StrictRecord}
 use Rattle.record.specs.declared.Refusal.{Refusal}
 use Rattle.layout.specs.Layout.{word_count, strict_word_count, record_size, strict_size}
 use Rattle.layout.specs.Incoming.{number, word_at, holds_record, record_at, element_count_at, param_count_at}
 use Rattle.claims.specs.Claims.{Checks, checked_number}
-use Rattle.claims.specs.declared.Checked.{Checked}
-use Rattle.claims.specs.declared.Checked.TheVariants.{Yes, Refused}
 use Rattle.claims.proofs.Laws.{one_answer}
-use Rattle.checker.specs.Memory.{text_word, message_mark_word, holds_strict, strict_at, first_refusal, ChecksBytes, OneNumber}
+use Rattle.checker.specs.Memory.{text_word, message_mark_word, holds_strict, strict_at, ChecksBytes, OneNumber}
 use Rattle.checker.specs.Memory.ChecksBytes.{held, unheld}
 
 -- ---- the words
@@ -48,19 +45,6 @@ pub ruleset word_laws = (word_later, word_past, word_room, word_inside)
 -- ---- the record
 
 module _ (bytes : List ℕ) where
-  pub strict_short : length bytes < strict_size → false ≡ holds_strict bytes
-  unfolding holds_strict
-  strict_short h = rw (lt-leb strict_size (length bytes) h)
-
-  module _ (l : strict_size ≤ length bytes) (r : Bool) (er : r ≡ holds_record bytes) where
-    pub strict_none : not r ≡ true → false ≡ holds_strict bytes
-    unfolding holds_strict
-    strict_none q = rw (le-leb strict_size (length bytes) l, ← er, not-true r q)
-
-    pub strict_marks : not r ≡ false → (m n : ℕ) → m ≡ word_at bytes text_word → n ≡ word_at bytes message_mark_word → (ltb m 2 && ltb n 2) ≡ holds_strict bytes
-    unfolding holds_strict
-    strict_marks q m n em en = rw (le-leb strict_size (length bytes) l, ← er, not-false r q, em, en)
-
   module _ (h : holds_strict bytes ≡ true) where
     parts : (strict_size ≤ length bytes) × (holds_record bytes ≡ true)
     unfolding holds_strict
@@ -85,33 +69,12 @@ module _ (bytes : List ℕ) where
   unfolding strict_at
   strict_is c ec a b d n ea eb ed en = rw (ec, ea, eb, ed, en)
 
-pub ruleset holds_laws = (strict_short, strict_none, strict_marks)
-
 pub ruleset strict_laws = (strict_room, strict_record, strict_is)
-
--- ---- the numbers
-
-module _ (a : Checked) where
-  pub number_yes : a ≡ Yes → 0 ≡ checked_number a
-  number_yes e = rw e
-
-  pub number_refused : (f : Refusal) → a ≡ Refused f → (n : ℕ) → n ≡ refusal_number f → n ≡ checked_number a
-  number_refused f e n q = q ∙ rw e
-
-pub ruleset number_laws = (number_yes, number_refused)
-
-pub first_long : (n : ℕ) → line_limit < n → 1 ≡ refusal_number (first_refusal n)
-first_long n h = rw (lt-ltb line_limit n h)
-
-pub first_unheld : (n : ℕ) → n ≤ line_limit → 7 ≡ refusal_number (first_refusal n)
-first_unheld n h = rw (le-ltb line_limit n h)
-
-pub ruleset first_laws = (first_long, first_unheld)
 
 -- ---- the call
 
 pub served : (line bytes : List ℕ) (elements params : List (List ℕ)) (n : ℕ) → holds_strict bytes ≡ true → (r : StrictRecord) → r ≡ strict_at bytes
-    → (e : ℕ) → e ≡ element_count_at bytes → (p : ℕ) → p ≡ param_count_at bytes → (a : Checked) → Checks line r e p elements params a → n ≡ checked_number a
+    → (e : ℕ) → e ≡ element_count_at bytes → (p : ℕ) → p ≡ param_count_at bytes → (a : Result Unit Refusal) → Checks line r e p elements params a → n ≡ checked_number a
     → ChecksBytes line bytes elements params n
 served line bytes elements params n q r er e ee p ep a h en = held q a (rw (← er, ← ee, ← ep) h) en
 

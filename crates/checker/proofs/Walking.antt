@@ -1,7 +1,8 @@
 -- The check in one walk over the parameters.
+use Rattle.std.specs.Prelude.{Option, Some, None}
 use Prim.Native.Nat.{ℕ, zero, suc, ◌+◌, ◌-◌, ◌*◌, ◌≤◌, ◌<◌}
 use mathlib.Core.Path.{◌≡◌, refl, sym, ap, ◌∙◌}
-use mathlib.Core.Bool.{Bool, true, false, ◌&&◌}
+use mathlib.Core.Bool.{true, false, ◌&&◌}
 use mathlib.Core.List.{List, [], ◌∷◌}
 use native.Mathlib.Omega.{arith}
 use lib.Dec.{leb}
@@ -9,11 +10,11 @@ use lib.ListN.{length, get_or, take, drop, length-map}
 use lib.Seq.{length-take-le}
 use borrow.Author.Tests.{leb-true, ltb-true}
 use Rattle.base.specs.Texts.{text_at, all_different}
-use Rattle.base.proofs.Tests.{clash, both}
+use Rattle.base.proofs.Tests.{both}
 use Rattle.record.specs.Limits.{line_limit}
 use Rattle.record.specs.declared.Param.{Param}
 use Rattle.record.specs.declared.StrictRecord.{StrictRecord}
-use Rattle.record.specs.Params.{row_of}
+use Rattle.record.specs.Params.{row_of, rows, blank}
 use Rattle.grammar.specs.Line.{Element, Each, ElementOk, each_then, element_then, data_then}
 use Rattle.grammar.specs.Reading.{element_rows}
 use Rattle.grammar.proofs.Data.{listed_reads}
@@ -21,19 +22,17 @@ use Rattle.suits.specs.Suits.{place_suits, record_suits, elements_suit, param_su
 use Rattle.suits.proofs.Rows.{row_step, rows_ended}
 use Rattle.suits.proofs.Suited.{record_in_lem}
 use Rattle.claims.specs.Claims.{pair_of, pairs, claim_in}
-use Rattle.claims.specs.Holds.{on_next, header_next, data_next, ids_at, message_holds, end_holds, holds}
-use Rattle.claims.specs.declared.Checked.{Checked}
-use Rattle.claims.specs.declared.Next.{Next}
-use Rattle.claims.specs.declared.Next.TheVariants.{Off, At}
+use Rattle.claims.specs.Holds.{on_next, header_next, data_next, ids_at, message_holds, holds}
 use Rattle.claims.proofs.Places.{here_as}
 use Rattle.claims.proofs.Tests.{on_next_lem, here_fits}
 use Rattle.claims.proofs.Rows.{data_step, element_size_lem}
 use Rattle.claims.proofs.Told.{told_elements}
-use Rattle.claim_data.specs.Walks.{first_next, turn_next}
+use Rattle.claim_data.specs.Walks.{first_next, turn_next, last_next}
 use Rattle.claim_data.specs.Ids.{Ids}
 use Rattle.claim_data.proofs.Walks.{id_in_lem}
-use Rattle.checker.specs.Steps.{walk_at, start_of, end_of, rest_holds, verdict, Counted, Starting, Turning, Finishing, Comparing, compared}
-use Rattle.checker.specs.declared.Walk.{Walk}
+use Rattle.checker.specs.Steps.{Comparing, data_end}
+use Rattle.record.proofs.Params.{rows_length, rows_get}
+use Rattle.std.proofs.lemmas.List.{get_or-take, length-take}
 use Rattle.checker.proofs.Lefts.{next_assoc, next_same, left_next, left_first, left_turn, left_end}
 
 -- ---- the ids of elements that were found
@@ -65,7 +64,7 @@ data_long : (es : List Element) → Each ElementOk es → (3 * length es ≤ len
 data_long [] ok = (omega arith, omega arith)
 data_long (e ∷ es) ok = let l = elements_long (e ∷ es) ok in (l, omega arith)
 
-found_ids : (line : List ℕ) (ids params : List (List ℕ)) (at b : ℕ) → length line ≤ line_limit → elements_suit line ids ≡ true → data_next line at (pairs ids) params ≡ At b → Ids line ids
+found_ids : (line : List ℕ) (ids params : List (List ℕ)) (at b : ℕ) → length line ≤ line_limit → elements_suit line ids ≡ true → data_next line at (pairs ids) params ≡ Some b → Ids line ids
 found_ids line ids params at b short s h =
     let d = data_step line at (pairs ids) params b h in
     let es = told_elements line 0 (pairs ids) params in
@@ -86,34 +85,39 @@ found_ids line ids params at b short s h =
 
 -- ---- the walk
 
-module _ (line : List ℕ) (r : StrictRecord) (e p : ℕ) (elements params : List (List ℕ)) where
-  abbrev whole : Next
-  whole = on_next (header_next line r) λ a. data_next line a (pairs (take e elements)) (take p params)
+module _ (line : List ℕ) (r : StrictRecord) (e p : ℕ) (elements : List (List ℕ)) (ps : List Param) where
+  abbrev params : List (List ℕ)
+  params = rows ps
 
-  -- what is left to check is what is left to say; or it is said
-  pub record Walking (w : Walk) : Type 0 where
-    pub inside : w.next ≤ p
-    pub opened : w.element ≤ e - 1
-    pub suited : params_suit line e w.element (drop w.next (take p params)) ≡ true
-    pub ahead : w.holds ≡ true → whole ≡ left_next line (take e elements) w.element w.at (drop w.next (take p params))
-    pub ended : w.holds ≡ false → w.next ≡ p
-    pub said : w.holds ≡ false → whole ≡ Off
+  abbrev ids : List (List ℕ)
+  ids = take e elements
+
+  abbrev whole : Option ℕ
+  whole = data_end line r e p elements params
+
+  -- before parameter `i`, with element `element` open: what is left to check is what is left to say
+  pub record Walking (i element at : ℕ) : Type 0 where
+    pub opened : element ≤ e - 1
+    pub suited : params_suit line e element (drop i (take p params)) ≡ true
+    pub ahead : whole ≡ left_next line ids element at (drop i (take p params))
 
   module _ (c : Comparing line r e p elements params) where
-    record Facts : Type 0 where
-      fields_suit : record_suits line r.common ≡ true
-      elements_count : e ≤ length elements
-      params_count : p ≤ length params
-      ids_suit : elements_suit line (take e elements) ≡ true
-      entries_suit : params_suit line e 0 (take p params) ≡ true
-      text_in : r.timestamp_text.start + r.timestamp_text.len ≤ length line
+    -- what the tables and the record are known to be
+    pub record Facts : Type 0 where
+      pub fields_suit : record_suits line r.common ≡ true
+      pub elements_count : e ≤ length elements
+      pub params_count : p ≤ length ps
+      pub ids_suit : elements_suit line ids ≡ true
+      pub entries_suit : params_suit line e 0 (take p params) ≡ true
+      pub text_in : r.timestamp_text.start + r.timestamp_text.len ≤ length line
+      pub message_in : r.common.message.start + r.common.message.len ≤ length line
 
-    facts : Facts
+    pub facts : Facts
     unfolding suits tables_suit
     facts =
         let x1 = leb e (length elements) in
         let x2 = leb p (length params) in
-        let x3 = elements_suit line (take e elements) in
+        let x3 = elements_suit line ids in
         let x4 = params_suit line e 0 (take p params) in
         let u1 = both (record_suits line r.common && (x1 && x2 && x3 && x4)) (place_suits line r.timestamp_text.start r.timestamp_text.len) c.fits in
         let u2 = both (record_suits line r.common) (x1 && x2 && x3 && x4) u1.0 in
@@ -123,142 +127,109 @@ module _ (line : List ℕ) (r : StrictRecord) (e p : ℕ) (elements params : Lis
         record {
           fields_suit = u2.0;
           elements_count = leb-true e (length elements) u5.0;
-          params_count = leb-true p (length params) u5.1;
+          params_count = rw rows_length at (leb-true p (length params) u5.1);
           ids_suit = u4.1;
           entries_suit = u3.1;
           text_in = leb-true _ _ u1.1;
+          message_in = (record_in_lem line r.common u2.0).message_in;
         }
 
-    counted : Counted line e elements
-    counted = record { short = c.short; count = facts.elements_count; ids_suit = facts.ids_suit }
+    counted : p ≤ length params
+    counted = rw rows_length facts.params_count
 
-    many : length (take e elements) ≡ e
+    many : length ids ≡ e
     many = length-take-le e elements facts.elements_count
 
-    pub starting : Starting line r e elements
-    starting = record { counted = counted; fields_suit = facts.fields_suit; text_in = facts.text_in }
-
-    from_start : whole ≡ on_next (start_of line r (take e elements)) λ b. left_next line (take e elements) 0 b (take p params)
+    from_start : whole ≡ on_next (on_next (header_next line r) λ a. first_next line a ids) λ b. left_next line ids 0 b (take p params)
     from_start =
-        next_same (header_next line r) _ _ (λ a. left_first line (take e elements) (take p params) a)
-        ∙ sym (next_assoc (header_next line r) (λ a. first_next line a (take e elements)) (λ b. left_next line (take e elements) 0 b (take p params)))
+        next_same (header_next line r) _ _ (λ a. left_first line ids (take p params) a)
+        ∙ sym (next_assoc (header_next line r) (λ a. first_next line a ids) (λ b. left_next line ids 0 b (take p params)))
 
-    nothing : (low : ℕ) → params_suit line e low (drop p (take p params)) ≡ true
-    unfolding params_suit
-    nothing low = rw (rows_ended params p facts.params_count p (omega arith))
+    module _ (x : Option ℕ) (ex : x ≡ header_next line r) where
+      pub header_off : x ≡ None → None ≡ whole
+      header_off h = sym (from_start ∙ rw (← ex, h))
 
-    pub walk_starts : (w : Walk) → w ≡ walk_at (start_of line r (take e elements)) 0 0 p → Walking w
-    walk_starts w q = go (start_of line r (take e elements)) refl
-      where
-        go : (x : Next) → start_of line r (take e elements) ≡ x → Walking w
-        go Off h = rw (q ∙ ap (λ (x : Next). walk_at x 0 0 p) h) (record {
-          inside = omega arith;
-          opened = omega arith;
-          suited = nothing 0;
-          ahead = λ t. clash (sym t);
-          ended = λ t. refl;
-          said = λ t. from_start ∙ rw h;
-        })
-        go (At b) h = rw (q ∙ ap (λ (x : Next). walk_at x 0 0 p) h) (record {
-          inside = omega arith;
-          opened = omega arith;
-          suited = facts.entries_suit;
-          ahead = λ t. from_start ∙ rw h;
-          ended = λ t. clash t;
-          said = λ t. clash t;
-        })
+      module _ (a : ℕ) (ha : x ≡ Some a) (y : Option ℕ) (ey : y ≡ first_next line a ids) where
+        pub first_off : y ≡ None → None ≡ whole
+        first_off h = sym (from_start ∙ rw (← ex, ha, ← ey, h))
 
-    module _ (w : Walk) (m : Walking w) where
-      module _ (h : w.next < p) where
-        on : w.holds ≡ true
-        on = go w.holds refl
-          where
-            go : (b : Bool) → w.holds ≡ b → w.holds ≡ true
-            go true q = q
-            go false q = absurd (omega (arith, m.ended q))
+        pub walk_starts : (b : ℕ) → y ≡ Some b → Walking 0 0 b
+        walk_starts b h = record { opened = omega arith; suited = facts.entries_suit; ahead = from_start ∙ rw (← ex, ha, ← ey, h) }
 
-        pub walk_inside : w.next < length params
-        walk_inside = omega (arith, facts.params_count)
+    module _ (i element at : ℕ) (m : Walking i element at) where
+      module _ (inside : i < length (take p ps)) where
+        abbrev x : Param
+        x = get_or (take p ps) i blank
 
-        module _ (x : Param) (ex : row_of x ≡ get_or params w.next []) where
-          step : drop w.next (take p params) ≡ row_of x ∷ drop (w.next + 1) (take p params)
-          step = row_step params p facts.params_count w.next [] h ∙ ap (λ (row : List ℕ). row ∷ drop (w.next + 1) (take p params)) (sym ex)
+        h : i < p
+        h = omega (arith, length-take p ps)
 
-          suits_on : (param_suits line e w.element (row_of x) && params_suit line e x.element (drop (w.next + 1) (take p params))) ≡ true
-          unfolding params_suit
-          suits_on = rw step at m.suited
+        ex : row_of x ≡ get_or params i []
+        ex = ap row_of (get_or-take p ps i blank h) ∙ rows_get ps i (omega (arith, h, facts.params_count))
 
-          entry : param_suits line e w.element (row_of x) ≡ true
-          entry = (both (param_suits line e w.element (row_of x)) _ suits_on).0
+        step : drop i (take p params) ≡ row_of x ∷ drop (i + 1) (take p params)
+        step = row_step params p counted i [] h ∙ ap (λ (row : List ℕ). row ∷ drop (i + 1) (take p params)) (sym ex)
 
-          numbers : (w.element ≤ x.element) × (x.element < e)
-          numbers =
-              let u1 = both _ _ entry in
-              let u2 = both _ _ u1.0 in
-              let u3 = both _ _ u2.0 in
-              (leb-true w.element x.element u3.0, ltb-true x.element e u3.1)
+        suits_on : (param_suits line e element (row_of x) && params_suit line e x.element (drop (i + 1) (take p params))) ≡ true
+        unfolding params_suit
+        suits_on = rw step at m.suited
 
-          pub walk_turning : Turning line e p elements w x
-          walk_turning = record { counted = counted; inside = h; entry_suits = entry }
+        -- what is known of the parameter
+        pub record Turning : Type 0 where
+          pub below : x.element < e
+          pub element_in : x.element < length ids
+          pub risen : element ≤ x.element
+          pub name_in : x.name_start + x.name_len ≤ length line
+          pub value_in : x.value_start + x.value_len ≤ length line
 
-          goes_on_lem : whole ≡ on_next (turn_next line w.at (take e elements) w.element (row_of x)) λ b. left_next line (take e elements) x.element b (drop (w.next + 1) (take p params))
+        pub turning : Turning
+        turning =
+            let u0 = both (param_suits line e element (row_of x)) _ suits_on in
+            let u1 = both _ _ u0.0 in
+            let u2 = both _ _ u1.0 in
+            let u3 = both _ _ u2.0 in
+            let l : x.element < e = ltb-true x.element e u3.1 in
+            record { below = l; element_in = omega (arith, many, l); risen = leb-true element x.element u3.0; name_in = leb-true _ _ u2.1; value_in = leb-true _ _ u1.1 }
+
+        module _ (y : Option ℕ) (ey : y ≡ turn_next line at ids element (row_of x)) where
+          goes_on_lem : whole ≡ on_next y λ b. left_next line ids x.element b (drop (i + 1) (take p params))
           goes_on_lem =
-              m.ahead on ∙ ap (left_next line (take e elements) w.element w.at) step
-              ∙ left_turn line (take e elements) w.element w.at (row_of x) (drop (w.next + 1) (take p params)) numbers.0 (omega (arith, numbers.1, many))
+              m.ahead ∙ ap (left_next line ids element at) step
+              ∙ left_turn line ids element at (row_of x) (drop (i + 1) (take p params)) turning.risen turning.element_in ∙ rw ey
 
-          pub walk_steps : (v : Walk) → v ≡ walk_at (turn_next line w.at (take e elements) w.element (row_of x)) (w.next + 1) x.element p → Walking v
-          walk_steps v q = go (turn_next line w.at (take e elements) w.element (row_of x)) refl
-            where
-              go : (n : Next) → turn_next line w.at (take e elements) w.element (row_of x) ≡ n → Walking v
-              go Off z = rw (q ∙ ap (λ (n : Next). walk_at n (w.next + 1) x.element p) z) (record {
-                inside = omega arith;
-                opened = omega arith;
-                suited = nothing 0;
-                ahead = λ t. clash (sym t);
-                ended = λ t. refl;
-                said = λ t. goes_on_lem ∙ rw z;
-              })
-              go (At b) z = rw (q ∙ ap (λ (n : Next). walk_at n (w.next + 1) x.element p) z) (record {
-                inside = omega arith;
-                opened = omega (arith, numbers.1);
-                suited = (both (param_suits line e w.element (row_of x)) _ suits_on).1;
-                ahead = λ t. goes_on_lem ∙ rw z;
-                ended = λ t. clash t;
-                said = λ t. clash t;
-              })
+          pub turn_off : y ≡ None → None ≡ whole
+          turn_off z = sym (goes_on_lem ∙ rw z)
 
-          pub walk_further : (v : Walk) → v ≡ walk_at (turn_next line w.at (take e elements) w.element (row_of x)) (w.next + 1) x.element p → w.next < v.next
-          walk_further v q = go (turn_next line w.at (take e elements) w.element (row_of x)) refl
-            where
-              go : (n : Next) → turn_next line w.at (take e elements) w.element (row_of x) ≡ n → w.next < v.next
-              go Off z = rw (q ∙ ap (λ (n : Next). walk_at n (w.next + 1) x.element p) z) h
-              go (At b) z = rw (q ∙ ap (λ (n : Next). walk_at n (w.next + 1) x.element p) z) (omega arith)
+          pub turn_on : (b : ℕ) → y ≡ Some b → Walking (i + 1) x.element b
+          turn_on b z =
+              record {
+                opened = omega (arith, turning.below);
+                suited = (both (param_suits line e element (row_of x)) _ suits_on).1;
+                ahead = goes_on_lem ∙ rw z;
+              }
 
-      module _ (h : p ≤ w.next) where
-        end_is : whole ≡ end_of line (take e elements) w
-        end_is = go w.holds refl
-          where
-            go : (b : Bool) → w.holds ≡ b → whole ≡ end_of line (take e elements) w
-            go true q =
-                m.ahead q ∙ ap (left_next line (take e elements) w.element w.at) (rows_ended params p facts.params_count w.next h)
-                ∙ left_end line (take e elements) w.element w.at (omega (arith, m.opened, many)) ∙ rw q
-            go false q = m.said q ∙ rw q
+      module _ (h : length (take p ps) ≤ i) where
+        pub open_in : element ≤ length ids - 1
+        open_in = omega (arith, many, m.opened)
 
-        pub walk_finishing : Finishing line r e elements w
-        walk_finishing =
-            record {
-              counted = counted;
-              message_in = (record_in_lem line r.common facts.fields_suit).message_in;
-              opened = m.opened;
-              ids_in_lem = λ b q.
-                  let o = on_next_lem (header_next line r) (λ a. data_next line a (pairs (take e elements)) (take p params)) b (end_is ∙ q) in
-                  found_ids line (take e elements) (take p params) o.to b c.short facts.ids_suit o.second;
-            }
+        pub walk_ends : last_next line at ids element ≡ whole
+        walk_ends =
+            let j : p ≤ i = omega (arith, length-take p ps, facts.params_count) in
+            sym (m.ahead ∙ ap (left_next line ids element at) (rows_ended params p counted i j) ∙ left_end line ids element at open_in)
 
-        pub walk_ends : (a : Checked) → a ≡ verdict (rest_holds line r (take e elements) (end_of line (take e elements) w)) → a ≡ compared line r e p elements params
+    -- ---- what is behind the walk
+
+    module _ (y : Option ℕ) (ey : y ≡ whole) where
+      pub ends_off : y ≡ None → false ≡ holds line (claim_in r e p elements params)
+      unfolding holds
+      ends_off q = rw (← ey, q)
+
+      module _ (b : ℕ) (q : y ≡ Some b) where
+        pub ids_found : Ids line ids
+        ids_found =
+            let o = on_next_lem (header_next line r) (λ a. data_next line a (pairs ids) (take p params)) b (sym ey ∙ q) in
+            found_ids line ids (take p params) o.to b c.short facts.ids_suit o.second
+
+        pub ends_on : (all_different (ids_at line ids) && message_holds line b r.has_message r.common.message) ≡ holds line (claim_in r e p elements params)
         unfolding holds
-        walk_ends a q = q ∙ ap verdict (ap (rest_holds line r (take e elements)) (sym end_is) ∙ same whole)
-          where
-            same : (n : Next) → rest_holds line r (take e elements) n ≡ end_holds line (claim_in r e p elements params) n
-            same Off = refl
-            same (At b) = ap (λ (l : List (List ℕ)). all_different l && message_holds line b r.has_message r.common.message) (sym (pairs_ids line (take e elements)))
+        ends_on = rw (← ey, q) (ap (λ (l : List (List ℕ)). all_different l && message_holds line b r.has_message r.common.message) (sym (pairs_ids line ids)))

@@ -1,5 +1,5 @@
 -- The check as C has it: the strict record and the counts as bytes, and the answer as a number.
-use Rattle.std.specs.Prelude.{ℕ, ◌+◌, ◌≡◌, Bool, true, false, ◌&&◌, List, eqb, leb, ltb, length, if◌then◌else◌}
+use Rattle.std.specs.Prelude.{ℕ, ◌+◌, ◌≡◌, Bool, true, false, ◌&&◌, List, eqb, leb, ltb, length, if◌then◌else◌, Result}
 use Rattle.record.specs.Limits.{line_limit}
 use Rattle.record.specs.Refusals.{refusal_number}
 use Rattle.record.specs.declared.Refusal.{Refusal}
@@ -8,7 +8,6 @@ use Rattle.record.specs.declared.StrictRecord.{StrictRecord}
 use Rattle.layout.specs.Layout.{word_count, strict_size}
 use Rattle.layout.specs.Incoming.{word_at, holds_record, place_at, record_at, element_count_at, param_count_at}
 use Rattle.claims.specs.Claims.{Checks, checked_number}
-use Rattle.claims.specs.declared.Checked.{Checked}
 
 -- the words that the strict reader adds: the place of the timestamp's text, and the mark of a message
 abbrev pub text_word : ℕ
@@ -30,7 +29,7 @@ first_refusal len = if ltb line_limit len then LineTooLong else Unsuitable
 
 -- A call over bytes: where they hold a strict record, the service's answer to it and to the counts; where not, 1 or 7.
 pub data ChecksBytes (line bytes : List ℕ) (elements params : List (List ℕ)) (n : ℕ) : Type 0 where
-  held : holds_strict bytes ≡ true → (a : Checked) → Checks line (strict_at bytes) (element_count_at bytes) (param_count_at bytes) elements params a → n ≡ checked_number a
+  held : holds_strict bytes ≡ true → (a : Result Unit Refusal) → Checks line (strict_at bytes) (element_count_at bytes) (param_count_at bytes) elements params a → n ≡ checked_number a
       → ChecksBytes line bytes elements params n
   unheld : holds_strict bytes ≡ false → n ≡ refusal_number (first_refusal (length line)) → ChecksBytes line bytes elements params n
 

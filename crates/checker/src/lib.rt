@@ -1,189 +1,67 @@
 // The check of a claimed reading: whether a strict record, counts and tables are the line's reading, from what was handed in, field after field.
 #![tactic(auto)]
 
-ghost use Rattle.std.specs.Prelude.{◌≡◌, true, false, ◌+◌, ◌≤◌, ◌<◌, ltb, length, take};
-ghost use Rattle.record.specs.Limits.{line_limit};
-ghost use Rattle.record.specs.Params.{row_of, rows};
+ghost use Rattle.std.specs.Prelude.{◌≡◌, true, ◌≤◌, ◌<◌, length};
+ghost use Rattle.record.specs.Params.{rows};
 ghost use Rattle.record.specs.Refusals.{refusal_number};
-ghost use Rattle.record.specs.declared.Refusal.TheVariants.{LineTooLong, Unsuitable};
 ghost use Rattle.layout.specs.Layout.{strict_word_count, strict_size};
 ghost use Rattle.layout.specs.Incoming.{word_at};
 ghost use Rattle.suits.specs.Suits.{place_suits};
-ghost use Rattle.claims.specs.Claims.{Checks, checked_number};
-ghost use Rattle.claims.specs.declared.Checked.TheVariants as answer;
-ghost use Rattle.claim_data.specs.Walks.{turn_next};
+ghost use Rattle.claims.specs.Claims.{Checks, checked_number, claim_in};
 ghost use Rattle.checker.specs.Memory.{holds_strict, strict_at, first_refusal, ChecksBytes};
-ghost use Rattle.checker.specs.Steps.{walk_at, start_of, end_of, rest_holds, verdict, Starting, Turning, Finishing, Comparing, compared};
+ghost use Rattle.checker.specs.Steps.{Comparing, data_end};
+ghost use Rattle.claims.specs.Holds.{holds};
 
-use claims::{Checked, Next};
-use record::{Param, Place, Record, Refusal, StrictRecord};
+use record::{Param, Place, Refusal, StrictRecord};
 
-// How far the check is: the parameter that is next, the element that is open, where it goes on in the line, and whether all holds so far. Where it does not, no
-// parameter is next.
-#[derive(Clone, Copy)]
-struct Walk {
-    next: usize,
-    element: usize,
-    at: usize,
-    holds: bool,
-}
-
-fn walk_at(n: Next, next: usize, element: usize, count: usize) -> Walk
-    ensures { result ≡ walk_at n next element count }
-{
-    let Next::At(at) = n else {
-        return Walk {
-            next: count,
-            element: 0,
-            at: 0,
-            holds: false,
-        };
-    };
-    Walk {
-        next,
-        element,
-        at,
-        holds: true,
-    }
-}
-
-// The first `count` rows.
-fn counted(elements: &[[usize; 2]], count: usize) -> &[[usize; 2]]
-    requires { count ≤ length elements.now }
-    ensures { result.now ≡ take count elements.now }
-{
-    &elements[0..count]
-}
-
-// ---- for the prover alone: `compare` names the parameter table and so only calls
-
-// The header and the first element.
-fn start(
-    line: &[u8],
-    r: StrictRecord,
-    element_count: usize,
-    param_count: usize,
-    elements: &[[usize; 2]],
-) -> Walk
-    requires { Starting line.now r element_count elements.now }
-    ensures { result ≡ walk_at (start_of line.now r (take element_count elements.now)) 0 0 param_count }
-{
-    let Next::At(a) = claim_header::header(line, r) else {
-        return walk_at(Next::Off, 0, 0, param_count);
-    };
-    let n = claim_data::first(line, a, counted(elements, element_count));
-    walk_at(n, 0, 0, param_count)
-}
-
-// A parameter.
-fn turn(
-    line: &[u8],
-    element_count: usize,
-    param_count: usize,
-    elements: &[[usize; 2]],
-    w: Walk,
-    p: Param,
-) -> Walk
-    requires { Turning line.now element_count param_count elements.now w p }
-    ensures { result ≡ walk_at (turn_next line.now w.at (take element_count elements.now) w.element (row_of p)) (w.next + 1) p.element param_count }
-{
-    let ids = counted(elements, element_count);
-    let n = claim_data::turn(line, w.at, ids, w.element, p);
-    walk_at(n, w.next + 1, p.element, param_count)
-}
-
-fn wrong() -> Checked
-    ensures { result ≡ verdict false }
-{
-    Checked::Refused(Refusal::WrongClaim)
-}
-
-// What is behind the parameters: the last elements, that no id occurs twice, and the message.
-fn finish(
-    line: &[u8],
-    r: StrictRecord,
-    element_count: usize,
-    elements: &[[usize; 2]],
-    w: Walk,
-) -> Checked
-    requires { Finishing line.now r element_count elements.now w }
-    ensures { result ≡ verdict (rest_holds line.now r (take element_count elements.now) (end_of line.now (take element_count elements.now) w)) }
-{
-    if !w.holds {
-        return wrong();
-    }
-    let ids = counted(elements, element_count);
-    let Next::At(b) = claim_data::last(line, w.at, ids, w.element) else {
-        return wrong();
-    };
-    if !claim_data::ids_differ(line, ids) {
-        return wrong();
-    }
-    let message = r.common.message;
-    if !claim_data::message_holds(line, b, r.has_message, message) {
-        return wrong();
-    }
-    Checked::Yes
-}
-
-// Whether the claim holds, of a record, counts and tables that suit the line. The numbers of the parameters' elements never fall, so one walk over the parameters opens
-// each element in its turn.
-fn compare(
+// Where the line goes on behind the structured data, if header, elements and parameters are as claimed. The numbers of the parameters' elements never fall, so one walk
+// over the parameters opens each element in its turn.
+fn walk(
     line: &[u8],
     r: StrictRecord,
     element_count: usize,
     param_count: usize,
     elements: &[[usize; 2]],
     params: &[Param],
-) -> Checked
+) -> Option<usize>
     requires { Comparing line.now r element_count param_count elements.now (rows params.now) }
-    ensures { result ≡ compared line.now r element_count param_count elements.now (rows params.now) }
+    ensures { result ≡ data_end line.now r element_count param_count elements.now (rows params.now) }
 {
-    let mut w = start(line, r, element_count, param_count, elements);
-    while w.next < param_count {
-        let i = w.next;
-        let p = entries::fetch(params, i);
-        w = turn(line, element_count, param_count, elements, w, p);
+    let ids = &elements[..element_count];
+    let start = claim_header::header(line, r)?;
+    let mut at = claim_data::first(line, start, ids)?;
+    let mut open = 0;
+    for p in &params[..param_count] {
+        at = claim_data::turn(line, at, ids, open, *p)?;
+        open = p.element;
     }
-    finish(line, r, element_count, elements, w)
+    claim_data::last(line, at, ids, open)
 }
 
-// The tests and the answers of `check`, which names the table and so only calls.
-fn is_long(n: usize) -> bool
-    ensures { result ≡ ltb line_limit n }
+// Whether the claim holds, of a record, counts and tables that suit the line.
+fn holds(
+    line: &[u8],
+    r: StrictRecord,
+    element_count: usize,
+    param_count: usize,
+    elements: &[[usize; 2]],
+    params: &[Param],
+) -> bool
+    requires { Comparing line.now r element_count param_count elements.now (rows params.now) }
+    ensures { result ≡ holds line.now (claim_in r element_count param_count elements.now (rows params.now)) }
 {
-    record::LINE_LIMIT < n
-}
-
-fn too_long() -> Checked
-    ensures { result ≡ answer.Refused LineTooLong }
-{
-    Checked::Refused(Refusal::LineTooLong)
-}
-
-fn unsuitable() -> Checked
-    ensures { result ≡ answer.Refused Unsuitable }
-{
-    Checked::Refused(Refusal::Unsuitable)
-}
-
-fn common_of(r: StrictRecord) -> Record
-    ensures { result ≡ r.common }
-{
-    let common = r.common;
-    common
-}
-
-// Whether the place of the timestamp's text suits the line.
-fn text_suits(line: &[u8], r: StrictRecord) -> bool
-    ensures { result ≡ place_suits line.now r.timestamp_text.start r.timestamp_text.len }
-{
-    let n = line.len();
-    let start = r.timestamp_text.start;
-    if n < start {
+    let Some(end) = walk(line, r, element_count, param_count, elements, params) else {
         return false;
-    }
-    r.timestamp_text.len <= n - start
+    };
+    claim_data::ids_differ(line, &elements[..element_count])
+        && claim_data::message_holds(line, end, r.has_message, r.common.message)
+}
+
+// Whether the place suits the line. (The sum may not fit.)
+fn place_suits(line: &[u8], start: usize, len: usize) -> bool
+    ensures { result ≡ place_suits line.now start len }
+{
+    start <= line.len() && len <= line.len() - start
 }
 
 // The service: whether record, counts and tables are the line's reading.
@@ -194,21 +72,22 @@ pub fn check(
     param_count: usize,
     elements: &[[usize; 2]],
     params: &[Param],
-) -> Checked
+) -> Result<(), Refusal>
     ensures { Checks line.now r element_count param_count elements.now (rows params.now) result }
 {
-    let n = line.len();
-    if is_long(n) {
-        return too_long();
+    if record::LINE_LIMIT < line.len() {
+        return Err(Refusal::LineTooLong);
     }
-    let common = common_of(r);
-    if suits::is_suitable(line, common, element_count, param_count, elements, params) {
-        if text_suits(line, r) {
-            return compare(line, r, element_count, param_count, elements, params);
-        }
-        return unsuitable();
+    if !suits::is_suitable(line, r.common, element_count, param_count, elements, params) {
+        return Err(Refusal::Unsuitable);
     }
-    unsuitable()
+    if !place_suits(line, r.timestamp_text.start, r.timestamp_text.len) {
+        return Err(Refusal::Unsuitable);
+    }
+    if !holds(line, r, element_count, param_count, elements, params) {
+        return Err(Refusal::WrongClaim);
+    }
+    Ok(())
 }
 
 // ---- the strict record as bytes
@@ -230,16 +109,14 @@ fn strict_word(s: &[u8], i: usize) -> u64
 }
 
 // Whether the bytes hold a strict record.
+#[tactic(auto, unfolding(crate::specs::Memory::holds_strict))]
 fn holds_strict(s: &[u8]) -> bool
     ensures { result ≡ holds_strict s.now }
 {
-    if s.len() < layout::STRICT_SIZE {
-        return false;
-    }
-    if !layout::holds_record(s) {
-        return false;
-    }
-    (strict_word(s, TEXT_WORD) < 2) & (strict_word(s, MESSAGE_MARK_WORD) < 2)
+    layout::STRICT_SIZE <= s.len()
+        && layout::holds_record(s)
+        && strict_word(s, TEXT_WORD) < 2
+        && strict_word(s, MESSAGE_MARK_WORD) < 2
 }
 
 // The strict record that bytes hold.
@@ -247,30 +124,23 @@ fn strict_at(s: &[u8]) -> StrictRecord
     requires { holds_strict s.now ≡ true }
     ensures { result ≡ strict_at s.now }
 {
-    let common = layout::record_at(s);
-    let mark = strict_word(s, TEXT_WORD);
-    let start = strict_word(s, TEXT_WORD + 1);
-    let len = strict_word(s, TEXT_WORD + 2);
-    let has = strict_word(s, MESSAGE_MARK_WORD);
     StrictRecord {
-        common,
+        common: layout::record_at(s),
         timestamp_text: Place {
-            present: mark == 1,
-            start: start as usize,
-            len: len as usize,
+            present: strict_word(s, TEXT_WORD) == 1,
+            start: strict_word(s, TEXT_WORD + 1) as usize,
+            len: strict_word(s, TEXT_WORD + 2) as usize,
         },
-        has_message: has == 1,
+        has_message: strict_word(s, MESSAGE_MARK_WORD) == 1,
     }
 }
 
-// ---- for the prover alone: `khamdoriem_check_claim` names the parameter table and so only calls
-
-fn number_of(a: Checked) -> u32
+fn number_of(a: Result<(), Refusal>) -> u32
     ensures { result ≡ checked_number a }
 {
     match a {
-        Checked::Yes => 0,
-        Checked::Refused(refusal) => record::refusal_number(refusal),
+        Ok(()) => 0,
+        Err(refusal) => u32::from(refusal),
     }
 }
 
@@ -278,10 +148,11 @@ fn number_of(a: Checked) -> u32
 fn unheld(len: usize) -> u32
     ensures { result ≡ refusal_number (first_refusal len) }
 {
-    if record::LINE_LIMIT < len {
-        return 1;
-    }
-    7
+    u32::from(if record::LINE_LIMIT < len {
+        Refusal::LineTooLong
+    } else {
+        Refusal::Unsuitable
+    })
 }
 
 // The check of the strict record and the counts that the 248 bytes hold, with both tables: 0 if they are the line's reading, else why not.
@@ -293,13 +164,10 @@ pub fn khamdoriem_check_claim(
 ) -> u32
     ensures { ChecksBytes line.now memory.now elements.now (rows params.now) result }
 {
-    if holds_strict(memory) {
-        let r = strict_at(memory);
-        let e = layout::element_count(memory);
-        let p = layout::param_count(memory);
-        let a = check(line, r, e, p, elements, params);
-        return number_of(a);
+    if !holds_strict(memory) {
+        return unheld(line.len());
     }
-    let n = line.len();
-    unheld(n)
+    let e = layout::element_count(memory);
+    let p = layout::param_count(memory);
+    number_of(check(line, strict_at(memory), e, p, elements, params))
 }

@@ -1,4 +1,5 @@
 -- An entry of a table where it is claimed to stand, test by test.
+use Rattle.std.specs.Prelude.{Some, None}
 use Prim.Native.Nat.{ℕ, ◌+◌, ◌^◌, ◌≤◌, ◌<◌}
 use mathlib.Core.Path.{◌≡◌, refl}
 use mathlib.Core.Bool.{Bool, true, false, not, ◌&&◌}
@@ -14,14 +15,13 @@ use Rattle.record.specs.Params.{row_of}
 use Rattle.grammar.specs.Abnf.{sd_name_byte}
 use Rattle.claims.specs.Claims.{pair_of}
 use Rattle.claims.specs.Holds.{next_if, class_at, name_holds, value_holds, param_next, id_next}
-use Rattle.claims.specs.declared.Next.TheVariants.{Off, At}
 use Rattle.claims.proofs.Bytes.{byte_inside}
 
 module _ (line : List ℕ) (at : ℕ) where
   -- ---- a parameter
 
   module _ (p : Param) (s : Bool) (es : s ≡ is_at line at 32) where
-    pub param_space : not s ≡ true → Off ≡ param_next line p.element at (row_of p)
+    pub param_space : not s ≡ true → None ≡ param_next line p.element at (row_of p)
     unfolding param_next
     param_space q = rw (← es, not-true s q)
 
@@ -50,12 +50,12 @@ module _ (line : List ℕ) (at : ℕ) where
             pub param_end_fits : at + p.name_len + p.value_len + 4 < 2 ^ 64
             param_end_fits = omega (arith, inside)
 
-      pub param_start : (p.name_start ≡ at + 1 → ⊥) → Off ≡ param_next line p.element at (row_of p)
+      pub param_start : (p.name_start ≡ at + 1 → ⊥) → None ≡ param_next line p.element at (row_of p)
       unfolding param_next
       param_start n = rw (← es, not-false s qs, eq-eqb p.element p.element refl, ne_eqb p.name_start (at + 1) n)
 
       module _ (ns : p.name_start ≡ at + 1) where
-        pub param_value_start : (p.value_start ≡ at + p.name_len + 3 → ⊥) → Off ≡ param_next line p.element at (row_of p)
+        pub param_value_start : (p.value_start ≡ at + p.name_len + 3 → ⊥) → None ≡ param_next line p.element at (row_of p)
         unfolding param_next
         param_value_start n =
             rw (
@@ -86,20 +86,20 @@ module _ (line : List ℕ) (at : ℕ) where
               )
 
           module _ (x : Bool) (ex : x ≡ name_holds line (at + 1) p.name_len) where
-            pub param_name : not x ≡ true → Off ≡ param_next line p.element at (row_of p)
+            pub param_name : not x ≡ true → None ≡ param_next line p.element at (row_of p)
             param_name q = rw (left, ← ex, not-true x q)
 
             module _ (qx : not x ≡ false) (y : Bool) (ey : y ≡ value_holds line (at + p.name_len + 3) p.value_len) where
-              pub param_value : not y ≡ true → Off ≡ param_next line p.element at (row_of p)
+              pub param_value : not y ≡ true → None ≡ param_next line p.element at (row_of p)
               param_value q = rw (left, ← ex, not-false x qx, ← ey, not-true y q)
 
-              pub param_all : not y ≡ false → At (at + p.name_len + p.value_len + 4) ≡ param_next line p.element at (row_of p)
+              pub param_all : not y ≡ false → Some (at + p.name_len + p.value_len + 4) ≡ param_next line p.element at (row_of p)
               param_all q = rw (left, ← ex, not-false x qx, ← ey, not-false y q)
 
   -- ---- an element
 
   module _ (row : List ℕ) (b : Bool) (eb : b ≡ is_at line at 91) where
-    pub id_bracket : not b ≡ true → Off ≡ id_next line at (pair_of row)
+    pub id_bracket : not b ≡ true → None ≡ id_next line at (pair_of row)
     unfolding id_next
     id_bracket q = rw (← eb, not-true b q)
 
@@ -121,16 +121,16 @@ module _ (line : List ℕ) (at : ℕ) where
           pub id_room : get_or row 0 0 ≡ at + 1 → at + 1 + get_or row 1 0 ≤ length line
           id_room e = omega arith
 
-      pub id_start : (get_or row 0 0 ≡ at + 1 → ⊥) → Off ≡ id_next line at (pair_of row)
+      pub id_start : (get_or row 0 0 ≡ at + 1 → ⊥) → None ≡ id_next line at (pair_of row)
       unfolding id_next
       id_start n = rw (← eb, not-false b qb, ne_eqb (get_or row 0 0) (at + 1) n)
 
       module _ (s : get_or row 0 0 ≡ at + 1) (x : Bool) (ex : x ≡ class_at line 32 sd_name_byte (at + 1) (get_or row 1 0)) where
-        pub id_other : not x ≡ true → Off ≡ id_next line at (pair_of row)
+        pub id_other : not x ≡ true → None ≡ id_next line at (pair_of row)
         unfolding id_next
         id_other q = rw (← eb, not-false b qb, eq-eqb (get_or row 0 0) (at + 1) s, eq-eqb (get_or row 1 0) (get_or row 1 0) refl, ← ex, not-true x q)
 
-        pub id_all : not x ≡ false → At (at + get_or row 1 0 + 1) ≡ id_next line at (pair_of row)
+        pub id_all : not x ≡ false → Some (at + get_or row 1 0 + 1) ≡ id_next line at (pair_of row)
         unfolding id_next
         id_all q = rw (← eb, not-false b qb, eq-eqb (get_or row 0 0) (at + 1) s, eq-eqb (get_or row 1 0) (get_or row 1 0) refl, ← ex, not-false x q)
 

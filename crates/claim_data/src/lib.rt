@@ -15,7 +15,7 @@ ghost use Rattle.claim_data.specs.Walks.{first_next, open_next, opens_next, turn
 ghost use Rattle.claim_data.specs.Ids.{Ids, Notable, Noted, Spacious};
 
 use base::is_at;
-use claims::{Next, byte_next};
+use claims::byte_next;
 use record::{Param, Span};
 
 // ---- names and values
@@ -24,13 +24,10 @@ use record::{Param, Span};
 fn name_bytes(t: &[u8]) -> bool
     ensures { result ≡ every sd_name_byte t.now }
 {
-    let mut i = 0;
-    while i < t.len() {
-        let b = t[i];
-        if !((33 <= b) & (b <= 126) & !((b == b'=') | (b == b']') | (b == b'"'))) {
+    for b in t {
+        if !((33 <= *b) & (*b <= 126) & !((*b == b'=') | (*b == b']') | (*b == b'"'))) {
             return false;
         }
-        i += 1;
     }
     true
 }
@@ -40,11 +37,7 @@ fn name_at(line: &[u8], at: usize, len: usize) -> bool
     requires { at + len ≤ length line.now }
     ensures { result ≡ class_at line.now 32 sd_name_byte at len }
 {
-    if !((1 <= len) & (len <= 32)) {
-        return false;
-    }
-    let end = at + len;
-    name_bytes(&line[at..end])
+    1 <= len && len <= 32 && name_bytes(&line[at..at + len])
 }
 
 // The same with `=` and a quote.
@@ -53,25 +46,19 @@ fn name_holds(line: &[u8], at: usize, len: usize) -> bool
     requires len_in_bounds { at + len ≤ length line.now }
     ensures { result ≡ name_holds line.now at len }
 {
-    if !name_at(line, at, len) {
-        return false;
-    }
-    is_at(line, at + len, b'=') & is_at(line, at + len + 1, b'"')
+    name_at(line, at, len) && is_at(line, at + len, b'=') && is_at(line, at + len + 1, b'"')
 }
 
 // Whether backslash pairs are taken from the left, with no quote and no bracket bare and no backslash left alone.
 fn well_escaped(t: &[u8]) -> bool
     ensures { result ≡ well_escaped false t.now }
 {
-    let mut i = 0;
     let mut paired = false;
-    while i < t.len() {
-        let b = t[i];
-        if !paired & ((b == b'"') | (b == b']')) {
+    for b in t {
+        if !paired & ((*b == b'"') | (*b == b']')) {
             return false;
         }
-        paired = !paired & (b == b'\\');
-        i += 1;
+        paired = !paired & (*b == b'\\');
     }
     !paired
 }
@@ -81,20 +68,14 @@ fn value_holds(line: &[u8], at: usize, len: usize) -> bool
     requires { at + len ≤ length line.now }
     ensures { result ≡ value_holds line.now at len }
 {
-    let end = at + len;
-    if !utf8::is_utf8(&line[at..end]) {
-        return false;
-    }
-    if !well_escaped(&line[at..end]) {
-        return false;
-    }
-    is_at(line, end, b'"')
+    let value = &line[at..at + len];
+    utf8::is_utf8(value) && well_escaped(value) && is_at(line, at + len, b'"')
 }
 
 // ---- entries
 
 // A parameter, whose space is at `at`.
-fn param(line: &[u8], at: usize, p: Param) -> Next
+fn param(line: &[u8], at: usize, p: Param) -> Option<usize>
     requires line_len_bound { length line.now ≤ line_limit }
     requires name_len_in_bounds { p.name_start + p.name_len ≤ length line.now }
     requires value_len_in_bounds { p.value_start + p.value_len ≤ length line.now }
@@ -103,71 +84,69 @@ fn param(line: &[u8], at: usize, p: Param) -> Next
     let n = p.name_len;
     let m = p.value_len;
     if !is_at(line, at, b' ') {
-        return Next::Off;
+        return None;
     }
     if p.name_start != at + 1 {
-        return Next::Off;
+        return None;
     }
     if p.value_start != at + n + 3 {
-        return Next::Off;
+        return None;
     }
     if !name_holds(line, at + 1, n) {
-        return Next::Off;
+        return None;
     }
     if !value_holds(line, at + n + 3, m) {
-        return Next::Off;
+        return None;
     }
-    Next::At(at + n + m + 4)
+    Some(at + n + m + 4)
 }
 
 // An element, whose `[` is at `at`: it goes on behind the id.
-fn id(line: &[u8], at: usize, row: [usize; 2]) -> Next
+fn id(line: &[u8], at: usize, row: [usize; 2]) -> Option<usize>
     requires line_len_bound { length line.now ≤ line_limit }
     requires row_in_bounds { get_or row 0 0 + get_or row 1 0 ≤ length line.now }
     ensures { result ≡ id_next line.now at (pair_of row) }
 {
     let n = row[1];
     if !is_at(line, at, b'[') {
-        return Next::Off;
+        return None;
     }
     if row[0] != at + 1 {
-        return Next::Off;
+        return None;
     }
     if !name_at(line, at + 1, n) {
-        return Next::Off;
+        return None;
     }
-    Next::At(at + n + 1)
+    Some(at + n + 1)
 }
 
 // ---- one entry after another
 
 // The first element, if there is one.
-pub fn first(line: &[u8], at: usize, ids: &[[usize; 2]]) -> Next
+pub fn first(line: &[u8], at: usize, ids: &[[usize; 2]]) -> Option<usize>
     requires line_len_bound { length line.now ≤ line_limit }
     requires ids_value { elements_suit line.now ids.now ≡ true }
     ensures { result ≡ first_next line.now at ids.now }
 {
     if ids.len() == 0 {
-        return Next::At(at);
+        return Some(at);
     }
     let row = ids[0];
     id(line, at, row)
 }
 
 // `]` and the next element.
-fn open(line: &[u8], at: usize, row: [usize; 2]) -> Next
+fn open(line: &[u8], at: usize, row: [usize; 2]) -> Option<usize>
     requires line_len_bound { length line.now ≤ line_limit }
     requires row_in_bounds { get_or row 0 0 + get_or row 1 0 ≤ length line.now }
     ensures { result ≡ open_next line.now at row }
 {
-    let Next::At(b) = byte_next(line, at, b']') else {
-        return Next::Off;
-    };
+    let b = byte_next(line, at, b']')?;
     id(line, b, row)
 }
 
 // From element `k`, which is open, to element `last`.
-fn opens(line: &[u8], at: usize, ids: &[[usize; 2]], k: usize, last: usize) -> Next
+fn opens(line: &[u8], at: usize, ids: &[[usize; 2]], k: usize, last: usize) -> Option<usize>
     requires line_len_bound { length line.now ≤ line_limit }
     requires ids_value { elements_suit line.now ids.now ≡ true }
     requires last_in_bounds { last < length ids.now }
@@ -175,20 +154,14 @@ fn opens(line: &[u8], at: usize, ids: &[[usize; 2]], k: usize, last: usize) -> N
     ensures { result ≡ opens_next line.now at (take (last - k) (drop (k + 1) ids.now)) }
 {
     let mut pos = at;
-    let mut j = k;
-    while j < last {
-        j += 1;
-        let row = ids[j];
-        let Next::At(b) = open(line, pos, row) else {
-            return Next::Off;
-        };
-        pos = b;
+    for j in k..last {
+        pos = open(line, pos, ids[j + 1])?;
     }
-    Next::At(pos)
+    Some(pos)
 }
 
 // A parameter, where element `k` is open.
-pub fn turn(line: &[u8], at: usize, ids: &[[usize; 2]], k: usize, p: Param) -> Next
+pub fn turn(line: &[u8], at: usize, ids: &[[usize; 2]], k: usize, p: Param) -> Option<usize>
     requires line_len_bound { length line.now ≤ line_limit }
     requires ids_value { elements_suit line.now ids.now ≡ true }
     requires element_in_bounds { p.element < length ids.now }
@@ -197,14 +170,12 @@ pub fn turn(line: &[u8], at: usize, ids: &[[usize; 2]], k: usize, p: Param) -> N
     requires value_len_in_bounds { p.value_start + p.value_len ≤ length line.now }
     ensures { result ≡ turn_next line.now at ids.now k (row_of p) }
 {
-    let Next::At(b) = opens(line, at, ids, k, p.element) else {
-        return Next::Off;
-    };
+    let b = opens(line, at, ids, k, p.element)?;
     param(line, b, p)
 }
 
 // What is behind the last parameter, where element `k` is open.
-pub fn last(line: &[u8], at: usize, ids: &[[usize; 2]], k: usize) -> Next
+pub fn last(line: &[u8], at: usize, ids: &[[usize; 2]], k: usize) -> Option<usize>
     requires line_len_bound { length line.now ≤ line_limit }
     requires ids_value { elements_suit line.now ids.now ≡ true }
     requires k_in_bounds { k ≤ length ids.now - 1 }
@@ -213,9 +184,7 @@ pub fn last(line: &[u8], at: usize, ids: &[[usize; 2]], k: usize) -> Next
     if ids.len() == 0 {
         return byte_next(line, at, b'-');
     }
-    let Next::At(b) = opens(line, at, ids, k, ids.len() - 1) else {
-        return Next::Off;
-    };
+    let b = opens(line, at, ids, k, ids.len() - 1)?;
     byte_next(line, b, b']')
 }
 
@@ -225,16 +194,11 @@ pub fn last(line: &[u8], at: usize, ids: &[[usize; 2]], k: usize) -> Next
 fn is_message(m: &[u8]) -> bool
     ensures { result ≡ is_message m.now }
 {
-    if !is_at(m, 0, 0xEF) {
-        return true;
+    if is_at(m, 0, 0xEF) && is_at(m, 1, 0xBB) && is_at(m, 2, 0xBF) {
+        utf8::is_utf8(base::past(m, 3))
+    } else {
+        true
     }
-    if !is_at(m, 1, 0xBB) {
-        return true;
-    }
-    if !is_at(m, 2, 0xBF) {
-        return true;
-    }
-    utf8::is_utf8(base::past(m, 3))
 }
 
 // Whether a space and the message stand at `at` and no byte is left over; or nothing, where none is claimed.
@@ -244,18 +208,12 @@ pub fn message_holds(line: &[u8], at: usize, has: bool, m: Span) -> bool
     ensures { result ≡ message_holds line.now at has m }
 {
     if !has {
-        return (m.start == 0) & (m.len == 0) & (at == line.len());
+        return m.start == 0 && m.len == 0 && at == line.len();
     }
-    if !is_at(line, at, b' ') {
-        return false;
-    }
-    if m.start != at + 1 {
-        return false;
-    }
-    if at + 1 + m.len != line.len() {
-        return false;
-    }
-    is_message(base::past(line, at + 1))
+    is_at(line, at, b' ')
+        && m.start == at + 1
+        && at + 1 + m.len == line.len()
+        && is_message(base::past(line, at + 1))
 }
 
 // ---- the ids
@@ -265,12 +223,9 @@ fn note(ids: &[[usize; 2]], starts: &mut [u16], lens: &mut [u8])
     requires { Notable ids.now starts.old lens.old }
     ensures { Noted ids.now (length ids.now) starts.old lens.old starts.new lens.new }
 {
-    let mut i = 0;
-    while i < ids.len() {
-        let row = ids[i];
+    for (i, row) in ids.iter().enumerate() {
         starts[i] = row[0] as u16;
         lens[i] = row[1] as u8;
-        i += 1;
     }
 }
 

@@ -1,5 +1,5 @@
 -- A claimed text, test by test, and the header.
-use Rattle.std.specs.Prelude.{if◌then◌else◌}
+use Rattle.std.specs.Prelude.{if◌then◌else◌, Option, Some, None}
 use Prim.Native.Nat.{ℕ, ◌+◌, ◌-◌, ◌^◌, ◌≤◌, ◌<◌}
 use mathlib.Core.Path.{◌≡◌, ap, ◌∙◌}
 use mathlib.Core.Bool.{Bool, true, false, not, ◌&&◌}
@@ -18,8 +18,6 @@ use Rattle.grammar.specs.Abnf.{print_us_ascii}
 use Rattle.suits.specs.Suits.{stamp_suits, record_suits}
 use Rattle.suits.proofs.Suited.{record_in_lem}
 use Rattle.claims.specs.Holds.{on_next, byte_next, every, head_next, stamp_next, len_of, text_holds, text_next, names_next, header_next}
-use Rattle.claims.specs.declared.Next.{Next}
-use Rattle.claims.specs.declared.Next.TheVariants.{Off, At}
 use Rattle.claims.proofs.Bytes.{byte_inside}
 
 -- ---- the tests of a text
@@ -58,7 +56,7 @@ pub ruleset text_laws = (holds_absent, holds_start, holds_length, text_room, hol
 -- ---- and the space behind it
 
 module _ (line : List ℕ) (most at : ℕ) (p : Place) (room : p.start + p.len ≤ length line) (b : Bool) (eb : b ≡ text_holds line most at p) where
-  pub text_other : not b ≡ true → Off ≡ text_next line most at p
+  pub text_other : not b ≡ true → None ≡ text_next line most at p
   unfolding text_next
   text_other q = rw (← eb, not-true b q)
 
@@ -82,7 +80,7 @@ module _ (line : List ℕ) (most at : ℕ) (p : Place) (room : p.start + p.len �
     pub text_fits_lem : length line < 2 ^ 64 → at + n < 2 ^ 64
     text_fits_lem l = omega (arith, text_inside)
 
-    pub text_space : (r : Next) → r ≡ byte_next line (at + n) 32 → r ≡ text_next line most at p
+    pub text_space : (r : Option ℕ) → r ≡ byte_next line (at + n) 32 → r ≡ text_next line most at p
     unfolding text_next
     text_space r er = er ∙ rw (en, ← eb, not-false b q)
 
@@ -90,39 +88,39 @@ pub ruleset text_next_laws = (text_other, text_fits_lem, text_space)
 
 -- ---- one field after another
 
-module _ (x : Next) (f : ℕ → Next) (y : Next) (e : y ≡ x) where
-  pub next_off : y ≡ Off → Off ≡ on_next x f
+module _ (x : Option ℕ) (f : ℕ → Option ℕ) (y : Option ℕ) (e : y ≡ x) where
+  pub next_off : y ≡ None → None ≡ on_next x f
   next_off h = rw (← e, h)
 
-  pub next_on : (a : ℕ) → y ≡ At a → (r : Next) → r ≡ f a → r ≡ on_next x f
+  pub next_on : (a : ℕ) → y ≡ Some a → (r : Option ℕ) → r ≡ f a → r ≡ on_next x f
   next_on a h r q = q ∙ rw (← e, h)
 
-module _ (line : List ℕ) (at : ℕ) (app procid msgid : Place) (x : Next) (ex : x ≡ text_next line 48 at app) where
-  pub names_app : x ≡ Off → Off ≡ names_next line at app procid msgid
+module _ (line : List ℕ) (at : ℕ) (app procid msgid : Place) (x : Option ℕ) (ex : x ≡ text_next line 48 at app) where
+  pub names_app : x ≡ None → None ≡ names_next line at app procid msgid
   names_app h = next_off (text_next line 48 at app) _ x ex h
 
-  module _ (b : ℕ) (hb : x ≡ At b) (y : Next) (ey : y ≡ text_next line 128 b procid) where
-    pub names_procid : y ≡ Off → Off ≡ names_next line at app procid msgid
+  module _ (b : ℕ) (hb : x ≡ Some b) (y : Option ℕ) (ey : y ≡ text_next line 128 b procid) where
+    pub names_procid : y ≡ None → None ≡ names_next line at app procid msgid
     names_procid h = rw (← ex, hb, ← ey, h)
 
-    pub names_msgid : (c : ℕ) → y ≡ At c → (r : Next) → r ≡ text_next line 32 c msgid → r ≡ names_next line at app procid msgid
+    pub names_msgid : (c : ℕ) → y ≡ Some c → (r : Option ℕ) → r ≡ text_next line 32 c msgid → r ≡ names_next line at app procid msgid
     names_msgid c h r er = er ∙ rw (← ex, hb, ← ey, h)
 
 pub ruleset names_laws = (names_app, names_procid, names_msgid)
 
-module _ (line : List ℕ) (r : StrictRecord) (x : Next) (ex : x ≡ head_next line r.common.facility r.common.severity r.common.protocol) where
-  pub header_head : x ≡ Off → Off ≡ header_next line r
+module _ (line : List ℕ) (r : StrictRecord) (x : Option ℕ) (ex : x ≡ head_next line r.common.facility r.common.severity r.common.protocol) where
+  pub header_head : x ≡ None → None ≡ header_next line r
   header_head h = rw (← ex, h)
 
-  module _ (a : ℕ) (ha : x ≡ At a) (y : Next) (ey : y ≡ stamp_next line a r.timestamp_text r.common.timestamp) where
-    pub header_stamp : y ≡ Off → Off ≡ header_next line r
+  module _ (a : ℕ) (ha : x ≡ Some a) (y : Option ℕ) (ey : y ≡ stamp_next line a r.timestamp_text r.common.timestamp) where
+    pub header_stamp : y ≡ None → None ≡ header_next line r
     header_stamp h = rw (← ex, ha, ← ey, h)
 
-    module _ (b : ℕ) (hb : y ≡ At b) (z : Next) (ez : z ≡ text_next line 255 b r.common.host) where
-      pub header_host : z ≡ Off → Off ≡ header_next line r
+    module _ (b : ℕ) (hb : y ≡ Some b) (z : Option ℕ) (ez : z ≡ text_next line 255 b r.common.host) where
+      pub header_host : z ≡ None → None ≡ header_next line r
       header_host h = rw (← ex, ha, ← ey, hb, ← ez, h)
 
-      pub header_names : (d : ℕ) → z ≡ At d → (n : Next) → n ≡ names_next line d r.common.app r.common.procid r.common.msgid → n ≡ header_next line r
+      pub header_names : (d : ℕ) → z ≡ Some d → (n : Option ℕ) → n ≡ names_next line d r.common.app r.common.procid r.common.msgid → n ≡ header_next line r
       header_names d h n en = en ∙ rw (← ex, ha, ← ey, hb, ← ez, h)
 
 -- what is asked of each field

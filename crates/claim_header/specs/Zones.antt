@@ -1,8 +1,7 @@
 -- For private contracts alone: the end of a timestamp's text.
-use Rattle.std.specs.Prelude.{ℕ, ◌+◌, ◌/◌, ◌%◌, ◌≤◌, ◌≡◌, Bool, true, ◌&&◌, List, [], ◌∷◌, ◌++◌, eqb, ℤ, nat_abs, length, get_or, if◌then◌else◌}
+use Rattle.std.specs.Prelude.{ℕ, ◌+◌, ◌/◌, ◌%◌, ◌≤◌, ◌≡◌, Bool, true, ◌&&◌, List, [], ◌∷◌, ◌++◌, eqb, ℤ, nat_abs, length, get_or, if◌then◌else◌, Some}
 use Rattle.base.specs.Choose.{is_at}
 use Rattle.output.specs.Numerals.{fixed}
-use Rattle.record.specs.declared.Stamp.TheVariants.{Stamped}
 use Rattle.record.specs.declared.Timestamp.{Timestamp}
 use Rattle.grammar.specs.Line.{offset_then, timestamp_then}
 use Rattle.suits.specs.Suits.{stamp_suits}
@@ -29,11 +28,11 @@ sign_at line at east west =
 
 -- what is asked where a timestamp's text is compared, whose offset is at `zone`
 pub record Standing (line : List ℕ) (at zone : ℕ) (t : Timestamp) : Type 0 where
-  pub fits : stamp_suits (Stamped t) ≡ true
+  pub fits : stamp_suits (Some t) ≡ true
   pub is_zone : zone ≡ zone_at at t.digits
   pub inside : zone + zone_len line zone ≤ length line
 
 -- the whole text is as the claimed numbers are written
 abbrev pub stamp_stands : List ℕ → ℕ → Timestamp → Bool
 stamp_stands line at t =
-    sign_holds (get_or line (zone_at at t.digits) 0) t.offset && stands_at line at (timestamp_then (written_stamp line at (Stamped t)) [])
+    sign_holds (get_or line (zone_at at t.digits) 0) t.offset && stands_at line at (timestamp_then (written_stamp line at (Some t)) [])

@@ -7,7 +7,6 @@ ghost use Rattle.base.specs.Diff.{diff_of};
 ghost use Rattle.calendar.specs.Calendar.{offset_limit};
 ghost use Rattle.output.specs.Numerals.{fixed, width};
 ghost use Rattle.record.specs.Limits.{line_limit};
-ghost use Rattle.record.specs.declared.Stamp.TheVariants as stamp;
 ghost use Rattle.grammar.specs.Abnf.{print_us_ascii};
 ghost use Rattle.suits.specs.Suits.{stamp_suits, record_suits};
 ghost use Rattle.message_stamp.specs.Stamps.{date_text, time_text, clock_text, fraction_text};
@@ -16,9 +15,9 @@ ghost use Rattle.claims.specs.Holds.{next_if, every, stands_at, head_text, head_
 ghost use Rattle.claim_header.specs.Zones.{hours_text, zone_len, sign_at, zone_holds, Standing, stamp_stands};
 
 use base::{Diff, is_at};
-use calendar::{DateTime, Shown};
-use claims::{Next, byte_next};
-use record::{Level, Place, Protocol, Stamp, StrictRecord, Timestamp};
+use calendar::DateTime;
+use claims::byte_next;
+use record::{Place, Protocol, StrictRecord, Timestamp};
 
 // ---- digits, compared in place
 
@@ -27,11 +26,9 @@ fn digits_at(line: &[u8], at: usize, k: usize, n: u32) -> bool
     requires { at + k ≤ length line.now }
     ensures { result ≡ stands_at line.now at (fixed k n) }
 {
-    let mut left = k;
     let mut rest = n;
-    while 0 < left {
-        left -= 1;
-        if line[at + left] != (48 + rest % 10) as u8 {
+    for i in (0..k).rev() {
+        if line[at + i] != (48 + rest % 10) as u8 {
             return false;
         }
         rest /= 10;
@@ -44,57 +41,55 @@ fn marked_at(line: &[u8], at: usize, mark: u8, k: usize, n: u32) -> bool
     requires { at + (1 + k) ≤ length line.now }
     ensures { result ≡ stands_at line.now at (mark ∷ fixed k n) }
 {
-    if line[at] != mark {
-        return false;
-    }
-    digits_at(line, at + 1, k, n)
+    line[at] == mark && digits_at(line, at + 1, k, n)
 }
 
 // ---- the priority and the version
 
 // `<`, the priority, `>`, the version and a space.
-fn numbers(line: &[u8], priority: u32, version: u32) -> Next
+fn numbers(line: &[u8], priority: u32, version: u32) -> Option<usize>
     ensures { result ≡ next_if (stands_at line.now 0 (head_text priority version)) (width priority + width version + 3) }
 {
     let m = output::digits_of(priority);
     let n = output::digits_of(version);
     let len = m + n + 3;
     if line.len() < len {
-        return Next::Off;
+        return None;
     }
     if !marked_at(line, 0, b'<', m, priority) {
-        return Next::Off;
+        return None;
     }
     if !marked_at(line, m + 1, b'>', n, version) {
-        return Next::Off;
+        return None;
     }
     if !is_at(line, m + n + 2, b' ') {
-        return Next::Off;
+        return None;
     }
-    Next::At(len)
+    Some(len)
 }
 
 // What a facility and a severity make up.
 fn priority_of(facility: u8, severity: u8) -> u32
     ensures { result ≡ facility * 8 + severity }
 {
-    facility as u32 * 8 + severity as u32
+    u32::from(facility) * 8 + u32::from(severity)
 }
 
-fn head(line: &[u8], facility: Level, severity: Level, protocol: Protocol) -> Next
+fn head(
+    line: &[u8],
+    facility: Option<u8>,
+    severity: Option<u8>,
+    protocol: Protocol,
+) -> Option<usize>
     ensures { result ≡ head_next line.now facility severity protocol }
 {
-    let Level::Set(f) = facility else {
-        return Next::Off;
-    };
-    let Level::Set(s) = severity else {
-        return Next::Off;
-    };
+    let f = facility?;
+    let s = severity?;
     let Protocol::Rfc5424(v) = protocol else {
-        return Next::Off;
+        return None;
     };
     if !((f <= 23) & (s <= 7) & ((1 <= v) & (v <= 999))) {
-        return Next::Off;
+        return None;
     }
     numbers(line, priority_of(f, s), v)
 }
@@ -131,10 +126,7 @@ fn fraction_len(digits: u32) -> usize
     requires { digits ≤ 9 }
     ensures { result ≡ fraction_len digits }
 {
-    if digits == 0 {
-        return 0;
-    }
-    digits as usize + 1
+    if digits == 0 { 0 } else { digits as usize + 1 }
 }
 
 fn fraction_at(line: &[u8], at: usize, digits: u32, nanos: u32) -> bool
@@ -167,10 +159,7 @@ fn offset_parts(t: Timestamp) -> Diff
 fn zone_len(line: &[u8], at: usize) -> usize
     ensures { result ≡ zone_len line.now at }
 {
-    if is_at(line, at, b'Z') {
-        return 1;
-    }
-    6
+    if is_at(line, at, b'Z') { 1 } else { 6 }
 }
 
 // Whether minutes east or west of UTC stand at `at` with their sign, which is either for 0.
@@ -204,7 +193,7 @@ fn stamp_stands(line: &[u8], at: usize, zone: usize, t: Timestamp) -> bool
     requires { Standing line.now at zone t }
     ensures { result ≡ stamp_stands line.now at t }
 {
-    let Shown::At(clock) = calendar::shown_at(t.seconds, t.offset) else {
+    let Some(clock) = calendar::shown_at(t.seconds, t.offset) else {
         return false;
     };
     clock_at(line, at, clock)
@@ -215,9 +204,9 @@ fn stamp_stands(line: &[u8], at: usize, zone: usize, t: Timestamp) -> bool
 // The same where it is claimed to stand, with its length.
 fn stamp_holds(line: &[u8], at: usize, p: Place, t: Timestamp) -> bool
     requires line_len_bound { length line.now ≤ line_limit }
-    requires t_value { stamp_suits (stamp.Stamped t) ≡ true }
+    requires t_value { stamp_suits (Some t) ≡ true }
     requires len_in_bounds { p.start + p.len ≤ length line.now }
-    ensures { result ≡ stamp_holds line.now at p (stamp.Stamped t) }
+    ensures { result ≡ stamp_holds line.now at p (Some t) }
 {
     if 6 < t.digits {
         return false;
@@ -237,30 +226,30 @@ fn stamp_holds(line: &[u8], at: usize, p: Place, t: Timestamp) -> bool
 }
 
 // `-` and a space, where no timestamp is claimed.
-fn no_stamp(line: &[u8], at: usize, p: Place) -> Next
-    ensures { result ≡ stamp_next line.now at p stamp.Unstamped }
+fn no_stamp(line: &[u8], at: usize, p: Place) -> Option<usize>
+    ensures { result ≡ stamp_next line.now at p None }
 {
     if p.present {
-        return Next::Off;
+        return None;
     }
     if !((p.start == 0) & (p.len == 0) & is_at(line, at, b'-')) {
-        return Next::Off;
+        return None;
     }
     byte_next(line, at + 1, b' ')
 }
 
 // The timestamp or `-`, and a space.
-fn stamp(line: &[u8], at: usize, p: Place, stamp: Stamp) -> Next
+fn stamp(line: &[u8], at: usize, p: Place, stamp: Option<Timestamp>) -> Option<usize>
     requires line_len_bound { length line.now ≤ line_limit }
     requires stamp_value { stamp_suits stamp ≡ true }
     requires len_in_bounds { p.start + p.len ≤ length line.now }
     ensures { result ≡ stamp_next line.now at p stamp }
 {
-    let Stamp::Stamped(t) = stamp else {
+    let Some(t) = stamp else {
         return no_stamp(line, at, p);
     };
     if !stamp_holds(line, at, p, t) {
-        return Next::Off;
+        return None;
     }
     byte_next(line, at + p.len, b' ')
 }
@@ -271,13 +260,10 @@ fn stamp(line: &[u8], at: usize, p: Place, stamp: Stamp) -> Next
 fn printable(t: &[u8]) -> bool
     ensures { result ≡ every print_us_ascii t.now }
 {
-    let mut i = 0;
-    while i < t.len() {
-        let b = t[i];
-        if !((33 <= b) & (b <= 126)) {
+    for b in t {
+        if !((33 <= *b) & (*b <= 126)) {
             return false;
         }
-        i += 1;
     }
     true
 }
@@ -290,81 +276,53 @@ fn text_holds(line: &[u8], most: usize, at: usize, p: Place) -> bool
     if !p.present {
         return (p.start == 0) & (p.len == 0) & is_at(line, at, b'-');
     }
-    if p.start != at {
-        return false;
-    }
-    if !((1 <= p.len) & (p.len <= most)) {
-        return false;
-    }
-    let end = at + p.len;
-    if !printable(&line[at..end]) {
-        return false;
-    }
-    !((p.len == 1) & is_at(line, at, b'-'))
+    p.start == at
+        && 1 <= p.len
+        && p.len <= most
+        && printable(&line[at..at + p.len])
+        && !(p.len == 1 && is_at(line, at, b'-'))
 }
 
 // How many bytes a place takes: that of an absent text is `-`.
 fn len_of(p: Place) -> usize
     ensures { result ≡ len_of p }
 {
-    if p.present {
-        return p.len;
-    }
-    1
+    if p.present { p.len } else { 1 }
 }
 
 // A text and a space.
-fn text(line: &[u8], most: usize, at: usize, p: Place) -> Next
+fn text(line: &[u8], most: usize, at: usize, p: Place) -> Option<usize>
     requires { p.start + p.len ≤ length line.now }
     ensures { result ≡ text_next line.now most at p }
 {
     if !text_holds(line, most, at, p) {
-        return Next::Off;
+        return None;
     }
     byte_next(line, at + len_of(p), b' ')
 }
 
 // App name, process id and message id, each with a space.
-fn names(line: &[u8], at: usize, app: Place, procid: Place, msgid: Place) -> Next
+fn names(line: &[u8], at: usize, app: Place, procid: Place, msgid: Place) -> Option<usize>
     requires len_in_bounds { app.start + app.len ≤ length line.now }
     requires len_in_bounds_2 { procid.start + procid.len ≤ length line.now }
     requires len_in_bounds_3 { msgid.start + msgid.len ≤ length line.now }
     ensures { result ≡ names_next line.now at app procid msgid }
 {
-    let Next::At(b) = text(line, 48, at, app) else {
-        return Next::Off;
-    };
-    let Next::At(c) = text(line, 128, b, procid) else {
-        return Next::Off;
-    };
+    let b = text(line, 48, at, app)?;
+    let c = text(line, 128, b, procid)?;
     text(line, 32, c, msgid)
 }
 
 // The header and a space: where the structured data starts.
-pub fn header(line: &[u8], r: StrictRecord) -> Next
+pub fn header(line: &[u8], r: StrictRecord) -> Option<usize>
     requires line_len_bound { length line.now ≤ line_limit }
     requires common_value { record_suits line.now r.common ≡ true }
     requires timestamp_text_in_bounds { r.timestamp_text.start + r.timestamp_text.len ≤ length line.now }
     ensures { result ≡ header_next line.now r }
 {
     let c = r.common;
-    let timestamp_text = r.timestamp_text;
-    let facility = c.facility;
-    let severity = c.severity;
-    let protocol = c.protocol;
-    let timestamp = c.timestamp;
-    let host = c.host;
-    let app = c.app;
-    let procid = c.procid;
-    let msgid = c.msgid;
-    let Next::At(a) = head(line, facility, severity, protocol) else {
-        return Next::Off;
-    };
-    let Next::At(b) = stamp(line, a, timestamp_text, timestamp) else {
-        return Next::Off;
-    };
-    let Next::At(d) = text(line, 255, b, host) else {
-        return Next::Off;
-    };
-    names(line, d, app, procid, msgid)
+    let stamp_at = head(line, c.facility, c.severity, c.protocol)?;
+    let host_at = stamp(line, stamp_at, r.timestamp_text, c.timestamp)?;
+    let app_at = text(line, 255, host_at, c.host)?;
+    names(line, app_at, c.app, c.procid, c.msgid)
 }

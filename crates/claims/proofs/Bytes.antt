@@ -1,4 +1,5 @@
 -- A byte that is asked for, and bytes that all pass a test.
+use Rattle.std.specs.Prelude.{Some, None}
 use Prim.Native.Nat.{ℕ, ◌+◌, ◌^◌, ◌≤◌, ◌<◌}
 use mathlib.Core.Path.{◌≡◌, sym, ap, ◌∙◌}
 use mathlib.Core.Bool.{Bool, true, false, not, ◌&&◌}
@@ -11,7 +12,6 @@ use Rattle.base.specs.Choose.{is_at}
 use Rattle.base.proofs.Tests.{clash, told}
 use Rattle.base.proofs.Parts.{at_past, step, ended}
 use Rattle.claims.specs.Holds.{byte_next, every}
-use Rattle.claims.specs.declared.Next.TheVariants.{Off, At}
 
 pub byte_inside : (line : List ℕ) (at b : ℕ) → 0 < b → is_at line at b ≡ true → at < length line
 byte_inside line at b p h = go (dec_le (length line) at)
@@ -21,11 +21,11 @@ byte_inside line at b p h = go (dec_le (length line) at)
     go (no l) = omega arith
 
 module _ (line : List ℕ) (at b : ℕ) (t : Bool) (e : t ≡ is_at line at b) where
-  pub byte_off : not t ≡ true → Off ≡ byte_next line at b
+  pub byte_off : not t ≡ true → None ≡ byte_next line at b
   unfolding byte_next
   byte_off n = rw (← e, not-true t n)
 
-  pub byte_on : not t ≡ false → At (at + 1) ≡ byte_next line at b
+  pub byte_on : not t ≡ false → Some (at + 1) ≡ byte_next line at b
   unfolding byte_next
   byte_on n = rw (← e, not-false t n)
 

@@ -1,8 +1,10 @@
 -- The check, field after field, holds exactly of the claim that the strict grammar gives for the line.
+use Rattle.std.specs.Prelude.{Some, None}
 use Prim.Native.Nat.{ℕ, ◌/◌, ◌%◌, ◌≤◌}
 use mathlib.Core.Path.{◌≡◌, refl, sym, ap, ◌∙◌}
 use mathlib.Core.Bool.{true}
 use mathlib.Core.List.{List, [], ◌∷◌}
+use Rattle.std.specs.Prelude as std
 use mathlib.Core.Option.{Option, none, some}
 use native.Mathlib.Omega.{arith}
 use lib.ListN.{length}
@@ -11,14 +13,11 @@ use Rattle.base.proofs.Tests.{both, clash}
 use Rattle.base.proofs.Texts.{different_sound, different_complete}
 use Rattle.digits.specs.Digits.{decimal}
 use Rattle.record.specs.declared.Protocol.TheVariants.{Rfc5424}
-use Rattle.record.specs.declared.Level.TheVariants.{Set}
 use Rattle.grammar.specs.Line.{Element, Timestamp, Division, timestamp_then, data_then, message_text, ids_of, Derives}
 use Rattle.grammar.specs.Reading.{timestamp_at, hostname_at, app_name_at, procid_at, msgid_at, data_at, data_end, place_of, stamp_of, timestamp_place, message_span, message_flag, element_rows, param_rows, record_of}
 use Rattle.grammar.proofs.Data.{data_reads}
 use Rattle.claims.specs.Claims.{Claim, claim_of, Claimed}
 use Rattle.claims.specs.Holds.{head_next, stamp_next, text_next, header_next, data_next, ids_at, message_holds, end_holds, holds}
-use Rattle.claims.specs.declared.Next.{Next}
-use Rattle.claims.specs.declared.Next.TheVariants.{Off, At}
 use Rattle.claims.proofs.Told.{told}
 use Rattle.claims.proofs.Places.{here_as, laid}
 use Rattle.claims.proofs.Tests.{on_next_lem, here_fits, text_step, text_taken}
@@ -35,8 +34,8 @@ place_for_lem d (some t) e =
 
 -- a claim is a division's where each of its fields is
 same_claim : (c : Claim) (d : Division)
-    → Set (decimal d.prival / 8) ≡ c.reading.common.facility
-    → Set (decimal d.prival % 8) ≡ c.reading.common.severity
+    → Some (decimal d.prival / 8) ≡ c.reading.common.facility
+    → Some (decimal d.prival % 8) ≡ c.reading.common.severity
     → Rfc5424 (decimal d.version) ≡ c.reading.common.protocol
     → stamp_of d.timestamp ≡ c.reading.common.timestamp
     → place_for (timestamp_at d) d.timestamp ≡ c.reading.timestamp_text
@@ -53,15 +52,15 @@ unfolding claim_of record_of
 same_claim c d f s p t l h a i m e w n b = rw (f, s, p, t, place_for_lem d d.timestamp refl, l, h, a, i, m, e, w, n, b)
 
 -- where it ended
-record Ended (line : List ℕ) (c : Claim) (n : Next) : Type 0 where
+record Ended (line : List ℕ) (c : Claim) (n : std.Option ℕ) : Type 0 where
   pub at : ℕ
-  pub is : n ≡ At at
+  pub is : n ≡ Some at
   pub differ : all_different (ids_at line c.elements) ≡ true
   pub message : message_holds line at c.reading.has_message c.reading.common.message ≡ true
 
-ended : (line : List ℕ) (c : Claim) (n : Next) → end_holds line c n ≡ true → Ended line c n
-ended line c Off h = clash (sym h)
-ended line c (At at) h =
+ended : (line : List ℕ) (c : Claim) (n : std.Option ℕ) → end_holds line c n ≡ true → Ended line c n
+ended line c None h = clash (sym h)
+ended line c (Some at) h =
     let u = both (all_different (ids_at line c.elements)) (message_holds line at c.reading.has_message c.reading.common.message) h in
     record { at = at; is = refl; differ = u.0; message = u.1 }
 
@@ -127,7 +126,7 @@ some_data [] = omega arith
 some_data (e ∷ es) = omega arith
 
 module _ (line : List ℕ) (d : Division) (k : Derives line d) where
-  header_taken : header_next line (record_of d) ≡ At (data_at d)
+  header_taken : header_next line (record_of d) ≡ Some (data_at d)
   unfolding record_of
   header_taken =
       let l = laid line d k in

@@ -1,4 +1,5 @@
 -- Worked examples, computed: claims of some lines, told yes and told no, and the numbers of the answers.
+use Rattle.std.specs.Prelude.{Some, None, Ok, Err}
 use Prim.Native.Nat.{ℕ, ◌+◌}
 use mathlib.Core.Path.{◌≡◌, refl}
 use mathlib.Core.Bool.{true, false}
@@ -15,8 +16,6 @@ use Rattle.record.specs.Places.{absent, place}
 use Rattle.record.specs.declared.Place.{Place}
 use Rattle.record.specs.declared.Protocol.{Protocol}
 use Rattle.record.specs.declared.Protocol.TheVariants.{Rfc3164, Rfc5424}
-use Rattle.record.specs.declared.Level.TheVariants.{Set}
-use Rattle.record.specs.declared.Stamp.TheVariants.{Unstamped, Stamped}
 use Rattle.record.specs.declared.StrictRecord.{StrictRecord}
 use Rattle.record.specs.declared.Refusal.TheVariants.{LineTooLong, Unsuitable, WrongClaim}
 use Rattle.grammar.specs.Line.{Offset}
@@ -24,9 +23,8 @@ use Rattle.grammar.specs.Reading.{record_of}
 use Rattle.suits.specs.Suits.{record_suits, elements_suit, params_suit, tables_suit, suits}
 use Rattle.claims.specs.Claims.{Claim, claim_of, claim_in, claim_suits, checked_number}
 use Rattle.claims.specs.Holds.{head_next, stamp_next, text_next, param_next, id_next, byte_next, holds}
-use Rattle.claims.specs.declared.Checked.TheVariants.{Yes, Refused}
 
-numbers : map checked_number (Yes ∷ Refused LineTooLong ∷ Refused Unsuitable ∷ Refused WrongClaim ∷ []) ≡ 0 ∷ 1 ∷ 7 ∷ 16 ∷ []
+numbers : map checked_number (Ok tt ∷ Err LineTooLong ∷ Err Unsuitable ∷ Err WrongClaim ∷ []) ≡ 0 ∷ 1 ∷ 7 ∷ 16 ∷ []
 numbers = refl
 
 -- ---- a line with a timestamp, one element and one parameter
@@ -37,9 +35,9 @@ reading n seconds nanos digits offset host =
     record {
       common = record {
         protocol = Rfc5424 1;
-        facility = Set 4;
-        severity = Set 2;
-        timestamp = Stamped (record { seconds = seconds; nanos = nanos; digits = digits; offset = offset });
+        facility = Some 4;
+        severity = Some 2;
+        timestamp = Some (record { seconds = seconds; nanos = nanos; digits = digits; offset = offset });
         host = place host 1;
         app = absent;
         procid = absent;
@@ -133,9 +131,9 @@ plain protocol facility severity host app start len =
     record {
       common = record {
         protocol = protocol;
-        facility = Set facility;
-        severity = Set severity;
-        timestamp = Unstamped;
+        facility = Some facility;
+        severity = Some severity;
+        timestamp = None;
         host = host;
         app = app;
         procid = absent;
@@ -179,9 +177,9 @@ listed start elements params =
       reading = record {
         common = record {
           protocol = Rfc5424 1;
-          facility = Set 0;
-          severity = Set 1;
-          timestamp = Unstamped;
+          facility = Some 0;
+          severity = Some 1;
+          timestamp = None;
           host = absent;
           app = absent;
           procid = absent;

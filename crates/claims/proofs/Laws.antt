@@ -1,5 +1,5 @@
 -- The laws of the check: what the code follows is what the contract asks for, one answer, one claim, and a changed one refused.
-use Rattle.std.specs.Prelude.{if◌then◌else◌}
+use Rattle.std.specs.Prelude.{if◌then◌else◌, Result, Ok, Err}
 use Prim.Native.Nat.{ℕ, ◌≤◌, ◌<◌}
 use mathlib.Core.Path.{◌≡◌, refl, sym, ap, ◌∙◌}
 use mathlib.Core.Bool.{Bool, true, false, not}
@@ -22,37 +22,35 @@ use Rattle.claims.specs.Claims.{Claim, claim_of, Claimed, pair_of, pairs, claim_
 use Rattle.claims.specs.Claims.Checks.{too_long, unsuitable, wrong, told_yes}
 use Rattle.claims.specs.Laws.{OneAnswer, OneClaim, ChangedIsRefused}
 use Rattle.claims.specs.Holds.{holds}
-use Rattle.claims.specs.declared.Checked.{Checked}
-use Rattle.claims.specs.declared.Checked.TheVariants.{Yes, Refused}
 use Rattle.claims.proofs.Claimed.{holds_claimed, claimed_holds}
 
 -- ---- the answer of the check is what the contract asks for
 
 module _ (line : List ℕ) (r : StrictRecord) (e p : ℕ) (elements params : List (List ℕ)) where
-  pub answers_long : line_limit < length line → Checks line r e p elements params (Refused LineTooLong)
+  pub answers_long : line_limit < length line → Checks line r e p elements params (Err LineTooLong)
   answers_long l = too_long l refl
 
   module _ (short : length line ≤ line_limit) where
-    pub answers_unsuitable : claim_suits line r e p elements params ≡ false → Checks line r e p elements params (Refused Unsuitable)
+    pub answers_unsuitable : claim_suits line r e p elements params ≡ false → Checks line r e p elements params (Err Unsuitable)
     answers_unsuitable s = unsuitable short s refl
 
-    pub answers_wrong : claim_suits line r e p elements params ≡ true → holds line (claim_in r e p elements params) ≡ false → Checks line r e p elements params (Refused WrongClaim)
+    pub answers_wrong : claim_suits line r e p elements params ≡ true → holds line (claim_in r e p elements params) ≡ false → Checks line r e p elements params (Err WrongClaim)
     answers_wrong s h = wrong short s (λ k. clash (sym (claimed_holds line _ k) ∙ h)) refl
 
-    pub answers_yes : claim_suits line r e p elements params ≡ true → holds line (claim_in r e p elements params) ≡ true → Checks line r e p elements params Yes
+    pub answers_yes : claim_suits line r e p elements params ≡ true → holds line (claim_in r e p elements params) ≡ true → Checks line r e p elements params (Ok tt)
     answers_yes s h = told_yes short s (holds_claimed line _ h) refl
 
   -- ---- one answer
 
-  abbrev the_answer : Bool → Bool → Bool → Checked
-  the_answer long fit good = if long then Refused LineTooLong else if not fit then Refused Unsuitable else if good then Yes else Refused WrongClaim
+  abbrev the_answer : Bool → Bool → Bool → Result Unit Refusal
+  the_answer long fit good = if long then Err LineTooLong else if not fit then Err Unsuitable else if good then Ok tt else Err WrongClaim
 
   not_claimed : (Claimed line (claim_in r e p elements params) → ⊥) → holds line (claim_in r e p elements params) ≡ false
   not_claimed n =
       by_test (λ b. holds line (claim_in r e p elements params) ≡ b → b ≡ false) (holds line (claim_in r e p elements params))
       (λ _ q. absurd (n (holds_claimed line _ q))) (λ _ q. refl) refl
 
-  answer_is : (a : Checked) → Checks line r e p elements params a
+  answer_is : (a : Result Unit Refusal) → Checks line r e p elements params a
       → a ≡ the_answer (ltb line_limit (length line)) (claim_suits line r e p elements params) (holds line (claim_in r e p elements params))
   answer_is a (too_long l q) = q ∙ rw (lt-ltb line_limit (length line) l)
   answer_is a (unsuitable l s q) = q ∙ rw (le-ltb line_limit (length line) l, s)
@@ -64,7 +62,7 @@ one_answer line r e p elements params a b x y = answer_is line r e p elements pa
 
 -- ---- one claim
 
-refused_no : {A : Type 0} (f : Refusal) → Yes ≡ Refused f → A
+refused_no : {A : Type 0} (f : Refusal) → ◌≡◌ {A = Result Unit Refusal} (Ok tt) (Err f) → A
 refused_no f h = let z : true ≡ false = cc in clash z
 
 -- what a claim that was told yes is
@@ -73,7 +71,7 @@ record Told (line : List ℕ) (r : StrictRecord) (e p : ℕ) (elements params : 
   pub fits : claim_suits line r e p elements params ≡ true
   pub claimed : Claimed line (claim_in r e p elements params)
 
-told : (line : List ℕ) (r : StrictRecord) (e p : ℕ) (elements params : List (List ℕ)) → Checks line r e p elements params Yes → Told line r e p elements params
+told : (line : List ℕ) (r : StrictRecord) (e p : ℕ) (elements params : List (List ℕ)) → Checks line r e p elements params (Ok tt) → Told line r e p elements params
 told line r e p elements params (too_long l q) = refused_no _ q
 told line r e p elements params (unsuitable l s q) = refused_no _ q
 told line r e p elements params (wrong l s k q) = refused_no _ q

@@ -1,8 +1,10 @@
 -- The timestamp: what is written of an instant is a timestamp of the grammar that reads as the instant, and what a timestamp reads as is written again.
+use Rattle.std.specs.Prelude.{Some, None}
 use Prim.Native.Nat.{ℕ, zero, suc, ◌+◌, ◌-◌, ◌*◌, ◌/◌, ◌%◌, ◌^◌, ◌≤◌, ◌<◌}
 use mathlib.Core.Path.{◌≡◌, refl, sym, ap, ◌∙◌}
 use mathlib.Core.Bool.{true, ◌&&◌}
 use mathlib.Core.List.{List, [], ◌∷◌}
+use Rattle.std.specs.Prelude as std
 use mathlib.Core.Option.{Option, none, some}
 use native.Mathlib.Nat.{one-le-pow, div-add-mod', div-lt_iff_lt-mul, mul-mod_left, mul-le-mul_right, add-mul, mul-div_cancel}
 use native.Mathlib.Omega.{arith}
@@ -15,8 +17,6 @@ use Rattle.base.proofs.Tests.{clash, both}
 use Rattle.calendar.specs.Calendar.{valid, valid_date, valid_time}
 use Rattle.calendar.specs.Instant.{shown, is_shown, seconds_of}
 use Rattle.calendar.specs.declared.DateTime.{DateTime}
-use Rattle.calendar.specs.declared.Shown.{Shown}
-use Rattle.calendar.specs.declared.Shown.TheVariants.{Outside, At}
 use Rattle.calendar.proofs.Dates.{valid_parts}
 use Rattle.calendar.proofs.Days.{month_to}
 use Rattle.calendar.proofs.ThereAndBack.{back, shown_valid}
@@ -34,12 +34,12 @@ use Rattle.claims.proofs.Numbers.{fixed_value, fixed_repeat, digits_again}
 
 pub record Seen (seconds offset : ℤ) : Type 0 where
   pub clock : DateTime
-  pub shows : shown seconds offset ≡ At clock
+  pub shows : shown seconds offset ≡ Some clock
   pub is_valid : valid clock ≡ true
 
-seen_at : (seconds offset : ℤ) (s : Shown) → shown seconds offset ≡ s → is_shown s ≡ true → Seen seconds offset
-seen_at seconds offset Outside e h = clash (sym h)
-seen_at seconds offset (At c) e h = record { clock = c; shows = e; is_valid = shown_valid seconds offset c e }
+seen_at : (seconds offset : ℤ) (s : std.Option DateTime) → shown seconds offset ≡ s → is_shown s ≡ true → Seen seconds offset
+seen_at seconds offset None e h = clash (sym h)
+seen_at seconds offset (Some c) e h = record { clock = c; shows = e; is_valid = shown_valid seconds offset c e }
 
 pub seen : (seconds offset : ℤ) → is_shown (shown seconds offset) ≡ true → Seen seconds offset
 seen seconds offset h = seen_at seconds offset (shown seconds offset) refl h

@@ -1,8 +1,10 @@
 -- The tests of the head, the timestamp and the message, both ways.
+use Rattle.std.specs.Prelude.{Some, None}
 use Prim.Native.Nat.{ℕ, suc, ◌+◌, ◌*◌, ◌/◌, ◌%◌, ◌≤◌}
 use mathlib.Core.Path.{◌≡◌, refl, sym, ap, ap₂, ◌∙◌, subst}
 use mathlib.Core.Bool.{Bool, true, false, ◌&&◌}
 use mathlib.Core.List.{List, [], ◌∷◌, ◌++◌, append_assoc, append-nil}
+use Rattle.std.specs.Prelude as std
 use mathlib.Core.Option.{Option, none, some}
 use native.Mathlib.Omega.{arith}
 use lib.Dec.{eqb}
@@ -19,8 +21,6 @@ use Rattle.output.proofs.Numerals.{length_fixed}
 use Rattle.record.specs.declared.Span.{Span}
 use Rattle.record.specs.declared.Protocol.{Protocol}
 use Rattle.record.specs.declared.Protocol.TheVariants.{Rfc3164, Rfc5424}
-use Rattle.record.specs.declared.Level.{Level}
-use Rattle.record.specs.declared.Level.TheVariants.{Unset, Set}
 use Rattle.grammar.specs.Line.{message_text, PrivalOk, VersionOk, MessageOk}
 use Rattle.grammar.specs.Parse.{choose, into, only, all_left, is_message, message}
 use Rattle.grammar.specs.Parse.Parsed.{failed}
@@ -29,7 +29,6 @@ use Rattle.grammar.proofs.Readers.{not_found}
 use Rattle.grammar.proofs.Data.{message_reads}
 use Rattle.claims.specs.Texts.{version_of, priority_of}
 use Rattle.claims.specs.Holds.{stands_at, level_holds, protocol_holds, head_text, head_next, message_holds}
-use Rattle.claims.specs.declared.Next.TheVariants.{At}
 use Rattle.claims.proofs.Told.{told_message}
 use Rattle.claims.proofs.Numbers.{prival_written, version_written, few_said, few_to, version_least, prival_again, version_again}
 use Rattle.claims.proofs.Places.{Here, here_all, here_next, here_text, here_as, moved}
@@ -38,17 +37,17 @@ use Rattle.claims.proofs.Tests.{all_both, next_if_lem, byte_stands, byte_then, c
 -- ---- PRI VERSION SP
 
 module _ (line : List ℕ) where
-  pub record HeadHere (f s : Level) (p : Protocol) (next : ℕ) : Type 0 where
+  pub record HeadHere (f s : std.Option ℕ) (p : Protocol) (next : ℕ) : Type 0 where
     pub prival_ok : PrivalOk (numeral (priority_of f s))
     pub version_ok : VersionOk (numeral (version_of p))
-    pub is_facility : Set (decimal (numeral (priority_of f s)) / 8) ≡ f
-    pub is_severity : Set (decimal (numeral (priority_of f s)) % 8) ≡ s
+    pub is_facility : Some (decimal (numeral (priority_of f s)) / 8) ≡ f
+    pub is_severity : Some (decimal (numeral (priority_of f s)) % 8) ≡ s
     pub is_protocol : Rfc5424 (decimal (numeral (version_of p))) ≡ p
     pub ends : next ≡ length (numeral (priority_of f s)) + length (numeral (version_of p)) + 3
     pub here : (r : List ℕ) → Here line next r → line ≡ 60 ∷ (numeral (priority_of f s) ++ (62 ∷ (numeral (version_of p) ++ (32 ∷ r))))
 
   head_sound : (a b v next : ℕ) → a ≤ 23 → b ≤ 7 → 1 ≤ v → v ≤ 999 → stands_at line 0 (head_text (a * 8 + b) v) ≡ true
-      → width (a * 8 + b) + width v + 3 ≡ next → HeadHere (Set a) (Set b) (Rfc5424 v) next
+      → width (a * 8 + b) + width v + 3 ≡ next → HeadHere (Some a) (Some b) (Rfc5424 v) next
   head_sound a b v next la lb lv hv h q =
       let p = a * 8 + b in
       let e = few_said p (omega arith) in
@@ -56,8 +55,8 @@ module _ (line : List ℕ) where
       record {
         prival_ok = prival_written p (omega arith);
         version_ok = version_written v lv hv;
-        is_facility = ap Set (ap (λ (n : ℕ). n / 8) e ∙ omega arith);
-        is_severity = ap Set (ap (λ (n : ℕ). n % 8) e ∙ omega arith);
+        is_facility = ap Some (ap (λ (n : ℕ). n / 8) e ∙ omega arith);
+        is_severity = ap Some (ap (λ (n : ℕ). n % 8) e ∙ omega arith);
         is_protocol = ap Rfc5424 (few_said v hv);
         ends = l;
         here = λ r g.
@@ -68,16 +67,16 @@ module _ (line : List ℕ) where
             ∙ ap (λ (x : List ℕ). 60 ∷ x) (append_assoc (numeral p) (62 ∷ (numeral v ++ (32 ∷ []))) r ∙ ap (λ (x : List ℕ). numeral p ++ (62 ∷ x)) (append_assoc (numeral v) (32 ∷ []) r));
       }
 
-  heads_by : (f s : Level) (p : Protocol) (next : ℕ) → level_holds 23 f ≡ true → level_holds 7 s ≡ true → protocol_holds p ≡ true
+  heads_by : (f s : std.Option ℕ) (p : Protocol) (next : ℕ) → level_holds 23 f ≡ true → level_holds 7 s ≡ true → protocol_holds p ≡ true
       → stands_at line 0 (head_text (priority_of f s) (version_of p)) ≡ true → width (priority_of f s) + width (version_of p) + 3 ≡ next → HeadHere f s p next
-  heads_by Unset s p next a b c h q = clash (sym a)
-  heads_by (Set x) Unset p next a b c h q = clash (sym b)
-  heads_by (Set x) (Set y) Rfc3164 next a b c h q = clash (sym c)
-  heads_by (Set x) (Set y) (Rfc5424 v) next a b c h q =
+  heads_by None s p next a b c h q = clash (sym a)
+  heads_by (Some x) None p next a b c h q = clash (sym b)
+  heads_by (Some x) (Some y) Rfc3164 next a b c h q = clash (sym c)
+  heads_by (Some x) (Some y) (Rfc5424 v) next a b c h q =
       let o = orders 1 999 v c in
       head_sound x y v next (leb-true x 23 a) (leb-true y 7 b) o.0 o.1 h q
 
-  pub head_step : (f s : Level) (p : Protocol) (next : ℕ) → head_next line f s p ≡ At next → HeadHere f s p next
+  pub head_step : (f s : std.Option ℕ) (p : Protocol) (next : ℕ) → head_next line f s p ≡ Some next → HeadHere f s p next
   unfolding head_next
   head_step f s p next h =
       let t = stands_at line 0 (head_text (priority_of f s) (version_of p)) in
@@ -88,7 +87,7 @@ module _ (line : List ℕ) where
       heads_by f s p next u3.0 u3.1 u2.1 u1.1 e
 
   pub head_taken : (t v r : List ℕ) → PrivalOk t → VersionOk v → line ≡ 60 ∷ (t ++ (62 ∷ (v ++ (32 ∷ r))))
-      → head_next line (Set (decimal t / 8)) (Set (decimal t % 8)) (Rfc5424 (decimal v)) ≡ At (length t + length v + 3)
+      → head_next line (Some (decimal t / 8)) (Some (decimal t % 8)) (Rfc5424 (decimal v)) ≡ Some (length t + length v + 3)
   unfolding head_next
   head_taken t v r k w e =
       let p : decimal t / 8 * 8 + decimal t % 8 ≡ decimal t = omega arith in

@@ -1,5 +1,5 @@
 -- The tables: the rows are those of elements that obey the grammar and stand there, and the rows of such elements tell them.
-use Rattle.std.specs.Prelude.{if◌then◌else◌}
+use Rattle.std.specs.Prelude.{if◌then◌else◌, Some}
 use Prim.Native.Nat.{ℕ, ◌+◌, ◌≤◌, ◌<◌}
 use mathlib.Core.Path.{◌≡◌, refl, sym, ap, ap₂, ◌∙◌, subst}
 use mathlib.Core.Bool.{true, false, ◌&&◌}
@@ -18,7 +18,6 @@ use Rattle.grammar.specs.Abnf.{sd_name_byte}
 use Rattle.grammar.specs.Line.{Param, Element, each_then, param_then, element_then, data_then, ParamOk, ElementOk, Each, ids_of}
 use Rattle.grammar.specs.Reading.{element_rows, rows_of_params, param_rows}
 use Rattle.claims.specs.Holds.{front, rest, class_at, well_escaped, value_at, param_next, params_next, id_next, byte_next, nothing_left, elements_next, data_next, ids_at}
-use Rattle.claims.specs.declared.Next.TheVariants.{At}
 use Rattle.claims.proofs.Told.{told_params, told_elements}
 use Rattle.claims.proofs.Places.{Here, here_next, here_on, here_text, moved}
 use Rattle.claims.proofs.Tests.{never, same_at, next_if_lem, on_next_lem, byte_stands, byte_step, byte_taken, here_inside, byte_then, cut_length, cut_then, class_sound, class_complete, escaped_sound, escaped_complete}
@@ -89,7 +88,7 @@ module _ (line : List ℕ) where
               byte_then line at 31 _ space (cut_then line (at + 1) n _ (byte_then line (at + 1 + n) 60 _ equals c));
         }
 
-  pub params_step : (rows : List (List ℕ)) (k at next : ℕ) → params_next line k at rows ≡ At next → ParamsHere k at rows next
+  pub params_step : (rows : List (List ℕ)) (k at next : ℕ) → params_next line k at rows ≡ Some next → ParamsHere k at rows next
   unfolding param_next
   params_step [] k at next h = record { ok = tt; is = refl; ends = omega (arith, same_at h); here = λ r g. moved at g (sym (same_at h)) }
   params_step (row ∷ rows) k at next h =
@@ -113,13 +112,13 @@ module _ (line : List ℕ) where
       let v1 = both (leb (at + n + 3 + m) (length line) && is_utf8 (text_at line (at + n + 3) m)) (well_escaped false (text_at line (at + n + 3) m)) u6.0 in
       let v2 = both (leb (at + n + 3 + m) (length line)) (is_utf8 (text_at line (at + n + 3) m)) v1.0 in
       let q : row ≡ k ∷ (at + 1) ∷ n ∷ (at + n + 3) ∷ m ∷ [] = same_is row _ u3.1 in
-      let i : params_next line k (at + n + m + 4) rows ≡ At next = ap (λ (j : ℕ). params_next line k j rows) e ∙ w.second in
+      let i : params_next line k (at + n + m + 4) rows ≡ Some next = ap (λ (j : ℕ). params_next line k j rows) e ∙ w.second in
       let z = param_here k at n m next rows (params_step rows k (at + n + m + 4) next i) u3.0 u5.0 u5.1 u4.1 (leb-true _ _ v2.0) v2.1 v1.1 u6.1 in
       subst (λ (x : List ℕ). ParamsHere k at (x ∷ rows) next) (sym q) z
 
   -- what is there is told yes
   param_taken : (p : Param) (k at : ℕ) (r : List ℕ) → ParamOk p → Here line at (param_then p r)
-      → param_next line k at (k ∷ (at + 1) ∷ length p.name ∷ (at + length p.name + 3) ∷ length p.value ∷ []) ≡ At (at + length (param_then p []))
+      → param_next line k at (k ∷ (at + 1) ∷ length p.name ∷ (at + length p.name + 3) ∷ length p.value ∷ []) ≡ Some (at + length (param_then p []))
   unfolding param_next
   param_taken p k at r ok h =
       let n = length p.name in
@@ -151,12 +150,12 @@ module _ (line : List ℕ) where
   param_past p at r h = moved (at + length (param_then p [])) (here_next (here_on p.value (here_next (here_next (here_on p.name (here_next h)))))) (omega (arith, param_size_lem p []))
 
   pub params_taken : (ps : List Param) (k at : ℕ) (r : List ℕ) → Each ParamOk ps → Here line at (each_then param_then ps r)
-      → params_next line k at (rows_of_params k at ps) ≡ At (at + length (each_then param_then ps []))
-  params_taken [] k at r ok h = ap At (omega arith)
+      → params_next line k at (rows_of_params k at ps) ≡ Some (at + length (each_then param_then ps []))
+  params_taken [] k at r ok h = ap Some (omega arith)
   params_taken (p ∷ ps) k at r ok h =
       let i = params_taken ps k (at + length (param_then p [])) r ok.1 (param_past p at (each_then param_then ps r) h) in
       rw (param_taken p k at (each_then param_then ps r) ok.0 h)
-      (i ∙ ap At (omega (arith, param_size_lem p [], param_size_lem p (each_then param_then ps []))))
+      (i ∙ ap Some (omega (arith, param_size_lem p [], param_size_lem p (each_then param_then ps []))))
 
   params_past : (ps : List Param) (at : ℕ) (r : List ℕ) → Here line at (each_then param_then ps r) → Here line (at + length (each_then param_then ps [])) r
   params_past [] at r h = moved (at + 0) h (omega arith)
@@ -259,11 +258,11 @@ module _ (line : List ℕ) where
               byte_then line at 90 _ bracket (cut_then line (at + 1) n _ (moved (at + 1 + n) a (omega arith)));
         }
 
-  nothing_left_lem : (params : List (List ℕ)) (at next : ℕ) → nothing_left params at ≡ At next → (params ≡ []) × (at ≡ next)
+  nothing_left_lem : (params : List (List ℕ)) (at next : ℕ) → nothing_left params at ≡ Some next → (params ≡ []) × (at ≡ next)
   nothing_left_lem [] at next h = (refl, same_at h)
   nothing_left_lem (row ∷ rows) at next h = never h
 
-  pub elements_step : (rows : List (List ℕ)) (k at : ℕ) (params : List (List ℕ)) (next : ℕ) → elements_next line k at rows params ≡ At next → ElementsHere k at rows params next
+  pub elements_step : (rows : List (List ℕ)) (k at : ℕ) (params : List (List ℕ)) (next : ℕ) → elements_next line k at rows params ≡ Some next → ElementsHere k at rows params next
   unfolding id_next
   elements_step [] k at params next h =
       let (e, q) = nothing_left_lem params at next h in
@@ -281,14 +280,14 @@ module _ (line : List ℕ) where
       let u2 = both x2 x1 u1.0 in
       let q : row ≡ (at + 1) ∷ n ∷ [] = same_is row _ u2.1 in
       let (c, f) = byte_step line w2.to 92 w3.to w3.first in
-      let i : params_next line k (at + n + 1) (front k params) ≡ At w2.to = ap (λ (j : ℕ). params_next line k j (front k params)) e ∙ w2.first in
-      let j : elements_next line (k + 1) (w2.to + 1) rows (rest k params) ≡ At next = ap (λ (j : ℕ). elements_next line (k + 1) j rows (rest k params)) f ∙ w3.second in
+      let i : params_next line k (at + n + 1) (front k params) ≡ Some w2.to = ap (λ (j : ℕ). params_next line k j (front k params)) e ∙ w2.first in
+      let j : elements_next line (k + 1) (w2.to + 1) rows (rest k params) ≡ Some next = ap (λ (j : ℕ). elements_next line (k + 1) j rows (rest k params)) f ∙ w3.second in
       let z = element_here k at n w2.to next rows params (params_step line (front k params) k (at + n + 1) w2.to i)
       (elements_step rows (k + 1) (w2.to + 1) (rest k params) next j) u2.0 u1.1 c in
       subst (λ (x : List ℕ). ElementsHere k at (x ∷ rows) params next) (sym q) z
 
   id_taken : (e : Element) (at : ℕ) (r : List ℕ) → ElementOk e → Here line at (element_then e r)
-      → id_next line at ((at + 1) ∷ length e.id ∷ []) ≡ At (at + length e.id + 1)
+      → id_next line at ((at + 1) ∷ length e.id ∷ []) ≡ Some (at + length e.id + 1)
   unfolding id_next
   id_taken e at r ok h =
       rw (same_self ((at + 1) ∷ length e.id ∷ []), byte_stands line h, class_complete line 32 sd_name_byte (at + 1) e.id _ ok.id_ok (here_next h))
@@ -303,8 +302,8 @@ module _ (line : List ℕ) where
   next_here e at r h = moved _ (here_next (end_here e at r h)) (omega (arith, element_size_lem e []))
 
   pub elements_taken : (es : List Element) (k at : ℕ) (r : List ℕ) → Each ElementOk es → Here line at (each_then element_then es r)
-      → elements_next line k at (element_rows at es) (param_rows k at es) ≡ At (at + length (each_then element_then es []))
-  elements_taken [] k at r ok h = ap At (omega arith)
+      → elements_next line k at (element_rows at es) (param_rows k at es) ≡ Some (at + length (each_then element_then es []))
+  elements_taken [] k at r ok h = ap Some (omega arith)
   elements_taken (e ∷ es) k at r ok h =
       let t = each_then element_then es r in
       let ps = e.params in
@@ -320,7 +319,7 @@ module _ (line : List ℕ) where
         byte_taken line shut 93 t (end_here e at t h),
         s,
       )
-      (i ∙ ap At (omega (arith, element_size_lem e [], element_size_lem e (each_then element_then es []))))
+      (i ∙ ap Some (omega (arith, element_size_lem e [], element_size_lem e (each_then element_then es []))))
 
   elements_told : (es : List Element) (k at : ℕ) (r : List ℕ) → Here line at (each_then element_then es r) → told_elements line k (element_rows at es) (param_rows k at es) ≡ es
   elements_told [] k at r h = refl
@@ -351,7 +350,7 @@ module _ (line : List ℕ) (at : ℕ) where
     pub ends : next ≡ at + length (data_then (told_elements line 0 rows params) [])
     pub here : (r : List ℕ) → Here line next r → Here line at (data_then (told_elements line 0 rows params) r)
 
-  pub data_step : (rows params : List (List ℕ)) (next : ℕ) → data_next line at rows params ≡ At next → DataHere rows params next
+  pub data_step : (rows params : List (List ℕ)) (next : ℕ) → data_next line at rows params ≡ Some next → DataHere rows params next
   data_step [] [] next h =
       let (t, e) = byte_step line at 44 next h in
       record { ok = tt; is_rows = refl; is_params = refl; ends = sym e; here = λ r g. byte_then line at 44 r t (moved (at + 1) g (sym e)) }
@@ -361,7 +360,7 @@ module _ (line : List ℕ) (at : ℕ) where
       record { ok = e.ok; is_rows = sym e.is_rows; is_params = sym e.is_params; ends = e.ends; here = e.here }
 
   pub data_taken : (es : List Element) (r : List ℕ) → Each ElementOk es → Here line at (data_then es r)
-      → data_next line at (element_rows at es) (param_rows 0 at es) ≡ At (at + length (data_then es []))
+      → data_next line at (element_rows at es) (param_rows 0 at es) ≡ Some (at + length (data_then es []))
   data_taken [] r ok h = byte_taken line at 45 r h
   data_taken (e ∷ es) r ok h = elements_taken line (e ∷ es) 0 at r ok h
 

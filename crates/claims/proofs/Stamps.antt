@@ -1,9 +1,10 @@
 -- The test of the timestamp, both ways.
-use Rattle.std.specs.Prelude.{if◌then◌else◌}
+use Rattle.std.specs.Prelude.{if◌then◌else◌, Some, None}
 use Prim.Native.Nat.{ℕ, zero, suc, ◌+◌, ◌-◌, ◌*◌, ◌/◌, ◌%◌, ◌^◌, ◌≤◌}
 use mathlib.Core.Path.{◌≡◌, refl, sym, ap, ◌∙◌, subst}
 use mathlib.Core.Bool.{Bool, true, false, not, ◌&&◌}
 use mathlib.Core.List.{List, [], ◌∷◌}
+use Rattle.std.specs.Prelude as std
 use mathlib.Core.Option.{Option, none, some}
 use native.Mathlib.Omega.{arith}
 use lib.Dec.{leb, eqb}
@@ -18,8 +19,6 @@ use Rattle.calendar.proofs.ThereAndBack.{back, shown_seconds}
 use Rattle.output.specs.Numerals.{fixed}
 use Rattle.record.specs.Places.{absent, place}
 use Rattle.record.specs.declared.Place.{Place}
-use Rattle.record.specs.declared.Stamp.{Stamp}
-use Rattle.record.specs.declared.Stamp.TheVariants.{Unstamped, Stamped}
 use Rattle.record.specs.declared.Timestamp as stamped
 use Rattle.grammar.specs.Abnf.{Repeat}
 use Rattle.grammar.specs.Line.{Offset, Timestamp, secfrac_then, offset_then, time_then, timestamp_then, SecfracOk, OffsetOk, FullOk, TimestampOk}
@@ -27,7 +26,6 @@ use Rattle.grammar.specs.Reading.{offset_of, digits_of, stamp_of}
 use Rattle.suits.specs.Suits.{fraction_suits, stamp_suits}
 use Rattle.claims.specs.Texts.{secfrac_of, fraction_len, zone_by, zone_at, written_stamp}
 use Rattle.claims.specs.Holds.{byte_next, stands_at, sign_holds, stamp_holds, len_of, stamp_next}
-use Rattle.claims.specs.declared.Next.TheVariants.{At}
 use Rattle.claims.proofs.Numbers.{digits_again}
 use Rattle.claims.proofs.Moments.{Seen, seen, clock_of, clock_said, texts_ok, zone_minutes, zone_numbers, frac_said, frac_digits, frac_ok, frac_few, frac_nanos, frac_exact, frac_again, hour_again, minute_again, offset_small, full_valid, shows_again}
 use Rattle.claims.proofs.Places.{Here, here_next, here_on, here_byte, here_as, moved, timestamp_plain}
@@ -126,7 +124,7 @@ place_for at none = absent
 place_for at (some t) = place at (length (timestamp_then (some t) []))
 
 module _ (line : List ℕ) (at : ℕ) where
-  record StampHere (p : Place) (s : Stamp) : Type 0 where
+  record StampHere (p : Place) (s : std.Option stamped.Timestamp) : Type 0 where
     pub ok : TimestampOk (written_stamp line p.start s)
     pub is_stamp : stamp_of (written_stamp line p.start s) ≡ s
     pub is_place : place_for at (written_stamp line p.start s) ≡ p
@@ -142,16 +140,16 @@ module _ (line : List ℕ) (at : ℕ) where
   module _ (t : stamped.Timestamp) (few : t.digits ≤ 6) (nanos : t.nanos ≤ 999999999) (exact : t.nanos % 10 ^ (9 - t.digits) ≡ 0)
       (zone : nat_abs t.offset ≤ 1439) (shows : is_shown (shown t.seconds t.offset) ≡ true)
       (sign : sign_holds (get_or line (zone_at at t.digits) 0) t.offset ≡ true)
-      (stands : stands_at line at (timestamp_then (written_stamp line at (Stamped t)) []) ≡ true) where
+      (stands : stands_at line at (timestamp_then (written_stamp line at (Some t)) []) ≡ true) where
     sight : Seen t.seconds t.offset
     sight = seen t.seconds t.offset shows
 
-    full : TimestampOk (written_stamp line at (Stamped t))
+    full : TimestampOk (written_stamp line at (Some t))
     full =
         rw sight.shows
         (texts_ok sight.clock sight.is_valid (secfrac_of t.digits t.nanos) (frac_ok t.digits t.nanos few) _ (zone_ok (get_or line (zone_at at t.digits) 0) (nat_abs t.offset) zone))
 
-    stamp_here : StampHere (place at (length (timestamp_then (written_stamp line at (Stamped t)) []))) (Stamped t)
+    stamp_here : StampHere (place at (length (timestamp_then (written_stamp line at (Some t)) []))) (Some t)
     stamp_here =
         record {
           ok = full;
@@ -167,13 +165,13 @@ module _ (line : List ℕ) (at : ℕ) where
           is_place = refl;
           size = refl;
           here = λ r g.
-              here_as (text_then line at (timestamp_then (written_stamp line at (Stamped t)) []) r stands g)
-              (sym (timestamp_plain (written_stamp line at (Stamped t)) r full));
+              here_as (text_then line at (timestamp_then (written_stamp line at (Some t)) []) r stands g)
+              (sym (timestamp_plain (written_stamp line at (Some t)) r full));
         }
 
-  stamp_sound : (b : Bool) (start len : ℕ) (s : Stamp) → stamp_holds line at (record { present = b; start = start; len = len }) s ≡ true
+  stamp_sound : (b : Bool) (start len : ℕ) (s : std.Option stamped.Timestamp) → stamp_holds line at (record { present = b; start = start; len = len }) s ≡ true
       → StampHere (record { present = b; start = start; len = len }) s
-  stamp_sound b start len Unstamped h =
+  stamp_sound b start len None h =
       let u1 = both (not b && eqb start 0 && eqb len 0) (is_at line at 45) h in
       let u2 = both (not b && eqb start 0) (eqb len 0) u1.0 in
       let u3 = both (not b) (eqb start 0) u2.0 in
@@ -185,10 +183,10 @@ module _ (line : List ℕ) (at : ℕ) where
         size = rw e refl;
         here = λ r g. byte_then line at 44 r u1.1 (moved (at + 1) g (rw e refl));
       }
-  stamp_sound b start len (Stamped t) h =
-      let text = timestamp_then (written_stamp line at (Stamped t)) [] in
+  stamp_sound b start len (Some t) h =
+      let text = timestamp_then (written_stamp line at (Some t)) [] in
       let g = sign_holds (get_or line (zone_at at t.digits) 0) t.offset in
-      let w = stamp_suits (Stamped t) in
+      let w = stamp_suits (Some t) in
       let u1 = both (w && leb t.digits 6 && b && eqb start at && eqb len (length text) && g) (stands_at line at text) h in
       let u2 = both (w && leb t.digits 6 && b && eqb start at && eqb len (length text)) g u1.0 in
       let u3 = both (w && leb t.digits 6 && b && eqb start at) (eqb len (length text)) u2.0 in
@@ -201,16 +199,16 @@ module _ (line : List ℕ) (at : ℕ) where
       let v3 = both (leb t.nanos 999999999 && leb t.digits 9) (eqb x 0) v2.0 in
       let v4 = both (leb t.nanos 999999999) (leb t.digits 9) v3.0 in
       let z = stamp_here t (leb-true t.digits 6 u6.1) (leb-true t.nanos 999999999 v4.0) (eqb-true x 0 v3.1) (leb-true (nat_abs t.offset) 1439 v2.1) v1.1 u2.1 u1.1 in
-      subst (λ (p : Place). StampHere p (Stamped t)) (the_place b start len (length text) u5.1 (eqb-true start at u4.1) (eqb-true len (length text) u3.1)) z
+      subst (λ (p : Place). StampHere p (Some t)) (the_place b start len (length text) u5.1 (eqb-true start at u4.1) (eqb-true len (length text) u3.1)) z
 
-  pub record StampStep (p : Place) (s : Stamp) (next : ℕ) : Type 0 where
+  pub record StampStep (p : Place) (s : std.Option stamped.Timestamp) (next : ℕ) : Type 0 where
     pub ok : TimestampOk (written_stamp line p.start s)
     pub is_stamp : stamp_of (written_stamp line p.start s) ≡ s
     pub is_place : place_for at (written_stamp line p.start s) ≡ p
     pub ends : next ≡ at + length (timestamp_then (written_stamp line p.start s) []) + 1
     pub here : (r : List ℕ) → Here line next r → Here line at (timestamp_then (written_stamp line p.start s) (32 ∷ r))
 
-  pub stamp_step : (p : Place) (s : Stamp) (next : ℕ) → stamp_next line at p s ≡ At next → StampStep p s next
+  pub stamp_step : (p : Place) (s : std.Option stamped.Timestamp) (next : ℕ) → stamp_next line at p s ≡ Some next → StampStep p s next
   unfolding stamp_next
   stamp_step p s next h =
       let (t, g) = if_next (stamp_holds line at p s) (byte_next line (at + len_of p) 32) next h in
@@ -268,7 +266,7 @@ module _ (line : List ℕ) (at : ℕ) where
       )
 
   pub stamp_taken : (t : Option Timestamp) (r : List ℕ) → TimestampOk t → Here line at (timestamp_then t (32 ∷ r))
-      → stamp_next line at (place_for at t) (stamp_of t) ≡ At (at + length (timestamp_then t []) + 1)
+      → stamp_next line at (place_for at t) (stamp_of t) ≡ Some (at + length (timestamp_then t []) + 1)
   unfolding stamp_next
   stamp_taken t r k h =
       let (a, b) = stamp_complete t (32 ∷ r) k h in

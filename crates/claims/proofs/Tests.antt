@@ -1,5 +1,5 @@
 -- What the tests of a claim's pieces say, both ways.
-use Rattle.std.specs.Prelude.{if◌then◌else◌}
+use Rattle.std.specs.Prelude.{if◌then◌else◌, Option, Some, None}
 use Prim.Native.Nat.{ℕ, suc, ◌+◌, ◌≤◌, ◌<◌}
 use mathlib.Core.Path.{◌≡◌, refl, sym, ap, ap₂, ◌∙◌, subst}
 use mathlib.Core.Bool.{Bool, true, false, not, ◌&&◌}
@@ -24,8 +24,6 @@ use Rattle.grammar.specs.Line.{bare, Escaped}
 use Rattle.grammar.specs.Line.Escaped.{nothing, plain, pair}
 use Rattle.grammar.specs.Reading.{place_of}
 use Rattle.claims.specs.Holds.{next_if, on_next, byte_next, every, stands_at, class_at, len_of, text_holds, text_next, well_escaped}
-use Rattle.claims.specs.declared.Next.{Next}
-use Rattle.claims.specs.declared.Next.TheVariants.{Off, At}
 use Rattle.claims.proofs.Told.{told_text}
 use Rattle.claims.proofs.Places.{Here, here_text, here_byte, here_on, here_as, moved}
 
@@ -34,30 +32,30 @@ use Rattle.claims.proofs.Places.{Here, here_text, here_byte, here_on, here_as, m
 pub all_both : (a b : Bool) → a ≡ true → b ≡ true → (a && b) ≡ true
 all_both a b p q = rw (p, q)
 
-pub never : {A : Type 0} {n : ℕ} → Off ≡ At n → A
+pub never : {A : Type 0} {n : ℕ} → None ≡ Some n → A
 never h = let z : true ≡ false = cc in clash z
 
-pub same_at : {m n : ℕ} → At m ≡ At n → m ≡ n
+pub same_at : {m n : ℕ} → Some m ≡ Some n → m ≡ n
 same_at h = cc
 
 -- a test that was passed
-pub next_if_lem : (b : Bool) (m n : ℕ) → next_if b m ≡ At n → (b ≡ true) × (m ≡ n)
+pub next_if_lem : (b : Bool) (m n : ℕ) → next_if b m ≡ Some n → (b ≡ true) × (m ≡ n)
 next_if_lem true m n h = (refl, same_at h)
 next_if_lem false m n h = never h
 
-pub if_next : (b : Bool) (x : Next) (n : ℕ) → (if b then x else Off) ≡ At n → (b ≡ true) × (x ≡ At n)
+pub if_next : (b : Bool) (x : Option ℕ) (n : ℕ) → (if b then x else None) ≡ Some n → (b ≡ true) × (x ≡ Some n)
 if_next true x n h = (refl, h)
 if_next false x n h = never h
 
 -- and a step that was taken
-pub record Onward (x : Next) (f : ℕ → Next) (n : ℕ) : Type 0 where
+pub record Onward (x : Option ℕ) (f : ℕ → Option ℕ) (n : ℕ) : Type 0 where
   pub to : ℕ
-  pub first : x ≡ At to
-  pub second : f to ≡ At n
+  pub first : x ≡ Some to
+  pub second : f to ≡ Some n
 
-pub on_next_lem : (x : Next) (f : ℕ → Next) (n : ℕ) → on_next x f ≡ At n → Onward x f n
-on_next_lem Off f n h = never h
-on_next_lem (At m) f n h = record { to = m; first = refl; second = h }
+pub on_next_lem : (x : Option ℕ) (f : ℕ → Option ℕ) (n : ℕ) → on_next x f ≡ Some n → Onward x f n
+on_next_lem None f n h = never h
+on_next_lem (Some m) f n h = record { to = m; first = refl; second = h }
 
 -- ---- bytes and texts at their places
 
@@ -79,11 +77,11 @@ module _ (line : List ℕ) where
   pub byte_then : (at b : ℕ) (r : List ℕ) → is_at line at (suc b) ≡ true → Here line (at + 1) r → Here line at (suc b ∷ r)
   byte_then at b r h g = record { is = at_cons line at b h ∙ ap (λ (l : List ℕ). suc b ∷ l) g.is }
 
-  pub byte_step : (at b next : ℕ) → byte_next line at (suc b) ≡ At next → (is_at line at (suc b) ≡ true) × (at + 1 ≡ next)
+  pub byte_step : (at b next : ℕ) → byte_next line at (suc b) ≡ Some next → (is_at line at (suc b) ≡ true) × (at + 1 ≡ next)
   unfolding byte_next
   byte_step at b next h = next_if_lem (is_at line at (suc b)) (at + 1) next h
 
-  pub byte_taken : (at b : ℕ) (r : List ℕ) → Here line at (b ∷ r) → byte_next line at b ≡ At (at + 1)
+  pub byte_taken : (at b : ℕ) (r : List ℕ) → Here line at (b ∷ r) → byte_next line at b ≡ Some (at + 1)
   unfolding byte_next
   byte_taken at b r h = rw (byte_stands h)
 
@@ -217,7 +215,7 @@ module _ (line : List ℕ) (most at : ℕ) where
     pub ends : next ≡ at + length (told_text line p) + 1
     pub here : (r : List ℕ) → Here line next r → Here line at (told_text line p ++ (32 ∷ r))
 
-  pub text_step : (p : Place) (next : ℕ) → 1 ≤ most → text_next line most at p ≡ At next → TextStep p next
+  pub text_step : (p : Place) (next : ℕ) → 1 ≤ most → text_next line most at p ≡ Some next → TextStep p next
   unfolding text_next
   text_step p next l h =
       let (t, g) = if_next (text_holds line most at p) (byte_next line (at + len_of p) 32) next h in
@@ -230,7 +228,7 @@ module _ (line : List ℕ) (most at : ℕ) where
         here = λ r g. s.here (32 ∷ r) (byte_then line (at + len_of p) 31 r b (moved (at + len_of p + 1) g (sym e)));
       }
 
-  pub text_taken : (t r : List ℕ) → Repeat 1 most print_us_ascii t → Here line at (t ++ (32 ∷ r)) → text_next line most at (place_of at t) ≡ At (at + length t + 1)
+  pub text_taken : (t r : List ℕ) → Repeat 1 most print_us_ascii t → Here line at (t ++ (32 ∷ r)) → text_next line most at (place_of at t) ≡ Some (at + length t + 1)
   unfolding text_next
   text_taken t r k h =
       let (a, b) = text_complete t (32 ∷ r) k h in

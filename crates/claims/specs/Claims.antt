@@ -1,5 +1,5 @@
 -- The contract of the check: a claim is told yes exactly when it is what the strict grammar gives for the line. No parser and no check is named.
-use Rattle.std.specs.Prelude.{ℕ, ◌≤◌, ◌<◌, ◌≡◌, Bool, true, false, ◌&&◌, List, [], ◌∷◌, map, length, get_or, take}
+use Rattle.std.specs.Prelude.{ℕ, ◌≤◌, ◌<◌, ◌≡◌, Bool, true, false, ◌&&◌, List, [], ◌∷◌, map, length, get_or, take, Result, Ok, Err}
 use Rattle.record.specs.Limits.{line_limit}
 use Rattle.record.specs.Refusals.{refusal_number}
 use Rattle.record.specs.declared.StrictRecord.{StrictRecord}
@@ -7,8 +7,7 @@ use Rattle.record.specs.declared.Refusal.TheVariants.{LineTooLong, Unsuitable, W
 use Rattle.grammar.specs.Line.{Division, Derives}
 use Rattle.grammar.specs.Reading.{data_at, record_of, element_rows, param_rows}
 use Rattle.suits.specs.Suits.{place_suits, suits}
-use Rattle.claims.specs.declared.Checked.{Checked}
-use Rattle.claims.specs.declared.Checked.TheVariants.{Yes, Refused}
+use Rattle.record.specs.declared.Refusal.{Refusal}
 
 -- A strict record and the entries that are counted of both tables.
 pub record Claim : Type 0 where
@@ -43,15 +42,15 @@ claim_suits line r e p elements params =
     suits line r.common e p elements params && place_suits line r.timestamp_text.start r.timestamp_text.len
 
 -- The contract: 1, then 7, then 16 for a wrong claim; else yes.
-pub data Checks (line : List ℕ) (r : StrictRecord) (e p : ℕ) (elements params : List (List ℕ)) (a : Checked) : Type 0 where
-  too_long : line_limit < length line → a ≡ Refused LineTooLong → Checks line r e p elements params a
-  unsuitable : length line ≤ line_limit → claim_suits line r e p elements params ≡ false → a ≡ Refused Unsuitable → Checks line r e p elements params a
-  wrong : length line ≤ line_limit → claim_suits line r e p elements params ≡ true → (Claimed line (claim_in r e p elements params) → ⊥) → a ≡ Refused WrongClaim
+pub data Checks (line : List ℕ) (r : StrictRecord) (e p : ℕ) (elements params : List (List ℕ)) (a : Result Unit Refusal) : Type 0 where
+  too_long : line_limit < length line → a ≡ Err LineTooLong → Checks line r e p elements params a
+  unsuitable : length line ≤ line_limit → claim_suits line r e p elements params ≡ false → a ≡ Err Unsuitable → Checks line r e p elements params a
+  wrong : length line ≤ line_limit → claim_suits line r e p elements params ≡ true → (Claimed line (claim_in r e p elements params) → ⊥) → a ≡ Err WrongClaim
       → Checks line r e p elements params a
-  told_yes : length line ≤ line_limit → claim_suits line r e p elements params ≡ true → Claimed line (claim_in r e p elements params) → a ≡ Yes
+  told_yes : length line ≤ line_limit → claim_suits line r e p elements params ≡ true → Claimed line (claim_in r e p elements params) → a ≡ Ok tt
       → Checks line r e p elements params a
 
 -- the number of each answer, 0 for yes
-abbrev pub checked_number : Checked → ℕ
-checked_number Yes = 0
-checked_number (Refused f) = refusal_number f
+abbrev pub checked_number : Result Unit Refusal → ℕ
+checked_number (Ok t) = 0
+checked_number (Err f) = refusal_number f

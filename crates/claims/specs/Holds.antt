@@ -1,6 +1,6 @@
 -- For private contracts alone: the check of a claim that the code follows, field after field: what is claimed is held against the bytes where it is claimed to stand.
 -- No contract of the service names it. proofs/ show that it holds of the claims of Claims.antt and of no others.
-use Rattle.std.specs.Prelude.{ℕ, zero, suc, ◌+◌, Bool, true, false, not, ◌&&◌, List, [], ◌∷◌, ◌++◌, leb, eqb, ℤ, pos, negsuc, length, get_or, if◌then◌else◌}
+use Rattle.std.specs.Prelude.{ℕ, zero, suc, ◌+◌, Bool, true, false, not, ◌&&◌, List, [], ◌∷◌, ◌++◌, leb, eqb, ℤ, pos, negsuc, length, get_or, if◌then◌else◌, Option, Some, None}
 use Rattle.base.specs.Choose.{within, is_at}
 use Rattle.base.specs.Texts.{text_at, same_text, all_different}
 use Rattle.utf8.specs.Lead.{is_utf8}
@@ -8,11 +8,7 @@ use Rattle.output.specs.Numerals.{width, numeral}
 use Rattle.record.specs.declared.Place.{Place}
 use Rattle.record.specs.declared.Protocol.{Protocol}
 use Rattle.record.specs.declared.Protocol.TheVariants.{Rfc3164, Rfc5424}
-use Rattle.record.specs.declared.Level.{Level}
-use Rattle.record.specs.declared.Level.TheVariants.{Unset, Set}
 use Rattle.record.specs.declared.Span.{Span}
-use Rattle.record.specs.declared.Stamp.{Stamp}
-use Rattle.record.specs.declared.Stamp.TheVariants.{Unstamped, Stamped}
 use Rattle.record.specs.declared.StrictRecord.{StrictRecord}
 use Rattle.grammar.specs.Abnf.{print_us_ascii, sd_name_byte}
 use Rattle.grammar.specs.Line.{bare, timestamp_then}
@@ -20,20 +16,19 @@ use Rattle.grammar.specs.Parse.{is_message}
 use Rattle.suits.specs.Suits.{stamp_suits}
 use Rattle.claims.specs.Claims.{Claim}
 use Rattle.claims.specs.Texts.{version_of, priority_of, zone_at, written_stamp}
-use Rattle.claims.specs.declared.Next.{Next}
-use Rattle.claims.specs.declared.Next.TheVariants.{Off, At}
+use Rattle.record.specs.declared.Timestamp.{Timestamp}
 
 -- ---- one thing after another
 
-abbrev pub next_if : Bool → ℕ → Next
-next_if b at = if b then At at else Off
+abbrev pub next_if : Bool → ℕ → Option ℕ
+next_if b at = if b then Some at else None
 
-abbrev pub on_next : Next → (ℕ → Next) → Next
-on_next Off f = Off
-on_next (At n) f = f n
+abbrev pub on_next : Option ℕ → (ℕ → Option ℕ) → Option ℕ
+on_next None f = None
+on_next (Some n) f = f n
 
 -- the byte b
-unfoldable pub byte_next : List ℕ → ℕ → ℕ → Next
+unfoldable pub byte_next : List ℕ → ℕ → ℕ → Option ℕ
 byte_next line at b = next_if (is_at line at b) (at + 1)
 
 -- every byte passes the test
@@ -51,9 +46,9 @@ class_at line most p at len = within 1 most len && leb (at + len) (length line) 
 
 -- ---- PRI VERSION SP: the digits of the numbers
 
-abbrev pub level_holds : ℕ → Level → Bool
-level_holds most Unset = false
-level_holds most (Set n) = leb n most
+abbrev pub level_holds : ℕ → Option ℕ → Bool
+level_holds most None = false
+level_holds most (Some n) = leb n most
 
 abbrev pub protocol_holds : Protocol → Bool
 protocol_holds Rfc3164 = false
@@ -62,7 +57,7 @@ protocol_holds (Rfc5424 v) = within 1 999 v
 abbrev pub head_text : ℕ → ℕ → List ℕ
 head_text p v = 60 ∷ (numeral p ++ (62 ∷ (numeral v ++ (32 ∷ []))))
 
-unfoldable pub head_next : List ℕ → Level → Level → Protocol → Next
+unfoldable pub head_next : List ℕ → Option ℕ → Option ℕ → Protocol → Option ℕ
 head_next line f s p =
     next_if (level_holds 23 f && level_holds 7 s && protocol_holds p && stands_at line 0 (head_text (priority_of f s) (version_of p))) (width (priority_of f s) + width (version_of p) + 3)
 
@@ -74,23 +69,23 @@ sign_holds b (pos zero) = true
 sign_holds b (pos (suc n)) = not (eqb b 90) && not (eqb b 45)
 sign_holds b (negsuc n) = not (eqb b 90) && eqb b 45
 
-abbrev pub stamp_holds : List ℕ → ℕ → Place → Stamp → Bool
-stamp_holds line at p Unstamped = not p.present && eqb p.start 0 && eqb p.len 0 && is_at line at 45
-stamp_holds line at p (Stamped t) =
-    stamp_suits (Stamped t)
+abbrev pub stamp_holds : List ℕ → ℕ → Place → Option Timestamp → Bool
+stamp_holds line at p None = not p.present && eqb p.start 0 && eqb p.len 0 && is_at line at 45
+stamp_holds line at p (Some t) =
+    stamp_suits (Some t)
     && leb t.digits 6
     && p.present
     && eqb p.start at
-    && eqb p.len (length (timestamp_then (written_stamp line at (Stamped t)) []))
+    && eqb p.len (length (timestamp_then (written_stamp line at (Some t)) []))
     && sign_holds (get_or line (zone_at at t.digits) 0) t.offset
-    && stands_at line at (timestamp_then (written_stamp line at (Stamped t)) [])
+    && stands_at line at (timestamp_then (written_stamp line at (Some t)) [])
 
 -- how many bytes a place takes: that of an absent text is "-"
 abbrev pub len_of : Place → ℕ
 len_of p = if p.present then p.len else 1
 
-unfoldable pub stamp_next : List ℕ → ℕ → Place → Stamp → Next
-stamp_next line at p stamp = if stamp_holds line at p stamp then byte_next line (at + len_of p) 32 else Off
+unfoldable pub stamp_next : List ℕ → ℕ → Place → Option Timestamp → Option ℕ
+stamp_next line at p stamp = if stamp_holds line at p stamp then byte_next line (at + len_of p) 32 else None
 
 -- ---- HOSTNAME SP APP-NAME SP PROCID SP MSGID SP
 
@@ -100,16 +95,16 @@ text_holds line most at p =
     if p.present then eqb p.start at && class_at line most print_us_ascii at p.len && not (eqb p.len 1 && is_at line at 45)
     else eqb p.start 0 && eqb p.len 0 && is_at line at 45
 
-unfoldable pub text_next : List ℕ → ℕ → ℕ → Place → Next
-text_next line most at p = if text_holds line most at p then byte_next line (at + len_of p) 32 else Off
+unfoldable pub text_next : List ℕ → ℕ → ℕ → Place → Option ℕ
+text_next line most at p = if text_holds line most at p then byte_next line (at + len_of p) 32 else None
 
 -- ---- HEADER SP
 
-abbrev pub names_next : List ℕ → ℕ → Place → Place → Place → Next
+abbrev pub names_next : List ℕ → ℕ → Place → Place → Place → Option ℕ
 names_next line at app procid msgid =
     on_next (text_next line 48 at app) λ b. on_next (text_next line 128 b procid) λ c. text_next line 32 c msgid
 
-abbrev pub header_next : List ℕ → StrictRecord → Next
+abbrev pub header_next : List ℕ → StrictRecord → Option ℕ
 header_next line r =
     let c = r.common in
     on_next (head_next line c.facility c.severity c.protocol) λ a.
@@ -137,27 +132,27 @@ abbrev pub value_holds : List ℕ → ℕ → ℕ → Bool
 value_holds line at m = value_at line at m && is_at line (at + m) 34
 
 -- the entry of a parameter of element k, whose space is at `at`
-unfoldable pub param_next : List ℕ → ℕ → ℕ → List ℕ → Next
+unfoldable pub param_next : List ℕ → ℕ → ℕ → List ℕ → Option ℕ
 param_next line k at row =
     let n = get_or row 2 0 in
     let m = get_or row 4 0 in
     next_if (is_at line at 32 && same_text row (k ∷ (at + 1) ∷ n ∷ (at + n + 3) ∷ m ∷ []) && name_holds line (at + 1) n && value_holds line (at + n + 3) m) (at + n + m + 4)
 
 -- the entries of the parameters of element k
-abbrev pub params_next : List ℕ → ℕ → ℕ → List (List ℕ) → Next
-params_next line k at [] = At at
+abbrev pub params_next : List ℕ → ℕ → ℕ → List (List ℕ) → Option ℕ
+params_next line k at [] = Some at
 params_next line k at (row ∷ rows) = on_next (param_next line k at row) λ b. params_next line k b rows
 
 -- the entry of an element, whose '[' is at `at`: it goes on behind the id
-unfoldable pub id_next : List ℕ → ℕ → List ℕ → Next
+unfoldable pub id_next : List ℕ → ℕ → List ℕ → Option ℕ
 id_next line at row =
     let n = get_or row 1 0 in
     next_if (is_at line at 91 && same_text row ((at + 1) ∷ n ∷ []) && class_at line 32 sd_name_byte (at + 1) n) (at + n + 1)
 
 -- no entry is left
-abbrev pub nothing_left : List (List ℕ) → ℕ → Next
-nothing_left [] at = At at
-nothing_left (row ∷ rows) at = Off
+abbrev pub nothing_left : List (List ℕ) → ℕ → Option ℕ
+nothing_left [] at = Some at
+nothing_left (row ∷ rows) at = None
 
 -- the entries in front that are of element k, and those behind them
 abbrev pub front : ℕ → List (List ℕ) → List (List ℕ)
@@ -169,7 +164,7 @@ rest k [] = []
 rest k (row ∷ rows) = if eqb (get_or row 0 0) k then rest k rows else row ∷ rows
 
 -- the entries of the elements from element k on, and of their parameters
-abbrev pub elements_next : List ℕ → ℕ → ℕ → List (List ℕ) → List (List ℕ) → Next
+abbrev pub elements_next : List ℕ → ℕ → ℕ → List (List ℕ) → List (List ℕ) → Option ℕ
 elements_next line k at [] params = nothing_left params at
 elements_next line k at (row ∷ rows) params =
     on_next (id_next line at row) λ a.
@@ -177,7 +172,7 @@ elements_next line k at (row ∷ rows) params =
     on_next (byte_next line b 93) λ c. elements_next line (k + 1) c rows (rest k params)
 
 -- no element is "-"
-abbrev pub data_next : List ℕ → ℕ → List (List ℕ) → List (List ℕ) → Next
+abbrev pub data_next : List ℕ → ℕ → List (List ℕ) → List (List ℕ) → Option ℕ
 data_next line at [] params = on_next (nothing_left params at) λ a. byte_next line a 45
 data_next line at (row ∷ rows) params = elements_next line 0 at (row ∷ rows) params
 
@@ -195,9 +190,9 @@ message_holds line at has m =
 
 -- ---- all of it
 
-abbrev pub end_holds : List ℕ → Claim → Next → Bool
-end_holds line c Off = false
-end_holds line c (At at) = all_different (ids_at line c.elements) && message_holds line at c.reading.has_message c.reading.common.message
+abbrev pub end_holds : List ℕ → Claim → Option ℕ → Bool
+end_holds line c None = false
+end_holds line c (Some at) = all_different (ids_at line c.elements) && message_holds line at c.reading.has_message c.reading.common.message
 
 unfoldable pub holds : List ℕ → Claim → Bool
 holds line c = end_holds line c (on_next (header_next line c.reading) λ a. data_next line a c.elements c.params)

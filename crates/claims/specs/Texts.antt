@@ -1,38 +1,34 @@
 -- The texts of numbers and of an instant, which are written from them. The check has them for private contracts alone; by them the writer says what it writes.
-use Rattle.std.specs.Prelude.{ℕ, zero, suc, ◌+◌, ◌-◌, ◌*◌, ◌/◌, ◌%◌, ◌^◌, List, eqb, nat_abs, get_or, if◌then◌else◌}
+use Rattle.std.specs.Prelude.{ℕ, zero, suc, ◌+◌, ◌-◌, ◌*◌, ◌/◌, ◌%◌, ◌^◌, List, eqb, nat_abs, get_or, if◌then◌else◌, Some, None}
+use Rattle.std.specs.Prelude as std
 use Rattle.std.proofs.Math.Option.{Option, none, some}
 use Rattle.calendar.specs.Instant.{shown}
 use Rattle.calendar.specs.declared.DateTime.{DateTime}
-use Rattle.calendar.specs.declared.Shown.{Shown}
-use Rattle.calendar.specs.declared.Shown.TheVariants.{Outside, At}
 use Rattle.output.specs.Numerals.{fixed}
+use Rattle.record.specs.declared.Timestamp as instant
 use Rattle.record.specs.declared.Protocol.{Protocol}
 use Rattle.record.specs.declared.Protocol.TheVariants.{Rfc3164, Rfc5424}
-use Rattle.record.specs.declared.Level.{Level}
-use Rattle.record.specs.declared.Level.TheVariants.{Unset, Set}
-use Rattle.record.specs.declared.Stamp.{Stamp}
-use Rattle.record.specs.declared.Stamp.TheVariants.{Unstamped, Stamped}
 use Rattle.grammar.specs.Line.{Offset, Timestamp}
 
 -- ---- PRI VERSION
 
-abbrev pub level_of : Level → ℕ
-level_of Unset = 0
-level_of (Set n) = n
+abbrev pub level_of : std.Option ℕ → ℕ
+level_of None = 0
+level_of (Some n) = n
 
 abbrev pub version_of : Protocol → ℕ
 version_of Rfc3164 = 0
 version_of (Rfc5424 v) = v
 
-abbrev pub priority_of : Level → Level → ℕ
+abbrev pub priority_of : std.Option ℕ → std.Option ℕ → ℕ
 priority_of facility severity = level_of facility * 8 + level_of severity
 
 -- ---- TIMESTAMP
 
 -- the clock that an instant shows (where it shows none, refusal 7 was given)
-abbrev pub clock_in : Shown → DateTime
-clock_in Outside = record { year = 0; month = 0; day = 0; hour = 0; minute = 0; second = 0 }
-clock_in (At c) = c
+abbrev pub clock_in : std.Option DateTime → DateTime
+clock_in None = record { year = 0; month = 0; day = 0; hour = 0; minute = 0; second = 0 }
+clock_in (Some c) = c
 
 -- exactly so many digits; with none, no point
 abbrev pub secfrac_of : ℕ → ℕ → Option (List ℕ)
@@ -67,7 +63,7 @@ clock_texts c f o =
 abbrev pub zone_at : ℕ → ℕ → ℕ
 zone_at at digits = at + (19 + fraction_len digits)
 
-abbrev pub written_stamp : List ℕ → ℕ → Stamp → Option Timestamp
-written_stamp line at Unstamped = none
-written_stamp line at (Stamped t) =
+abbrev pub written_stamp : List ℕ → ℕ → std.Option instant.Timestamp → Option Timestamp
+written_stamp line at None = none
+written_stamp line at (Some t) =
     some (clock_texts (clock_in (shown t.seconds t.offset)) (secfrac_of t.digits t.nanos) (zone_by (get_or line (zone_at at t.digits) 0) (nat_abs t.offset)))

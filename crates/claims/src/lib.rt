@@ -5,29 +5,14 @@
 ghost use Rattle.std.specs.Prelude.{◌≡◌, ◌<◌};
 ghost use Rattle.claims.specs.Holds.{byte_next};
 
-use record::Refusal;
-
-// What the check of a claim answers: that it is the line's reading, or why it is refused.
-#[derive(Clone, Copy)]
-pub enum Checked {
-    Yes,
-    Refused(Refusal),
-}
-
-// Where in the line a check goes on; off: something was not as claimed.
-#[derive(Clone, Copy)]
-pub enum Next {
-    Off,
-    At(usize),
-}
-
 // The byte `b`.
-pub fn byte_next(line: &[u8], at: usize, b: u8) -> Next
+pub fn byte_next(line: &[u8], at: usize, b: u8) -> Option<usize>
     requires { 0 < b }
     ensures { result ≡ byte_next line.now at b }
 {
-    if !base::is_at(line, at, b) {
-        return Next::Off;
+    if base::is_at(line, at, b) {
+        Some(at + 1)
+    } else {
+        None
     }
-    Next::At(at + 1)
 }

@@ -1,5 +1,5 @@
 -- Two readings: nothing differs exactly where they are alike, and exchanging them changes neither the fields nor the position (specs/Laws.antt).
-use Rattle.std.specs.Prelude.{if◌then◌else◌}
+use Rattle.std.specs.Prelude.{if◌then◌else◌, Option, Some, None}
 use Prim.Native.Nat.{ℕ, zero, suc, ◌≤◌, ◌<◌}
 use mathlib.Core.Path.{◌≡◌, refl, sym, ap, ap₂, ◌∙◌}
 use mathlib.Core.Bool.{Bool, true, false, not, ◌&&◌, ◌||◌}
@@ -15,8 +15,6 @@ use Rattle.base.proofs.Tests.{by_test, by_if, both, clash}
 use Rattle.base.proofs.Texts.{same_is, same_self}
 use Rattle.record.specs.declared.Protocol.{Protocol}
 use Rattle.record.specs.declared.Protocol.TheVariants.{Rfc3164, Rfc5424}
-use Rattle.record.specs.declared.Level.{Level}
-use Rattle.record.specs.declared.Level.TheVariants.{Unset, Set}
 use Rattle.differ.specs.declared.Differences.{Differences}
 use Rattle.differ.specs.Seen.{Text, Time, Pair, Seen}
 use Rattle.differ.specs.Differences.{same_protocol, same_level, same_signed, same_time, same_given, same_pair, occurs, before, has, odd_at, id_at, same_id_at, differs_at, positions, all_positions, first_position, elements_differ, differing, bits, differences_of}
@@ -68,15 +66,15 @@ of_protocol = record { self = self; is = is }
 of_level : Tells same_level
 of_level = record { self = self; is = is }
   where
-    self : (l : Level) → same_level l l ≡ true
-    self Unset = refl
-    self (Set n) = eq-eqb n n refl
+    self : (l : Option ℕ) → same_level l l ≡ true
+    self None = refl
+    self (Some n) = eq-eqb n n refl
 
-    is : (l m : Level) → same_level l m ≡ true → l ≡ m
-    is Unset Unset h = refl
-    is Unset (Set n) h = clash (sym h)
-    is (Set m) Unset h = clash (sym h)
-    is (Set m) (Set n) h = ap Set (eqb-true m n h)
+    is : (l m : Option ℕ) → same_level l m ≡ true → l ≡ m
+    is None None h = refl
+    is None (Some n) h = clash (sym h)
+    is (Some m) None h = clash (sym h)
+    is (Some m) (Some n) h = ap Some (eqb-true m n h)
 
 of_signed : Tells same_signed
 of_signed = record { self = self; is = is }

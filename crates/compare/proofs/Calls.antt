@@ -1,4 +1,5 @@
 -- What a user would ask of calls (specs/Laws.antt): one result, and what it says of the readings.
+use Rattle.std.specs.Prelude.{Result, Ok, Err}
 use Prim.Native.Nat.{ℕ, ◌<◌}
 use mathlib.Core.Path.{◌≡◌, refl, sym, ap, ◌∙◌}
 use mathlib.Core.Bool.{Bool, true, false, not}
@@ -31,6 +32,7 @@ use Rattle.compare.specs.declared.Compared.{Compared}
 use Rattle.compare.specs.declared.Compared.TheVariants.{Refused, Done}
 use Rattle.compare.proofs.Alike.{alike_nothing, nothing_alike, same_nowhere, exchange_keeps, occurs_one}
 use Rattle.compare.proofs.Lines.{tables_suit_lem}
+use Rattle.record.specs.declared.Refusal.{Refusal}
 
 -- ---- one result
 
@@ -88,19 +90,19 @@ of (Done d) = d
 of (Refused k f) = nothing
 
 -- both lines are read, and what differs is of their readings
-record Known (x y : Reading) (d D : Differences) : Type 0 where
+record Known (x y : Result Reading Refusal) (d D : Differences) : Type 0 where
   read₁ : Record
   ids₁ : ℕ
   params₁ : ℕ
-  is₁ : loose.Read read₁ ids₁ params₁ ≡ x
+  is₁ : Ok (loose.Read read₁ ids₁ params₁) ≡ x
   is : d ≡ D
 
-done_known : (x y : Reading) (d D : Differences) → Done d ≡ compared_of x y D → Known x y d D
-done_known (loose.Refused f) y d D h = clash (ap is_done h)
-done_known (loose.Whole r) y d D h = clash (ap is_done h)
-done_known (loose.Read r m n) (loose.Refused f) d D h = clash (ap is_done h)
-done_known (loose.Read r m n) (loose.Whole s) d D h = clash (ap is_done h)
-done_known (loose.Read r m n) (loose.Read s k l) d D h = record { read₁ = r; ids₁ = m; params₁ = n; is₁ = refl; is = ap of h }
+done_known : (x y : Result Reading Refusal) (d D : Differences) → Done d ≡ compared_of x y D → Known x y d D
+done_known (Err f) y d D h = clash (ap is_done h)
+done_known (Ok (loose.Whole r)) y d D h = clash (ap is_done h)
+done_known (Ok (loose.Read r m n)) (Err f) d D h = clash (ap is_done h)
+done_known (Ok (loose.Read r m n)) (Ok (loose.Whole s)) d D h = clash (ap is_done h)
+done_known (Ok (loose.Read r m n)) (Ok (loose.Read s k l)) d D h = record { read₁ = r; ids₁ = m; params₁ = n; is₁ = refl; is = ap of h }
 
 module _ {line₁ line₂ : List ℕ} {variant year : ℕ} {offset : ℤ} {e₁ p₁ e₂ p₂ e₁' p₁' e₂' p₂' : List (List ℕ)} {d : Differences}
     (h : Compares line₁ line₂ variant year offset e₁ p₁ e₂ p₂ (Done d) e₁' p₁' e₂' p₂') where
@@ -119,7 +121,7 @@ module _ {line₁ line₂ : List ℕ} {variant year : ℕ} {offset : ℤ} {e₁ 
   done_settings : settings_ok variant year offset ≡ true
   done_settings =
       let k = known in
-      (passes (loose.Read k.read₁ k.ids₁ k.params₁) (read_done k.read₁ k.ids₁ k.params₁) line₁ variant year offset (length e₁) (length p₁) k.is₁).settings
+      (passes (Ok (loose.Read k.read₁ k.ids₁ k.params₁)) (read_done k.read₁ k.ids₁ k.params₁) line₁ variant year offset (length e₁) (length p₁) k.is₁).settings
 
   done_alike : d.fields ≡ 0 → Alike first second
   done_alike z =

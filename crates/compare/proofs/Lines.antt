@@ -1,4 +1,5 @@
 -- Two lines that were judged: what is asked of each, and what the call leaves.
+use Rattle.std.specs.Prelude.{Result, Ok, Err}
 use Prim.Native.Nat.{ℕ, ◌+◌, ◌*◌, ◌≤◌, ◌<◌}
 use mathlib.Core.Path.{◌≡◌, refl, sym, ap, ap₂, ◌∙◌, subst}
 use mathlib.Core.Bool.{true, false, ◌&&◌}
@@ -50,6 +51,7 @@ use Rattle.compare.specs.declared.CompareAnswer.{CompareAnswer}
 use Rattle.compare.specs.declared.Compared.{Compared}
 use Rattle.compare.specs.declared.Compared.TheVariants.{Done}
 use Rattle.compare.proofs.Answers.{refused_any, refused_keeps}
+use Rattle.record.specs.declared.Refusal.{Refusal}
 
 -- ---- the rows of a text
 
@@ -102,7 +104,7 @@ module _ (line : List ℕ) (variant year : ℕ) (o : ℤ) (f : SFits w32 o) (e�
     pub seen : seen_in line (outcome_of line variant year o) ≡ seen_by line (line_of j) e₁
 
   module _ (rules : Rules) (r : Record) (end at n m : ℕ) (h : Fits line variant year o (length e₀) (length p₀) rules r end at n m) (e₁ p₁ : List (List ℕ))
-      (reads : Reads line variant year o e₀ p₀ (loose.Read r n m) e₁ p₁) where
+      (reads : Reads line variant year o e₀ p₀ (Ok (loose.Read r n m)) e₁ p₁) where
     abbrev s : List ℕ
     s = take end line
 
@@ -186,10 +188,10 @@ module _ (line : List ℕ) (variant year : ℕ) (o : ℤ) (f : SFits w32 o) (e�
     judged_answer = answer_is line variant year o f (length e₀) (length p₀) j c (reading_of j) refl
 
   -- no answer that is settled reads the line: the tables stay as they are
-  settled_not : (x : Reading) → ((rows old : List (List ℕ)) → old ≡ table_read x rows old) → is_read x ≡ true → ⊥
-  settled_not (loose.Read r n m) k q = let z : ◌≡◌ {A = ℕ} 0 1 = ap length (k ([] ∷ []) []) in omega arith
-  settled_not (loose.Whole r) k q = clash (sym q)
-  settled_not (loose.Refused g) k q = clash (sym q)
+  settled_not : (x : Result Reading Refusal) → ((rows old : List (List ℕ)) → old ≡ table_read x rows old) → is_read x ≡ true → ⊥
+  settled_not (Ok (loose.Read r n m)) k q = let z : ◌≡◌ {A = ℕ} 0 1 = ap length (k ([] ∷ []) []) in omega arith
+  settled_not (Ok (loose.Whole r)) k q = clash (sym q)
+  settled_not (Err g) k q = clash (sym q)
 
   pub judged_known : (j : Judged) → Judges line variant year (to_z w32 (of_z w32 o)) (length e₀) (length p₀) j → is_read (reading_of j) ≡ true → (e₁ p₁ : List (List ℕ)) → FilledIn line j e₀ p₀ e₁ p₁ → Known j e₁ p₁
   judged_known (Settled x) c q e₁ p₁ g = absurd (settled_not x (here (Settled x) c).is.keeps q)
@@ -204,24 +206,24 @@ module _ (line : List ℕ) (variant year : ℕ) (o : ℤ) (f : SFits w32 o) (e�
 
 -- ---- two lines
 
-read_table : (x : Reading) → is_read x ≡ true → (rows old : List (List ℕ)) → table_read x rows old ≡ filled rows old
-read_table (loose.Read r n m) q xs old = refl
-read_table (loose.Whole r) q xs old = clash (sym q)
-read_table (loose.Refused g) q xs old = clash (sym q)
+read_table : (x : Result Reading Refusal) → is_read x ≡ true → (rows old : List (List ℕ)) → table_read x rows old ≡ filled rows old
+read_table (Ok (loose.Read r n m)) q xs old = refl
+read_table (Ok (loose.Whole r)) q xs old = clash (sym q)
+read_table (Err g) q xs old = clash (sym q)
 
-both_done : (x y : Reading) (d : Differences) → is_read x ≡ true → is_read y ≡ true → Done d ≡ compared_of x y d
-both_done (loose.Read r n m) (loose.Read s k l) d p q = refl
-both_done (loose.Read r n m) (loose.Whole s) d p q = clash (sym q)
-both_done (loose.Read r n m) (loose.Refused g) d p q = clash (sym q)
-both_done (loose.Whole r) y d p q = clash (sym p)
-both_done (loose.Refused g) y d p q = clash (sym p)
+both_done : (x y : Result Reading Refusal) (d : Differences) → is_read x ≡ true → is_read y ≡ true → Done d ≡ compared_of x y d
+both_done (Ok (loose.Read r n m)) (Ok (loose.Read s k l)) d p q = refl
+both_done (Ok (loose.Read r n m)) (Ok (loose.Whole s)) d p q = clash (sym q)
+both_done (Ok (loose.Read r n m)) (Err g) d p q = clash (sym q)
+both_done (Ok (loose.Whole r)) y d p q = clash (sym p)
+both_done (Err g) y d p q = clash (sym p)
 
 module _ (line₁ line₂ : List ℕ) (variant year : ℕ) (o : ℤ) (f : SFits w32 o) (e₁ p₁ e₂ p₂ : List (List ℕ)) (j₁ j₂ : Judged)
     (c₁ : Judges line₁ variant year (to_z w32 (of_z w32 o)) (length e₁) (length p₁) j₁) (c₂ : Judges line₂ variant year (to_z w32 (of_z w32 o)) (length e₂) (length p₂) j₂) where
   answers : (d : Differences) → compared_of (reading_of j₁) (reading_of j₂) d
       ≡ compared_of (answered line₁ variant year o (length e₁) (length p₁)) (answered line₂ variant year o (length e₂) (length p₂)) d
   answers d =
-      ap₂ (λ (x y : Reading). compared_of x y d) (judged_answer line₁ variant year o f e₁ p₁ j₁ c₁) (judged_answer line₂ variant year o f e₂ p₂ j₂ c₂)
+      ap₂ (λ (x y : Result Reading Refusal). compared_of x y d) (judged_answer line₁ variant year o f e₁ p₁ j₁ c₁) (judged_answer line₂ variant year o f e₂ p₂ j₂ c₂)
 
   pub compared_refused : (is_read (reading_of j₁) && is_read (reading_of j₂)) ≡ false → (c : Compared) → c ≡ compared_of (reading_of j₁) (reading_of j₂) nothing
       → Compares line₁ line₂ variant year o e₁ p₁ e₂ p₂ c e₁ p₁ e₂ p₂

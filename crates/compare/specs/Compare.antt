@@ -1,5 +1,5 @@
 -- The comparison of two lines: the first line's refusals and then the second's, in the order of the numbers; what differs; and the tables of both.
-use Rattle.std.specs.Prelude.{ℕ, ◌≡◌, List, [], length, ℤ}
+use Rattle.std.specs.Prelude.{ℕ, ◌≡◌, List, [], length, ℤ, Result, Ok, Err}
 use Rattle.base.specs.Fills.{filled}
 use Rattle.record.specs.Records.{message_alone}
 use Rattle.record.specs.declared.Reading.{Reading}
@@ -13,22 +13,23 @@ use Rattle.compare.specs.declared.Compared.{Compared}
 use Rattle.compare.specs.declared.Compared.TheVariants.{Refused, Done}
 use Rattle.differ.specs.Seen.{Seen, seen_of}
 use Rattle.differ.specs.Differences.{differences_of}
+use Rattle.record.specs.declared.Refusal.{Refusal}
 
 -- no field, no position, no pair
 abbrev pub nothing : Differences
 nothing = record { fields = 0; position = 0; pair_line = 0; pair_entry = 0 }
 
 -- a line that has no reading is refused with 4
-abbrev pub second_of : Reading → Differences → Compared
-second_of (loose.Refused f) d = Refused 2 f
-second_of (loose.Whole r) d = Refused 2 NoReading
-second_of (loose.Read r e p) d = Done d
+abbrev pub second_of : Result Reading Refusal → Differences → Compared
+second_of (Err f) d = Refused 2 f
+second_of (Ok (loose.Whole r)) d = Refused 2 NoReading
+second_of (Ok (loose.Read r e p)) d = Done d
 
 -- the first line's refusal, then the second's; else what differs
-abbrev pub compared_of : Reading → Reading → Differences → Compared
-compared_of (loose.Refused f) y d = Refused 1 f
-compared_of (loose.Whole r) y d = Refused 1 NoReading
-compared_of (loose.Read r e p) y d = second_of y d
+abbrev pub compared_of : Result Reading Refusal → Result Reading Refusal → Differences → Compared
+compared_of (Err f) y d = Refused 1 f
+compared_of (Ok (loose.Whole r)) y d = Refused 1 NoReading
+compared_of (Ok (loose.Read r e p)) y d = second_of y d
 
 -- what a line is read as, if it is (else what is asked of no one: the line as its message)
 abbrev pub seen_in : List ℕ → Outcome → Seen

@@ -1,13 +1,11 @@
 // Comparing two lines, both read by the loose exact reader under one set of settings: which fields differ.
 #![tactic(auto)]
 
-ghost use Rattle.std.specs.Prelude.{◌≡◌, ◌&&◌};
+ghost use Rattle.std.specs.Prelude.{◌≡◌};
 ghost use Rattle.record.specs.Params.{rows};
-ghost use Rattle.loose.specs.Judging.{reading_of};
-ghost use Rattle.compare.specs.Compare.{nothing, second_of, compared_of, Compares};
-ghost use Rattle.compare.specs.Steps.{is_read, line_of};
+ghost use Rattle.compare.specs.Compare.{Compares};
+ghost use Rattle.compare.specs.Steps.{refusal_of, line_of};
 ghost use Rattle.compare.specs.Numbers.{answer_of, Answers};
-ghost use Rattle.compare.specs.declared.Compared.TheVariants.{Done};
 
 use differ::{Differences, Line};
 use loose::Judged;
@@ -20,54 +18,15 @@ pub enum Compared {
     Done(Differences),
 }
 
-fn is_read(r: Reading) -> bool
-    ensures { result ≡ is_read r }
+// Why a line is refused, if it is: with 4 where it has no reading.
+fn refusal_of(r: Result<Reading, Refusal>) -> Option<Refusal>
+    ensures { result ≡ refusal_of r }
 {
     match r {
-        Reading::Read(_, _, _) => true,
-        Reading::Whole(_) => false,
-        Reading::Refused(_) => false,
+        Ok(Reading::Read(_, _, _)) => None,
+        Ok(Reading::Whole(_)) => Some(Refusal::NoReading),
+        Err(refusal) => Some(refusal),
     }
-}
-
-// The second line's refusal, where the first line has none; 4 where the line has no reading.
-fn second_refused(r: Reading) -> Compared
-    ensures { result ≡ second_of r nothing }
-{
-    match r {
-        Reading::Read(_, _, _) => Compared::Done(Differences {
-            fields: 0,
-            position: 0,
-            pair_line: 0,
-            pair_entry: 0,
-        }),
-        Reading::Whole(_) => Compared::Refused(2, Refusal::NoReading),
-        Reading::Refused(refusal) => Compared::Refused(2, refusal),
-    }
-}
-
-fn first_refused(r: Reading, second: Reading) -> Compared
-    ensures { result ≡ compared_of r second nothing }
-{
-    match r {
-        Reading::Read(_, _, _) => second_refused(second),
-        Reading::Whole(_) => Compared::Refused(1, Refusal::NoReading),
-        Reading::Refused(refusal) => Compared::Refused(1, refusal),
-    }
-}
-
-// ---- for the prover alone: `compare` names the parameter tables and so only calls
-
-fn both_read(a: Judged, b: Judged) -> bool
-    ensures { result ≡ (is_read (reading_of a) && is_read (reading_of b)) }
-{
-    is_read(loose::reading_of(a)) & is_read(loose::reading_of(b))
-}
-
-fn refused(a: Judged, b: Judged) -> Compared
-    ensures { result ≡ compared_of (reading_of a) (reading_of b) nothing }
-{
-    first_refused(loose::reading_of(a), loose::reading_of(b))
 }
 
 fn line_of(judged: Judged) -> Line
@@ -96,12 +55,6 @@ fn line_of(judged: Judged) -> Line
     }
 }
 
-fn done(d: Differences) -> Compared
-    ensures { result ≡ Done d }
-{
-    Compared::Done(d)
-}
-
 // Both lines are judged before a table is touched, so that a refused call changes nothing.
 pub fn compare(
     line1: &[u8],
@@ -122,15 +75,17 @@ pub fn compare(
     let p2 = params2.len();
     let first = loose::judge(line1, variant, year, offset, e1, p1);
     let second = loose::judge(line2, variant, year, offset, e2, p2);
-    if both_read(first, second) {
-        loose::fill(line1, first, elements1, params1);
-        loose::fill(line2, second, elements2, params2);
-        let a = line_of(first);
-        let b = line_of(second);
-        let d = differ::differ_in(line1, a, elements1, line2, b, elements2);
-        return done(d);
+    if let Some(refusal) = refusal_of(loose::reading_of(first)) {
+        return Compared::Refused(1, refusal);
     }
-    refused(first, second)
+    if let Some(refusal) = refusal_of(loose::reading_of(second)) {
+        return Compared::Refused(2, refusal);
+    }
+    loose::fill(line1, first, elements1, params1);
+    loose::fill(line2, second, elements2, params2);
+    let a = line_of(first);
+    let b = line_of(second);
+    Compared::Done(differ::differ_in(line1, a, elements1, line2, b, elements2))
 }
 
 // As a C caller gets it: the number of a refusal (0: none) and the line that is refused, 1 or 2; or what differs.
@@ -150,7 +105,7 @@ fn answer_of(c: Compared) -> CompareAnswer
 {
     match c {
         Compared::Refused(line, refusal) => CompareAnswer {
-            number: record::refusal_number(refusal),
+            number: u32::from(refusal),
             line,
             fields: 0,
             pair_line: 0,

@@ -1,7 +1,7 @@
 -- Worked examples, computed from the definitions.
+use Rattle.std.specs.Prelude.{Some, None}
 use Prim.Native.Nat.{ℕ}
 use mathlib.Core.Path.{◌≡◌, refl}
-use mathlib.Core.Bool.{true, false}
 use mathlib.Core.List.{List, [], ◌∷◌, map}
 use Rattle.base.specs.Bytes.{bytes}
 use Rattle.record.specs.declared.Refusal.TheVariants.{LineTooLong, NoReading}
@@ -10,7 +10,7 @@ use Rattle.frames.specs.declared.Task.TheVariants.{More, Read, Refuse, Failed}
 use Rattle.compare.specs.declared.Compared.{Compared}
 use Rattle.compare.specs.declared.Compared.TheVariants.{Refused, Done}
 use Rattle.comparer.specs.Text.{shown_of, name_text, spaced, levels_text, places_text, ids_text, names_text, named_text, quoted_text, pair_text, elements_text, fields_text, refused_text, done_text, answer_text, line_text}
-use Rattle.comparer.specs.Turns.{is_line, line_len}
+use Rattle.comparer.specs.Turns.{line_of}
 
 -- with the pair `ms` and `]`
 told : Compared → List ℕ
@@ -52,5 +52,5 @@ shown : map shown_of (0 ∷ 4294967295 ∷ 4294967296 ∷ 4294967297 ∷ []) ≡
 shown = refl
 
 -- a line that is too long is all of its buffer; the end of the input is no line
-lengths : (map (λ t. line_len t 8193) (Read 7 ∷ Refuse 1 ∷ More ∷ Failed ∷ []) ≡ 7 ∷ 8193 ∷ 0 ∷ 0 ∷ []) × (map is_line (Read 0 ∷ Refuse 1 ∷ More ∷ Failed ∷ []) ≡ true ∷ true ∷ false ∷ false ∷ [])
-lengths = (refl, refl)
+lengths : map (λ t. line_of t 8193) (Read 0 ∷ Read 7 ∷ Refuse 1 ∷ More ∷ Failed ∷ []) ≡ Some 0 ∷ Some 7 ∷ Some 8193 ∷ None ∷ None ∷ []
+lengths = refl

@@ -6,91 +6,38 @@ ghost use Rattle.std.specs.Prelude.{◌≡◌, ◌+◌, ◌≤◌, ◌<◌, leng
 ghost use Rattle.output.specs.Output.{Wrote};
 ghost use Rattle.base.specs.Texts.{text_at};
 ghost use Rattle.comparer.specs.Text.{is_odd, shown_of, name_text, spaced, levels_text, places_text, ids_text, names_text, named_text, quoted_text, pair_text, elements_text, fields_text, refused_text, done_text, answer_text, line_text};
-ghost use Rattle.comparer.specs.Turns.{is_line, line_len, with_first, with_second, Within, Onward, Going};
+ghost use Rattle.comparer.specs.Turns.{line_of, sought, Within};
 
 use compare::Compared;
 use differ::Differences;
 use frames::{Options, State, Task};
 use program::{Process, Status, Takes};
 use record::{Param, Refusal};
-use settings::{Settings, SettingsRead};
+use settings::Settings;
 
-// Where the program stands: with the frames of its input; whether the first line of a pair is there, and the second; and how many bytes of its buffer each is.
+// Where the program stands: with the frames of its input, and how many bytes of its buffer the first line of a pair is, where it is there, and the second.
 #[derive(Clone, Copy)]
 pub struct Turn {
     pub state: State,
-    pub held: bool,
-    pub ready: bool,
-    pub first: usize,
-    pub second: usize,
+    pub first: Option<usize>,
+    pub second: Option<usize>,
 }
 
 // ---- pairs of lines
 
-// Whether a line has ended, of whatever length.
-fn is_line(task: Task) -> bool
-    ensures { result ≡ is_line task }
+// How many bytes of a buffer of `room` bytes are the line, where one has ended. One that is too long is all of them, which is more than a line may have: the
+// comparison refuses it, whatever they are, in its place.
+fn line_of(task: Task, room: usize) -> Option<usize>
+    ensures { result ≡ line_of task room }
 {
     match task {
-        Task::More => false,
-        Task::Read(_) => true,
-        Task::Refuse(_) => true,
-        Task::End(_) => false,
-        Task::Cut(_) => false,
-        Task::Failed => false,
+        Task::Read(n) => Some(n),
+        Task::Refuse(_) => Some(room),
+        _ => None,
     }
 }
 
-// How many bytes of a buffer of `room` bytes are the line. One that is too long is all of them, which is more than a line may have: the comparison refuses it,
-// whatever they are, in its place.
-fn line_len(task: Task, room: usize) -> usize
-    ensures { result ≡ line_len task room }
-{
-    match task {
-        Task::More => 0,
-        Task::Read(n) => n,
-        Task::Refuse(_) => room,
-        Task::End(_) => 0,
-        Task::Cut(_) => 0,
-        Task::Failed => 0,
-    }
-}
-
-// Behind a turn that sought the first line of a pair.
-fn with_first(s: State, room: usize) -> Turn
-    ensures { result ≡ with_first s room }
-{
-    let task = s.task;
-    Turn {
-        state: s,
-        held: is_line(task),
-        ready: false,
-        first: line_len(task, room),
-        second: 0,
-    }
-}
-
-// Behind one that sought the second.
-fn with_second(first: usize, s: State, room: usize) -> Turn
-    ensures { result ≡ with_second first s room }
-{
-    let task = s.task;
-    Turn {
-        state: s,
-        held: true,
-        ready: is_line(task),
-        first,
-        second: line_len(task, room),
-    }
-}
-
-// Says why the input has ended too early, if it has.
-fn tell(process: &Process, s: State) {
-    let task = s.task;
-    frames::report(process, b"compare", task);
-}
-
-// One turn, in the buffer of the line that is sought.
+// One turn, in the buffer of the line that is sought. Says why the input has ended too early, if it has.
 fn advance(
     process: &mut Process,
     line1: &mut [u8],
@@ -102,18 +49,28 @@ fn advance(
     requires left_nonzero { 0 < t.state.left }
     ensures within_2 { Within (length line1.old) (length line2.old) (length chunk.old) result }
     ensures left_lt_left { result.state.left < t.state.left }
+    ensures lines { result ≡ sought t.first result.state (length line1.old) (length line2.old) }
 {
-    let s = t.state;
-    let room1 = line1.len();
-    let room2 = line2.len();
-    if t.held {
-        let u = frames::advance(process, line2, chunk, s);
-        tell(process, u);
-        return with_second(t.first, u, room2);
+    match t.first {
+        Some(_) => {
+            let state = frames::advance(process, line2, chunk, t.state);
+            frames::report(process, b"compare", state.task);
+            Turn {
+                state,
+                first: t.first,
+                second: line_of(state.task, line2.len()),
+            }
+        }
+        None => {
+            let state = frames::advance(process, line1, chunk, t.state);
+            frames::report(process, b"compare", state.task);
+            Turn {
+                state,
+                first: line_of(state.task, line1.len()),
+                second: None,
+            }
+        }
     }
-    let u = frames::advance(process, line1, chunk, s);
-    tell(process, u);
-    with_first(u, room1)
 }
 
 // ---- the text of an answer
@@ -141,9 +98,10 @@ fn put_name(out: &mut [u8], at: usize, differs: bool, name: &[u8]) -> usize
 {
     if differs {
         let next = output::put(out, at, b' ');
-        return output::put_text(out, next, name);
+        output::put_text(out, next, name)
+    } else {
+        at
     }
-    at
 }
 
 // A number behind a blank.
@@ -236,11 +194,12 @@ fn put_pair(out: &mut [u8], at: usize, number: u32, name: &[u8], value: &[u8]) -
     ensures out_len_unchanged { length out.new ≡ length out.old }
 {
     if number == 0 {
-        return at;
+        at
+    } else {
+        let a = put_spaced(out, at, number);
+        let b = put_named(out, a, name);
+        put_quoted(out, b, value)
     }
-    let a = put_spaced(out, at, number);
-    let b = put_named(out, a, name);
-    put_quoted(out, b, value)
 }
 
 fn put_elements(out: &mut [u8], at: usize, d: Differences, name: &[u8], value: &[u8]) -> usize
@@ -254,9 +213,10 @@ fn put_elements(out: &mut [u8], at: usize, d: Differences, name: &[u8], value: &
     if is_odd(d.fields / 256) {
         let a = put_name(out, at, true, b"elements");
         let b = put_spaced(out, a, shown(d.position));
-        return put_pair(out, b, d.pair_line, name, value);
+        put_pair(out, b, d.pair_line, name, value)
+    } else {
+        at
     }
-    at
 }
 
 fn put_fields(out: &mut [u8], at: usize, d: Differences, name: &[u8], value: &[u8]) -> usize
@@ -280,7 +240,7 @@ fn put_refused(out: &mut [u8], at: usize, line: u32, refusal: Refusal) -> usize
 {
     let a = put_name(out, at, true, b"refuse");
     let b = put_spaced(out, a, line);
-    put_spaced(out, b, record::refusal_number(refusal))
+    put_spaced(out, b, u32::from(refusal))
 }
 
 fn put_done(out: &mut [u8], at: usize, d: Differences, name: &[u8], value: &[u8]) -> usize
@@ -292,9 +252,10 @@ fn put_done(out: &mut [u8], at: usize, d: Differences, name: &[u8], value: &[u8]
     ensures out_len_unchanged { length out.new ≡ length out.old }
 {
     if d.fields == 0 {
-        return put_name(out, at, true, b"same");
+        put_name(out, at, true, b"same")
+    } else {
+        put_fields(out, at, d, name, value)
     }
-    put_fields(out, at, d, name, value)
 }
 
 fn put_answer(out: &mut [u8], c: Compared, name: &[u8], value: &[u8]) -> usize
@@ -306,8 +267,8 @@ fn put_answer(out: &mut [u8], c: Compared, name: &[u8], value: &[u8]) -> usize
     ensures out_len_unchanged { length out.new ≡ length out.old }
 {
     match c {
-        Compared::Refused(line, refusal) => return put_refused(out, 0, line, refusal),
-        Compared::Done(d) => return put_done(out, 0, d, name, value),
+        Compared::Refused(line, refusal) => put_refused(out, 0, line, refusal),
+        Compared::Done(d) => put_done(out, 0, d, name, value),
     }
 }
 
@@ -331,22 +292,13 @@ fn put_line(out: &mut [u8], c: Compared, name: &[u8], value: &[u8]) -> usize
 fn part(line: &[u8], start: usize, len: usize) -> &[u8]
     ensures { result.now ≡ text_at line.now start len }
 {
-    if line.len() < start {
-        return &line[0..0];
-    }
-    let rest = base::past(line, start);
-    if rest.len() < len {
-        return rest;
-    }
-    &rest[0..len]
+    let rest = base::past(line, start.min(line.len()));
+    &rest[..len.min(rest.len())]
 }
 
 // Whether the pair that an answer names stands in the second line.
 fn is_second(c: Compared) -> bool {
-    match c {
-        Compared::Refused(_, _) => false,
-        Compared::Done(d) => d.pair_line == 2,
-    }
+    matches!(c, Compared::Done(d) if d.pair_line == 2)
 }
 
 // Writes the line of a pair, which may name the parameter `p` of the first line or `q` of the second. Answers whether it could be written.
@@ -361,19 +313,12 @@ fn write_line(
     requires line1_len_bound { length line1.now ≤ 8193 }
     requires line2_len_bound { length line2.now ≤ 8193 }
 {
-    if is_second(c) {
-        return write_text(
-            process,
-            c,
-            part(line2, q.name_start, q.name_len),
-            part(line2, q.value_start, q.value_len),
-        );
-    }
+    let (line, pair) = if is_second(c) { (line2, q) } else { (line1, p) };
     write_text(
         process,
         c,
-        part(line1, p.name_start, p.name_len),
-        part(line1, p.value_start, p.value_len),
+        part(line, pair.name_start, pair.name_len),
+        part(line, pair.value_start, pair.value_len),
     )
 }
 
@@ -386,22 +331,13 @@ fn write_text(process: &Process, c: Compared, name: &[u8], value: &[u8]) -> bool
     frames::write(process, b"compare", &text[1..n])
 }
 
-fn in_table(entry: usize) -> usize
-    ensures { result < 256 }
-{
-    if entry < 256 {
-        return entry;
-    }
-    0
-}
-
 // The entry of the pair that an answer names, in a table of 256 entries; the first one where it names none.
 fn entry_of(c: Compared) -> usize
     ensures { result < 256 }
 {
     match c {
-        Compared::Refused(_, _) => 0,
-        Compared::Done(d) => in_table(d.pair_entry),
+        Compared::Done(d) if d.pair_entry < 256 => d.pair_entry,
+        _ => 0,
     }
 }
 
@@ -410,9 +346,7 @@ fn compare_pair(
     process: &Process,
     line1: &[u8],
     line2: &[u8],
-    variant: u32,
-    year: u32,
-    offset: i32,
+    settings: Settings,
     elements1: &mut [[usize; 2]],
     elements2: &mut [[usize; 2]],
 ) -> bool
@@ -425,9 +359,9 @@ fn compare_pair(
     let c = compare::compare(
         line1,
         line2,
-        variant,
-        year,
-        offset,
+        settings.variant,
+        settings.year,
+        settings.offset,
         elements1,
         &mut params1,
         elements2,
@@ -439,20 +373,7 @@ fn compare_pair(
     write_line(process, c, line1, p, line2, q)
 }
 
-// Behind a pair the first line of the next one is sought. Where its answer could not be written, all is done.
-fn answered(t: Turn, ok: bool) -> Turn
-    ensures { Onward t result }
-{
-    let s = t.state;
-    Turn {
-        state: frames::kept(s, ok),
-        held: false,
-        ready: false,
-        first: 0,
-        second: 0,
-    }
-}
-
+// At the beginning the first line of a pair is sought.
 fn begin() -> Turn
     ensures { Within 0 0 0 result }
 {
@@ -461,25 +382,14 @@ fn begin() -> Turn
             crlf: false,
             counted: false,
         }),
-        held: false,
-        ready: false,
-        first: 0,
-        second: 0,
+        first: None,
+        second: None,
     }
-}
-
-fn goes_on(t: Turn) -> bool
-    ensures { Going t result }
-{
-    let s = t.state;
-    0 < s.left
 }
 
 // Says that a line has no second, where nothing has failed before. Answers whether nothing has failed.
 fn ended(process: &Process, t: Turn) -> bool {
-    let s = t.state;
-    let held = t.held;
-    if s.ok & held {
+    if t.state.ok && t.first.is_some() {
         program::complain(
             process,
             b"compare",
@@ -487,38 +397,10 @@ fn ended(process: &Process, t: Turn) -> bool {
         );
         return false;
     }
-    s.ok
+    t.state.ok
 }
 
-// Compares the lines at the fronts of both buffers.
-fn compare_fronts(
-    process: &Process,
-    line1: &[u8],
-    n: usize,
-    line2: &[u8],
-    m: usize,
-    settings: Settings,
-    elements1: &mut [[usize; 2]],
-    elements2: &mut [[usize; 2]],
-) -> bool
-    requires n_in_bounds { n ≤ length line1.now }
-    requires n_bound { n ≤ 8193 }
-    requires m_in_bounds { m ≤ length line2.now }
-    requires m_bound { m ≤ 8193 }
-{
-    compare_pair(
-        process,
-        &line1[0..n],
-        &line2[0..m],
-        settings.variant,
-        settings.year,
-        settings.offset,
-        elements1,
-        elements2,
-    )
-}
-
-// A turn, and the answer where it has made a pair whole.
+// A turn, and the answer where it has made a pair whole. Behind a pair the first line of the next one is sought; where its answer could not be written, all is done.
 fn step(
     process: &mut Process,
     line1: &mut [u8],
@@ -537,13 +419,22 @@ fn step(
     ensures left_lt_left { result.state.left < t.state.left }
 {
     let u = advance(process, line1, line2, chunk, t);
-    if u.ready {
-        let n = u.first;
-        let m = u.second;
-        let ok = compare_fronts(process, line1, n, line2, m, settings, elements1, elements2);
-        return answered(u, ok);
+    let (Some(n), Some(m)) = (u.first, u.second) else {
+        return u;
+    };
+    let ok = compare_pair(
+        process,
+        &line1[..n],
+        &line2[..m],
+        settings,
+        elements1,
+        elements2,
+    );
+    Turn {
+        state: frames::kept(u.state, ok),
+        first: None,
+        second: None,
     }
-    u
 }
 
 // Compares all pairs of the input. Answers whether nothing failed.
@@ -560,7 +451,7 @@ fn run(
     requires line2_len_bound { length line2.old ≤ 8193 }
 {
     let mut t = begin();
-    while goes_on(t) {
+    while 0 < t.state.left {
         t = step(
             process, line1, line2, chunk, elements1, elements2, settings, t,
         );
@@ -568,31 +459,22 @@ fn run(
     ended(process, t)
 }
 
-fn wide(b: u8) -> u32
-    ensures { (result ≡ b) × (result < 256) }
-{
-    b as u32
-}
-
 // The gate that a record names.
 fn gate_of(record: &[u8; 32]) -> u32 {
-    wide(record[6]) + 256 * wide(record[7])
+    u32::from(record[6]) + 256 * u32::from(record[7])
 }
 
 // Says why there are no settings: under 32 bytes came, or reading failed, or the record is refused.
 fn report(process: &mut Process, n: usize, refusal: Refusal) {
     if n == settings::RECORD_SIZE {
-        let number = record::refusal_number(refusal);
         frames::complain(
             process,
             b"compare",
             b": the settings record in front is refused with ",
-            number,
+            u32::from(refusal),
             b"\n",
         );
-        return;
-    }
-    if program::is_at_end(process, b"compare") {
+    } else if program::is_at_end(process, b"compare") {
         program::complain(
             process,
             b"compare",
@@ -602,15 +484,13 @@ fn report(process: &mut Process, n: usize, refusal: Refusal) {
 }
 
 // The settings record in front of standard input, and how the lines behind it are read.
-fn settings_in_front(process: &mut Process) -> SettingsRead {
+fn settings_in_front(process: &mut Process) -> Result<Settings, Refusal> {
     let mut record = [0u8; 32];
     let n = program::read_full(process, &mut record);
-    let gate = gate_of(&record);
-    let read = settings::read(&record[0..n], gate);
-    let SettingsRead::Refused(refusal) = read else {
-        return read;
-    };
-    report(process, n, refusal);
+    let read = settings::read(&record[..n], gate_of(&record));
+    if let Err(refusal) = read {
+        report(process, n, refusal);
+    }
     read
 }
 
@@ -651,7 +531,7 @@ pub fn compare_input(
     if let Some(status) = program::starts(process, a, b"compare", &usage, &help) {
         return status;
     }
-    let SettingsRead::Read(s) = settings_in_front(process) else {
+    let Ok(s) = settings_in_front(process) else {
         return program::end(process, b"compare", false);
     };
     let ok = run(process, line1, line2, chunk, elements1, elements2, s);

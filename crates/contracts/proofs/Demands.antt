@@ -1,4 +1,5 @@
 -- The demands of specs/Demands.antt, proved of the contracts.
+use Rattle.std.specs.Prelude.{Result, Ok, Err}
 use Prim.Native.Nat.{ℕ, ◌<◌, ◌≤◌}
 use mathlib.Core.Path.{◌≡◌, refl, sym, ap, ap₂, ◌∙◌, subst}
 use mathlib.Core.List.{List}
@@ -8,12 +9,10 @@ use borrow.Author.Tests.{ltb-false}
 use Rattle.record.specs.Limits.{line_limit}
 use Rattle.record.specs.Records.{message_alone}
 use Rattle.record.specs.Answers.{answer_of, strict_answer_of, output_answer_of}
+use Rattle.record.specs.declared.Record.{Record}
 use Rattle.record.specs.declared.StrictReading.{StrictReading}
-use Rattle.record.specs.declared.StrictReading.TheVariants as strict
 use Rattle.record.specs.declared.Reading.{Reading}
 use Rattle.record.specs.declared.Reading.TheVariants as loose
-use Rattle.record.specs.declared.Written.{Written}
-use Rattle.record.specs.declared.Written.TheVariants as written
 use Rattle.record.specs.declared.Refusal.{Refusal}
 use Rattle.record.specs.declared.Refusal.TheVariants.{LineTooLong, BadSetting, NotUtf8, NoReading, TooManyElements, TooManyParams, Unsuitable, NotFound, OutputShort, CellFull, BadCount, FrameTooLong, BadLength, UnknownVersion, BadField, WrongClaim, Unwritable}
 use Rattle.output.specs.Output.{output_after}
@@ -31,22 +30,22 @@ use Rattle.contracts.specs.Demands.{RefusedChangesNothing, refused_with, Refused
 
 -- ---- RULES Demands 1
 
-tables_kept : (r : Reading) (rows old : List (List ℕ)) → ((answer_of r).number ≡ 0 → ⊥) → table_after r rows old ≡ old
-tables_kept (loose.Read x e p) rows old n = absurd (n refl)
-tables_kept (loose.Whole x) rows old n = refl
-tables_kept (loose.Refused f) rows old n = refl
+tables_kept : (r : Result Reading Refusal) (rows old : List (List ℕ)) → ((answer_of r).number ≡ 0 → ⊥) → table_after r rows old ≡ old
+tables_kept (Ok (loose.Read x e p)) rows old n = absurd (n refl)
+tables_kept (Ok (loose.Whole x)) rows old n = refl
+tables_kept (Err f) rows old n = refl
 
-output_kept : (w : Written) (text old : List ℕ) → ((output_answer_of w).number ≡ 0 → ⊥) → output_after w text old ≡ old
-output_kept (written.Done k) text old n = absurd (n refl)
-output_kept (written.Refused f) text old n = refl
+output_kept : (w : Result ℕ Refusal) (text old : List ℕ) → ((output_answer_of w).number ≡ 0 → ⊥) → output_after w text old ≡ old
+output_kept (Ok k) text old n = absurd (n refl)
+output_kept (Err f) text old n = refl
 
-strict_kept : {line : List ℕ} {e₀ : Elements} {p₀ : Params} {r : StrictReading} {e₁ : Elements} {p₁ : Params}
+strict_kept : {line : List ℕ} {e₀ : Elements} {p₀ : Params} {r : Result StrictReading Refusal} {e₁ : Elements} {p₁ : Params}
     → StrictReads line e₀ p₀ r e₁ p₁ → ((strict_answer_of r).number ≡ 0 → ⊥) → Lent.tables e₁ p₁ ≡ Lent.tables e₀ p₀
 strict_kept (too_long l a b c) n = ap₂ Lent.tables b c
 strict_kept (underivable l h a b c) n = ap₂ Lent.tables b c
 strict_kept (elements_over d l h m a b c) n = ap₂ Lent.tables b c
 strict_kept (params_over d l h k m a b c) n = ap₂ Lent.tables b c
-strict_kept (accepted d l h k m a b c) n = absurd (n (ap (λ (r : StrictReading). (strict_answer_of r).number) a))
+strict_kept (accepted d l h k m a b c) n = absurd (n (ap (λ (r : Result StrictReading Refusal). (strict_answer_of r).number) a))
 
 pub refused_changes_nothing : RefusedChangesNothing
 refused_changes_nothing Service.loose i x h n =
@@ -57,18 +56,18 @@ refused_changes_nothing Service.lookup i x h n = ap Lent.output (h.output ∙ ou
 
 -- ---- RULES Numbers d
 
-loose_empty : (r : Reading) → ((answer_of r).number ≡ 0 → ⊥) → answer_of r ≡ refused_with Service.loose (answer_of r).number
-loose_empty (loose.Read x e p) n = absurd (n refl)
-loose_empty (loose.Whole x) n = absurd (n refl)
-loose_empty (loose.Refused f) n = refl
+loose_empty : (r : Result Reading Refusal) → ((answer_of r).number ≡ 0 → ⊥) → answer_of r ≡ refused_with Service.loose (answer_of r).number
+loose_empty (Ok (loose.Read x e p)) n = absurd (n refl)
+loose_empty (Ok (loose.Whole x)) n = absurd (n refl)
+loose_empty (Err f) n = refl
 
-strict_empty : (r : StrictReading) → ((strict_answer_of r).number ≡ 0 → ⊥) → strict_answer_of r ≡ refused_with Service.strict (strict_answer_of r).number
-strict_empty (strict.Read x e p) n = absurd (n refl)
-strict_empty (strict.Refused f) n = refl
+strict_empty : (r : Result StrictReading Refusal) → ((strict_answer_of r).number ≡ 0 → ⊥) → strict_answer_of r ≡ refused_with Service.strict (strict_answer_of r).number
+strict_empty (Ok y) n = absurd (n refl)
+strict_empty (Err f) n = refl
 
-output_empty : (w : Written) → ((output_answer_of w).number ≡ 0 → ⊥) → output_answer_of w ≡ refused_with Service.print (output_answer_of w).number
-output_empty (written.Done k) n = absurd (n refl)
-output_empty (written.Refused f) n = refl
+output_empty : (w : Result ℕ Refusal) → ((output_answer_of w).number ≡ 0 → ⊥) → output_answer_of w ≡ refused_with Service.print (output_answer_of w).number
+output_empty (Ok k) n = absurd (n refl)
+output_empty (Err f) n = refl
 
 pub refused_is_empty : RefusedIsEmpty
 refused_is_empty Service.loose x n = loose_empty x.answer n
@@ -78,10 +77,10 @@ refused_is_empty Service.lookup x n = output_empty x.answer n
 
 -- ---- a line that the rules give no reading
 
-module _ {line : List ℕ} {variant year : ℕ} {offset : ℤ} {e₀ : Elements} {p₀ : Params} {r : Reading} {e₁ : Elements} {p₁ : Params}
+module _ {line : List ℕ} {variant year : ℕ} {offset : ℤ} {e₀ : Elements} {p₀ : Params} {r : Result Reading Refusal} {e₁ : Elements} {p₁ : Params}
     (h : Reads line variant year offset e₀ p₀ r e₁ p₁) where
   module _ (a : AnsweredWhole r) where
-    call : Reads line variant year offset e₀ p₀ (loose.Whole a.reading) e₁ p₁
+    call : Reads line variant year offset e₀ p₀ (Ok (loose.Whole a.reading)) e₁ p₁
     call = rw a.is at h
 
     unread : Unread line variant year offset
@@ -89,8 +88,8 @@ module _ {line : List ℕ} {variant year : ℕ} {offset : ℤ} {e₀ : Elements}
         let w = whole_is call in
         record { limit = ltb-false line_limit (length line) w.short; settings = w.settings; text = w.text; none = w.is.none }
 
-    alone : r ≡ loose.Whole (message_alone (length line))
-    alone = a.is ∙ ap loose.Whole (whole_is call).is.alone
+    alone : r ≡ Ok (loose.Whole (message_alone (length line)))
+    alone = let whole : Record → Result Reading Refusal = λ x. Ok (loose.Whole x) in a.is ∙ ap whole (whole_is call).is.alone
 
   answered_whole : Unread line variant year offset → AnsweredWhole r
   answered_whole u =
@@ -133,11 +132,11 @@ module _ (line : List ℕ) (e₀ : Elements) (p₀ : Params) where
   WhyRefused WrongClaim = ⊥
   WhyRefused Unwritable = ⊥
 
-  abbrev Why : StrictReading → Type 0
-  Why (strict.Read s e p) = Derivable line e₀ p₀
-  Why (strict.Refused f) = WhyRefused f
+  abbrev Why : Result StrictReading Refusal → Type 0
+  Why (Ok x) = Derivable line e₀ p₀
+  Why (Err f) = WhyRefused f
 
-  module _ {r : StrictReading} {e₁ : Elements} {p₁ : Params} where
+  module _ {r : Result StrictReading Refusal} {e₁ : Elements} {p₁ : Params} where
     why : StrictReads line e₀ p₀ r e₁ p₁ → Why r
     why (too_long l a b c) = rw a l
     why (underivable l h a b c) = rw a (l, h)
@@ -146,7 +145,7 @@ module _ (line : List ℕ) (e₀ : Elements) (p₀ : Params) where
     why (accepted d l h k m a b c) = rw a (record { division = d; derived = h; short = l; many = (k, m) })
 
     module _ (call : StrictReads line e₀ p₀ r e₁ p₁) where
-      because : {s : StrictReading} → r ≡ s → Why s
+      because : {s : Result StrictReading Refusal} → r ≡ s → Why s
       because q = subst Why q (why call)
 
       holds : (f : Derivable line e₀ p₀) → Holds f.division e₀ p₀ r e₁ p₁
@@ -154,10 +153,10 @@ module _ (line : List ℕ) (e₀ : Elements) (p₀ : Params) where
           let q = strict_determined call (accepted f.division f.short f.derived f.many.0 f.many.1 refl refl refl) in
           record { answer = q.0; elements = q.1; params = q.2 }
 
-      over_elements : ElementsOver line e₀ → r ≡ strict.Refused TooManyElements
+      over_elements : ElementsOver line e₀ → r ≡ Err TooManyElements
       over_elements f = (strict_determined call (elements_over f.division f.short f.derived f.many refl refl refl)).0
 
-      over_params : ParamsOver line e₀ p₀ → r ≡ strict.Refused TooManyParams
+      over_params : ParamsOver line e₀ p₀ → r ≡ Err TooManyParams
       over_params f = (strict_determined call (params_over f.division f.short f.derived f.many.0 f.many.1 refl refl refl)).0
 
       strict_call : StrictCall line e₀ p₀ r e₁ p₁

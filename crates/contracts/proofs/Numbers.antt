@@ -1,5 +1,5 @@
 -- Which numbers the services answer: each contract's refusals, gone through.
-use Rattle.std.specs.Prelude.{if◌then◌else◌}
+use Rattle.std.specs.Prelude.{if◌then◌else◌, Result}
 use Prim.Native.Nat.{ℕ}
 use mathlib.Core.Path.{◌≡◌, refl}
 use mathlib.Core.Bool.{Bool, true, false, not}
@@ -11,7 +11,6 @@ use Rattle.record.specs.Limits.{line_limit}
 use Rattle.record.specs.Answers.{answer_of, strict_answer_of, output_answer_of}
 use Rattle.record.specs.declared.Reading.{Reading}
 use Rattle.record.specs.declared.StrictReading.{StrictReading}
-use Rattle.record.specs.declared.Written.{Written}
 use Rattle.draft.specs.Outcome.{Outcome}
 use Rattle.draft.specs.Outcome.Outcome.{no_reading, is_reading}
 use Rattle.loose.specs.Loose.{outcome_of, settings_ok, judged}
@@ -23,6 +22,7 @@ use Rattle.lookup.specs.Unescape.{unescaped}
 use Rattle.lookup.specs.Lookup.{Found, found, value_answer}
 use Rattle.contracts.specs.Services.{Service, Elements, Params}
 use Rattle.contracts.specs.Demands.{numbers, among, NoOtherNumber}
+use Rattle.record.specs.declared.Refusal.{Refusal}
 
 abbrev Gives : Service → ℕ → Type 0
 Gives s n = among n (numbers s) ≡ true
@@ -32,10 +32,10 @@ either : {A : Type 0} (s : Service) (n : A → ℕ) (b : Bool) (x y : A) → Giv
 either s n true x y h k = h
 either s n false x y h k = k
 
-abbrev of : Reading → ℕ
+abbrev of : Result Reading Refusal → ℕ
 of r = (answer_of r).number
 
-abbrev to : Written → ℕ
+abbrev to : Result ℕ Refusal → ℕ
 to w = (output_answer_of w).number
 
 -- refusals 5 and 6, after the others
@@ -44,7 +44,7 @@ judged_gives line no_reading e p = refl
 judged_gives line (is_reading r at rows) e p =
     either Service.loose of (ltb e (length rows.elements)) _ _ refl (either Service.loose of (ltb p (length rows.params)) _ _ refl refl)
 
-strict_gives : {line : List ℕ} {e₀ : Elements} {p₀ : Params} {r : StrictReading} {e₁ : Elements} {p₁ : Params}
+strict_gives : {line : List ℕ} {e₀ : Elements} {p₀ : Params} {r : Result StrictReading Refusal} {e₁ : Elements} {p₁ : Params}
     → StrictReads line e₀ p₀ r e₁ p₁ → Gives Service.strict (strict_answer_of r).number
 strict_gives (too_long l a b c) = rw a
 strict_gives (underivable l h a b c) = rw a

@@ -1,9 +1,9 @@
 -- The table of specs/PCases.antt holds: each row is computed from the definitions, and what the parser finds of a strict line is its division.
+use Rattle.std.specs.Prelude.{Option, Some, None}
 use Prim.Native.Nat.{ℕ}
 use mathlib.Core.Path.{◌≡◌, refl}
 use mathlib.Core.Bool.{true, false}
 use mathlib.Core.List.{List}
-use mathlib.Core.Option.{Option, none, some}
 use Rattle.base.specs.Runs.{run}
 use Rattle.base.proofs.Tests.{clash}
 use Rattle.utf8.specs.Lead.{lead_of, well_formed, char_len, utf8_from}
@@ -38,10 +38,10 @@ use Rattle.contracts.specs.PCases.{Strict, strict_of, Divides, table, PCases}
 -- what the parser finds is the line's division
 
 found_as : Parsed Division → Option Strict
-found_as failed = none
-found_as (found d n) = some (strict_of d)
+found_as failed = None
+found_as (found d n) = Some (strict_of d)
 
-divided : (line : List ℕ) (p : Parsed Division) (t : Strict) → parse line ≡ p → found_as p ≡ some t → Divides line t
+divided : (line : List ℕ) (p : Parsed Division) (t : Strict) → parse line ≡ p → found_as p ≡ Some t → Divides line t
 unfolding found_as
 divided line failed t e h = let z : true ≡ false = cc in clash z
 divided line (found d n) t e h = record { division = d; derived = parse_sound line d n e; texts_are = cc }

@@ -1,4 +1,5 @@
 -- Entries past the counts and bytes past the result are as they were: what each contract leaves is filled as far as its answer counts.
+use Rattle.std.specs.Prelude.{Result}
 use Prim.Native.Nat.{ℕ}
 use mathlib.Core.Path.{◌≡◌, refl, ap, ap₂}
 use mathlib.Core.Bool.{Bool, not}
@@ -14,7 +15,6 @@ use Rattle.record.specs.Limits.{line_limit}
 use Rattle.record.specs.Answers.{answer_of, strict_answer_of, output_answer_of}
 use Rattle.record.specs.declared.Reading.{Reading}
 use Rattle.record.specs.declared.StrictReading.{StrictReading}
-use Rattle.record.specs.declared.Written.{Written}
 use Rattle.output.specs.Output.{output_after}
 use Rattle.draft.specs.Outcome.{Outcome}
 use Rattle.draft.specs.Outcome.Outcome.{no_reading, is_reading}
@@ -28,6 +28,7 @@ use Rattle.lookup.specs.Unescape.{unescaped}
 use Rattle.lookup.specs.Lookup.{Found, found, value_answer, value_text}
 use Rattle.contracts.specs.Services.{Service, Elements, Params, Lent, past}
 use Rattle.contracts.specs.Demands.{RestIsKept}
+use Rattle.record.specs.declared.Refusal.{Refusal}
 
 rest_filled : {A : Type 0} (front old : List A) → drop (length front) (filled front old) ≡ drop (length front) old
 rest_filled front old = drop-append_seam front (drop (length front) old)
@@ -35,7 +36,7 @@ rest_filled front old = drop-append_seam front (drop (length front) old)
 -- ---- the loose reader
 
 module _ (o : Outcome) (e₀ : Elements) (p₀ : Params) where
-  abbrev Kept : Reading → Type 0
+  abbrev Kept : Result Reading Refusal → Type 0
   Kept r =
       let rest = past (answer_of r).elements (answer_of r).params 0 in
       rest (Lent.tables (table_after r (rows_of o).elements e₀) (table_after r (rows_of o).params p₀)) ≡ rest (Lent.tables e₀ p₀)
@@ -48,7 +49,7 @@ judged_kept line (is_reading r at rows) e₀ p₀ =
     by_if K (ltb (length p₀) (length rows.params)) _ _ (λ q. refl)
     (λ q. ap₂ Lent.tables (rest_filled rows.elements e₀) (rest_filled rows.params p₀)))
 
-loose_kept : {line : List ℕ} {variant year : ℕ} {offset : ℤ} {e₀ e₁ : Elements} {p₀ p₁ : Params} {r : Reading}
+loose_kept : {line : List ℕ} {variant year : ℕ} {offset : ℤ} {e₀ e₁ : Elements} {p₀ p₁ : Params} {r : Result Reading Refusal}
     → Reads line variant year offset e₀ p₀ r e₁ p₁
     → let rest = past (answer_of r).elements (answer_of r).params 0 in rest (Lent.tables e₁ p₁) ≡ rest (Lent.tables e₀ p₀)
 loose_kept {line} {variant} {year} {offset} {e₀} {e₁} {p₀} {p₁} h =
@@ -61,7 +62,7 @@ loose_kept {line} {variant} {year} {offset} {e₀} {e₁} {p₀} {p₁} h =
 
 -- ---- the strict reader
 
-strict_kept : {line : List ℕ} {e₀ : Elements} {p₀ : Params} {r : StrictReading} {e₁ : Elements} {p₁ : Params} → StrictReads line e₀ p₀ r e₁ p₁
+strict_kept : {line : List ℕ} {e₀ : Elements} {p₀ : Params} {r : Result StrictReading Refusal} {e₁ : Elements} {p₁ : Params} → StrictReads line e₀ p₀ r e₁ p₁
     → let rest = past (strict_answer_of r).elements (strict_answer_of r).params 0 in rest (Lent.tables e₁ p₁) ≡ rest (Lent.tables e₀ p₀)
 strict_kept (too_long l a b c) = rw (b, c)
 strict_kept (underivable l h a b c) = rw (b, c)
@@ -76,7 +77,7 @@ strict_kept {e₀} {p₀} (accepted d l h k m a b c) =
 -- ---- printing and lookup
 
 module _ (text old : List ℕ) where
-  abbrev OutputKept : Written → Type 0
+  abbrev OutputKept : Result ℕ Refusal → Type 0
   OutputKept w = let rest = past 0 0 (output_answer_of w).len in rest (Lent.output (output_after w text old)) ≡ rest (Lent.output old)
 
 value_kept : (loose : Bool) (f : Found) (old : List ℕ) → OutputKept (value_text loose f) old (value_answer loose f (length old))

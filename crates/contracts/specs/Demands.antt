@@ -1,5 +1,5 @@
 -- What is demanded of the services, as statements to be read without their proofs, which are in proofs/Demands.antt.
-use Rattle.std.specs.Prelude.{ℕ, ◌<◌, ◌≤◌, ◌≡◌, Bool, true, false, ◌||◌, List, [], ◌∷◌, eqb, length, ℤ}
+use Rattle.std.specs.Prelude.{ℕ, ◌<◌, ◌≤◌, ◌≡◌, Bool, true, false, ◌||◌, List, [], ◌∷◌, eqb, length, ℤ, Result as StdResult, Ok, Err}
 use Rattle.base.specs.Fills.{filled}
 use Rattle.record.specs.Limits.{line_limit}
 use Rattle.record.specs.Records.{message_alone, empty_record, empty_strict}
@@ -7,7 +7,6 @@ use Rattle.record.specs.declared.Record.{Record}
 use Rattle.record.specs.declared.Reading.{Reading}
 use Rattle.record.specs.declared.Reading.TheVariants.{Whole}
 use Rattle.record.specs.declared.StrictReading.{StrictReading}
-use Rattle.record.specs.declared.StrictReading.TheVariants.{Read, Refused}
 use Rattle.record.specs.declared.StrictRecord.{StrictRecord}
 use Rattle.record.specs.declared.Refusal.TheVariants.{LineTooLong, NoReading, TooManyElements, TooManyParams}
 use Rattle.utf8.specs.Lead.{is_utf8}
@@ -16,6 +15,7 @@ use Rattle.loose.specs.Loose.{outcome_of, settings_ok, Reads}
 use Rattle.grammar.specs.Line.{Division, Derives}
 use Rattle.grammar.specs.Reading.{data_at, record_of, param_count, element_rows, param_rows, StrictReads}
 use Rattle.contracts.specs.Services.{Service, Elements, Params, Given, Result, Values, values, number, Contract, before, after, rest}
+use Rattle.record.specs.declared.Refusal.{Refusal}
 
 -- ---- RULES Demands 1, its last words
 
@@ -75,9 +75,9 @@ pub record Exactly (P Q : Type 0) : Type 0 where
 -- ---- a line that the rules give no reading
 
 -- the answer is the whole line as the message
-pub record AnsweredWhole (r : Reading) : Type 0 where
+pub record AnsweredWhole (r : StdResult Reading Refusal) : Type 0 where
   pub reading : Record
-  pub is : r ≡ Whole reading
+  pub is : r ≡ Ok (Whole reading)
 
 -- none of the refusals 1, 2 and 3 applies, and the rules give no reading
 pub record Unread (line : List ℕ) (variant year : ℕ) (offset : ℤ) : Type 0 where
@@ -87,26 +87,26 @@ pub record Unread (line : List ℕ) (variant year : ℕ) (offset : ℤ) : Type 0
   pub none : outcome_of line variant year offset ≡ no_reading
 
 -- of a call of the loose reader on a line, with tables that held e₀ and p₀, which answers r and leaves e₁ and p₁ in them
-pub record LooseCall (line : List ℕ) (variant year : ℕ) (offset : ℤ) (e₀ : Elements) (p₀ : Params) (r : Reading) (e₁ : Elements) (p₁ : Params) : Type 0 where
+pub record LooseCall (line : List ℕ) (variant year : ℕ) (offset : ℤ) (e₀ : Elements) (p₀ : Params) (r : StdResult Reading Refusal) (e₁ : Elements) (p₁ : Params) : Type 0 where
   -- It answers the whole line exactly where the rules give no reading,
   pub whole_exactly : Exactly (AnsweredWhole r) (Unread line variant year offset)
   -- and then with the message alone, and the tables as they were.
-  pub whole_is_alone : AnsweredWhole r → r ≡ Whole (message_alone (length line))
+  pub whole_is_alone : AnsweredWhole r → r ≡ Ok (Whole (message_alone (length line)))
   pub tables_kept : AnsweredWhole r → (e₁ ≡ e₀) × (p₁ ≡ p₀)
 
 pub record LooseCalls : Type 0 where
   -- Each call is as said above.
-  pub each_call : {line : List ℕ} {variant year : ℕ} {offset : ℤ} {e₀ : Elements} {p₀ : Params} {r : Reading} {e₁ : Elements} {p₁ : Params}
+  pub each_call : {line : List ℕ} {variant year : ℕ} {offset : ℤ} {e₀ : Elements} {p₀ : Params} {r : StdResult Reading Refusal} {e₁ : Elements} {p₁ : Params}
       → Reads line variant year offset e₀ p₀ r e₁ p₁ → LooseCall line variant year offset e₀ p₀ r e₁ p₁
 
 -- ---- the words of RULES Demands 3
 
 -- the answer is a record with its counts, and no refusal
-pub record Accepted (r : StrictReading) : Type 0 where
+pub record Accepted (r : StdResult StrictReading Refusal) : Type 0 where
   pub reading : StrictRecord
   pub elements : ℕ
   pub params : ℕ
-  pub is : r ≡ Read reading elements params
+  pub is : r ≡ Ok (record { reading = reading; elements = elements; params = params })
 
 -- the grammar derives the line, which has at most 8,192 bytes, and `Many` holds of the counts of its elements and its parameters
 pub record Derived (line : List ℕ) (Many : ℕ → ℕ → Type 0) : Type 0 where
@@ -132,31 +132,31 @@ abbrev pub Underivable : List ℕ → Type 0
 Underivable line = (d : Division) → Derives line d → ⊥
 
 -- the answer's record and counts are those of the division d, and so are the tables in front of the entries that they keep
-pub record Holds (d : Division) (e₀ : Elements) (p₀ : Params) (r : StrictReading) (e₁ : Elements) (p₁ : Params) : Type 0 where
-  pub answer : r ≡ Read (record_of d) (length d.elements) (param_count d.elements)
+pub record Holds (d : Division) (e₀ : Elements) (p₀ : Params) (r : StdResult StrictReading Refusal) (e₁ : Elements) (p₁ : Params) : Type 0 where
+  pub answer : r ≡ Ok (record { reading = record_of d; elements = length d.elements; params = param_count d.elements })
   pub elements : e₁ ≡ filled (element_rows (data_at d) d.elements) e₀
   pub params : p₁ ≡ filled (param_rows 0 (data_at d) d.elements) p₀
 
 -- ---- RULES Demands 3
 
 -- of a call of the strict reader on a line, with tables that held e₀ and p₀, which answers r and leaves e₁ and p₁ in them
-pub record StrictCall (line : List ℕ) (e₀ : Elements) (p₀ : Params) (r : StrictReading) (e₁ : Elements) (p₁ : Params) : Type 0 where
+pub record StrictCall (line : List ℕ) (e₀ : Elements) (p₀ : Params) (r : StdResult StrictReading Refusal) (e₁ : Elements) (p₁ : Params) : Type 0 where
   -- It accepts exactly what the grammar derives,
   pub accepts_exactly : Exactly (Accepted r) (Derivable line e₀ p₀)
   -- and refuses as no reading exactly what the grammar does not derive.
-  pub refuses_exactly : Exactly (r ≡ Refused NoReading) ((length line ≤ line_limit) × Underivable line)
+  pub refuses_exactly : Exactly (r ≡ Err NoReading) ((length line ≤ line_limit) × Underivable line)
   -- With 5 it refuses exactly what the grammar derives with more elements than their table has entries,
-  pub five_exactly : Exactly (r ≡ Refused TooManyElements) (ElementsOver line e₀)
+  pub five_exactly : Exactly (r ≡ Err TooManyElements) (ElementsOver line e₀)
   -- and with 6 exactly what it derives with no more elements than that, but with more parameters than their table has entries.
-  pub six_exactly : Exactly (r ≡ Refused TooManyParams) (ParamsOver line e₀ p₀)
+  pub six_exactly : Exactly (r ≡ Err TooManyParams) (ParamsOver line e₀ p₀)
   -- The record and the tables hold the one division there is.
   pub holds_the_one : Accepted r → (d : Division) → Derives line d → Holds d e₀ p₀ r e₁ p₁
   -- A line has at most 8,192 bytes: a longer one, and no other, is refused as too long.
-  pub limit_exactly : Exactly (r ≡ Refused LineTooLong) (line_limit < length line)
+  pub limit_exactly : Exactly (r ≡ Err LineTooLong) (line_limit < length line)
 
 pub record Demand3 : Type 0 where
   -- No line has two divisions.
   pub one_division : (line : List ℕ) (d d' : Division) → Derives line d → Derives line d' → d ≡ d'
   -- Each call is as said above.
-  pub each_call : {line : List ℕ} {e₀ : Elements} {p₀ : Params} {r : StrictReading} {e₁ : Elements} {p₁ : Params}
+  pub each_call : {line : List ℕ} {e₀ : Elements} {p₀ : Params} {r : StdResult StrictReading Refusal} {e₁ : Elements} {p₁ : Params}
       → StrictReads line e₀ p₀ r e₁ p₁ → StrictCall line e₀ p₀ r e₁ p₁

@@ -1,10 +1,9 @@
 -- The four services side by side: what a call is given, what it leaves, and the contract between the two. Each contract is the one that its function ensures.
-use Rattle.std.specs.Prelude.{ℕ, List, drop, ℤ}
+use Rattle.std.specs.Prelude.{ℕ, List, drop, ℤ, Result as StdResult}
 use Rattle.record.specs.Answers.{answer_of, strict_answer_of, output_answer_of}
 use Rattle.record.specs.declared.Record.{Record}
 use Rattle.record.specs.declared.Reading.{Reading}
 use Rattle.record.specs.declared.StrictReading.{StrictReading}
-use Rattle.record.specs.declared.Written.{Written}
 use Rattle.record.specs.declared.Answer.{Answer}
 use Rattle.record.specs.declared.StrictAnswer.{StrictAnswer}
 use Rattle.record.specs.declared.OutputAnswer.{OutputAnswer}
@@ -12,6 +11,7 @@ use Rattle.loose.specs.Loose.{Reads}
 use Rattle.grammar.specs.Reading.{StrictReads}
 use Rattle.message.specs.Prints.{Prints}
 use Rattle.lookup.specs.Lookup.{Looks}
+use Rattle.record.specs.declared.Refusal.{Refusal}
 
 pub data Service : Type 0 where
   loose : Service
@@ -71,12 +71,12 @@ pub record Tables (Answer : Type 0) : Type 0 where
   pub params : Params
 
 pub record Output : Type 0 where
-  pub answer : Written
+  pub answer : StdResult ℕ Refusal
   pub output : List ℕ
 
 abbrev pub Result : Service → Type 0
-Result Service.loose = Tables Reading
-Result Service.strict = Tables StrictReading
+Result Service.loose = Tables (StdResult Reading Refusal)
+Result Service.strict = Tables (StdResult StrictReading Refusal)
 Result Service.print = Output
 Result Service.lookup = Output
 

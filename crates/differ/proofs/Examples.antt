@@ -1,4 +1,5 @@
 -- Worked examples, computed from the definitions.
+use Rattle.std.specs.Prelude.{Option, Some, None}
 use Prim.Native.Nat.{ℕ}
 use mathlib.Core.Path.{◌≡◌, refl}
 use mathlib.Core.List.{List, [], ◌∷◌, map}
@@ -7,9 +8,6 @@ use Rattle.base.specs.Bytes.{bytes}
 use Rattle.record.specs.Records.{message_alone}
 use Rattle.record.specs.declared.Protocol.{Protocol}
 use Rattle.record.specs.declared.Protocol.TheVariants.{Rfc3164, Rfc5424}
-use Rattle.record.specs.declared.Level.{Level}
-use Rattle.record.specs.declared.Level.TheVariants.{Unset, Set}
-use Rattle.record.specs.declared.Stamp.TheVariants.{Stamped}
 use Rattle.lookup.specs.Unescape.{unescaped_from}
 use Rattle.differ.specs.declared.Differences.{Differences}
 use Rattle.differ.specs.Seen.{Text, Time, Seen, time_of, seen_of}
@@ -100,34 +98,34 @@ elements_compared = refl
 
 -- ---- the other fields: each alone, in order
 
-abbrev seen : Protocol → Level → Level → Time → Text → Text → Text → Text → List ℕ → Seen
+abbrev seen : Protocol → Option ℕ → Option ℕ → Time → Text → Text → Text → Text → List ℕ → Seen
 seen protocol facility severity time host app procid msgid message =
     record { protocol = protocol; facility = facility; severity = severity; time = time; host = host; app = app; procid = procid; msgid = msgid; ids = []; pairs = []; message = message }
 
 abbrev at : ℤ → ℕ → ℕ → ℤ → Time
-at seconds nanos digits offset = time_of (Stamped (record { seconds = seconds; nanos = nanos; digits = digits; offset = offset }))
+at seconds nanos digits offset = time_of (Some (record { seconds = seconds; nanos = nanos; digits = digits; offset = offset }))
 
 abbrev plain : Seen
-plain = seen (Rfc5424 1) (Set 3) (Set 4) (at (negsuc 4) 500000000 1 (pos 60)) (given (bytes "h")) (given (bytes "a")) missing (given []) (bytes "m")
+plain = seen (Rfc5424 1) (Some 3) (Some 4) (at (negsuc 4) 500000000 1 (pos 60)) (given (bytes "h")) (given (bytes "a")) missing (given []) (bytes "m")
 
 -- Another version, and the other protocol; a facility; a severity that is absent; the instant by a second, by a nanosecond; the offset; texts; absent and empty; the message.
 fields_compared : map (λ (b : Seen). differences_of plain b)
-    (seen (Rfc5424 2) (Set 3) (Set 4) (at (negsuc 4) 500000000 1 (pos 60)) (given (bytes "h")) (given (bytes "a")) missing (given []) (bytes "m")
-    ∷ seen Rfc3164 (Set 3) (Set 4) (at (negsuc 4) 500000000 1 (pos 60)) (given (bytes "h")) (given (bytes "a")) missing (given []) (bytes "m")
-    ∷ seen (Rfc5424 1) (Set 4) (Set 4) (at (negsuc 4) 500000000 1 (pos 60)) (given (bytes "h")) (given (bytes "a")) missing (given []) (bytes "m")
-    ∷ seen (Rfc5424 1) (Set 3) Unset (at (negsuc 4) 500000000 1 (pos 60)) (given (bytes "h")) (given (bytes "a")) missing (given []) (bytes "m")
-    ∷ seen (Rfc5424 1) (Set 3) (Set 4) (at (pos 4) 500000000 1 (pos 60)) (given (bytes "h")) (given (bytes "a")) missing (given []) (bytes "m")
-    ∷ seen (Rfc5424 1) (Set 3) (Set 4) (at (negsuc 4) 500000001 9 (pos 60)) (given (bytes "h")) (given (bytes "a")) missing (given []) (bytes "m")
-    ∷ seen (Rfc5424 1) (Set 3) (Set 4) (at (negsuc 4) 500000000 1 (pos 0)) (given (bytes "h")) (given (bytes "a")) missing (given []) (bytes "m")
-    ∷ seen (Rfc5424 1) (Set 3) (Set 4) (at (negsuc 4) 500000000 1 (pos 60)) (given (bytes "H")) (given (bytes "a")) missing (given []) (bytes "m")
-    ∷ seen (Rfc5424 1) (Set 3) (Set 4) (at (negsuc 4) 500000000 1 (pos 60)) (given (bytes "h")) (given (bytes "ab")) missing (given []) (bytes "m")
-    ∷ seen (Rfc5424 1) (Set 3) (Set 4) (at (negsuc 4) 500000000 1 (pos 60)) (given (bytes "h")) (given (bytes "a")) (given []) (given []) (bytes "m")
-    ∷ seen (Rfc5424 1) (Set 3) (Set 4) (at (negsuc 4) 500000000 1 (pos 60)) (given (bytes "h")) (given (bytes "a")) missing missing (bytes "m")
-    ∷ seen (Rfc5424 1) (Set 3) (Set 4) (at (negsuc 4) 500000000 1 (pos 60)) (given (bytes "h")) (given (bytes "a")) missing (given []) []
+    (seen (Rfc5424 2) (Some 3) (Some 4) (at (negsuc 4) 500000000 1 (pos 60)) (given (bytes "h")) (given (bytes "a")) missing (given []) (bytes "m")
+    ∷ seen Rfc3164 (Some 3) (Some 4) (at (negsuc 4) 500000000 1 (pos 60)) (given (bytes "h")) (given (bytes "a")) missing (given []) (bytes "m")
+    ∷ seen (Rfc5424 1) (Some 4) (Some 4) (at (negsuc 4) 500000000 1 (pos 60)) (given (bytes "h")) (given (bytes "a")) missing (given []) (bytes "m")
+    ∷ seen (Rfc5424 1) (Some 3) None (at (negsuc 4) 500000000 1 (pos 60)) (given (bytes "h")) (given (bytes "a")) missing (given []) (bytes "m")
+    ∷ seen (Rfc5424 1) (Some 3) (Some 4) (at (pos 4) 500000000 1 (pos 60)) (given (bytes "h")) (given (bytes "a")) missing (given []) (bytes "m")
+    ∷ seen (Rfc5424 1) (Some 3) (Some 4) (at (negsuc 4) 500000001 9 (pos 60)) (given (bytes "h")) (given (bytes "a")) missing (given []) (bytes "m")
+    ∷ seen (Rfc5424 1) (Some 3) (Some 4) (at (negsuc 4) 500000000 1 (pos 0)) (given (bytes "h")) (given (bytes "a")) missing (given []) (bytes "m")
+    ∷ seen (Rfc5424 1) (Some 3) (Some 4) (at (negsuc 4) 500000000 1 (pos 60)) (given (bytes "H")) (given (bytes "a")) missing (given []) (bytes "m")
+    ∷ seen (Rfc5424 1) (Some 3) (Some 4) (at (negsuc 4) 500000000 1 (pos 60)) (given (bytes "h")) (given (bytes "ab")) missing (given []) (bytes "m")
+    ∷ seen (Rfc5424 1) (Some 3) (Some 4) (at (negsuc 4) 500000000 1 (pos 60)) (given (bytes "h")) (given (bytes "a")) (given []) (given []) (bytes "m")
+    ∷ seen (Rfc5424 1) (Some 3) (Some 4) (at (negsuc 4) 500000000 1 (pos 60)) (given (bytes "h")) (given (bytes "a")) missing missing (bytes "m")
+    ∷ seen (Rfc5424 1) (Some 3) (Some 4) (at (negsuc 4) 500000000 1 (pos 60)) (given (bytes "h")) (given (bytes "a")) missing (given []) []
     -- the digit count is none of it
-    ∷ seen (Rfc5424 1) (Set 3) (Set 4) (at (negsuc 4) 500000000 6 (pos 60)) (given (bytes "h")) (given (bytes "a")) missing (given []) (bytes "m")
+    ∷ seen (Rfc5424 1) (Some 3) (Some 4) (at (negsuc 4) 500000000 6 (pos 60)) (given (bytes "h")) (given (bytes "a")) missing (given []) (bytes "m")
     -- all but the elements
-    ∷ seen Rfc3164 Unset Unset Time.untimed missing missing (given (bytes "1")) missing (bytes "n")
+    ∷ seen Rfc3164 None None Time.untimed missing missing (given (bytes "1")) missing (bytes "n")
     ∷ [])
     ≡ map (λ (n : ℕ). answer n 0 0 0) (1 ∷ 1 ∷ 2 ∷ 4 ∷ 8 ∷ 8 ∷ 8 ∷ 16 ∷ 32 ∷ 64 ∷ 128 ∷ 512 ∷ 0 ∷ 767 ∷ [])
 unfolding occurs before

@@ -1,82 +1,18 @@
 -- The fields: what each comparison answers, and their marks.
-use Prim.Native.Nat.compare
-use Prim.Native.Nat.{ℕ, suc, ◌+◌, ◌-◌, ◌*◌}
-use mathlib.Core.Path.{◌≡◌, refl, ap, ap₂, ◌∙◌}
+use Prim.Native.Nat.{ℕ, ◌+◌, ◌-◌, ◌*◌}
+use mathlib.Core.Path.{◌≡◌, refl, ap₂, ◌∙◌}
 use mathlib.Core.Bool.{Bool, true, false, not, ◌&&◌, ◌||◌}
 use mathlib.Core.List.{List}
 use native.Mathlib.Omega.{arith}
-use lib.Dec.{eqb}
 use lib.ListN.{take, drop}
-use borrow.Author.Tests.{ne_eqb}
-use mir.Syntax.{w32, w64}
-use mir.Val.{SFits, to_z, of_z}
-use mir.ValLaws.{to_z-of_z}
-use lib.IntN.{ℤ, pos, negsuc}
 use Rattle.base.specs.Texts.{text_at, same_text}
-use Rattle.base.specs.Diff.{diff_of}
-use Rattle.base.specs.declared.Diff.{Diff}
 use Rattle.base.proofs.Tests.{clash, both}
 use Rattle.base.proofs.Texts.{part_text_lem}
-use Rattle.record.specs.declared.Level.{Level}
-use Rattle.record.specs.declared.Level.TheVariants.{Set}
 use Rattle.record.specs.declared.Place.{Place}
-use Rattle.record.specs.declared.Protocol.{Protocol}
-use Rattle.record.specs.declared.Protocol.TheVariants.{Rfc5424}
-use Rattle.record.specs.declared.Stamp.{Stamp}
-use Rattle.record.specs.declared.Stamp.TheVariants.{Stamped}
-use Rattle.record.specs.declared.Timestamp.{Timestamp}
 use Rattle.record.specs.declared.Record.{Record}
 use Rattle.differ.specs.Seen.{text_of, time_of}
-use Rattle.differ.specs.Differences.{same_protocol, same_level, same_signed, same_time, same_given}
+use Rattle.differ.specs.Differences.{same_protocol, same_level, same_time, same_given}
 use Rattle.differ.specs.Steps.{mark_of, Marks, level_marks, head_marks}
-
--- ---- enums
-
-pub version_is : (v : ℕ) (p : Protocol) (w : ℕ) → p ≡ Rfc5424 w → eqb v w ≡ same_protocol (Rfc5424 v) p
-version_is v p w e = rw e refl
-
-pub protocol_is : (a b : Protocol) (v : ℕ) → a ≡ Rfc5424 v → (r : Bool) → r ≡ same_protocol (Rfc5424 v) b → r ≡ same_protocol a b
-protocol_is a b v e r q = rw e q
-
-pub set_is : (n : ℕ) (l : Level) (m : ℕ) → l ≡ Set m → eqb n m ≡ same_level (Set n) l
-set_is n l m e = rw e refl
-
-pub level_is : (a b : Level) (n : ℕ) → a ≡ Set n → (r : Bool) → r ≡ same_level (Set n) b → r ≡ same_level a b
-level_is a b n e r q = rw e q
-
-pub stamped_is : (t : Timestamp) (s : Stamp) (u : Timestamp) → s ≡ Stamped u → (r : Bool) → r ≡ same_time (time_of (Stamped t)) (time_of (Stamped u)) → r ≡ same_time (time_of (Stamped t)) (time_of s)
-stamped_is t s u e r q = rw e q
-
-pub stamp_is : (a b : Stamp) (t : Timestamp) → a ≡ Stamped t → (r : Bool) → r ≡ same_time (time_of (Stamped t)) (time_of b) → r ≡ same_time (time_of a) (time_of b)
-stamp_is a b t e r q = rw e q
-
-pub ruleset enum_laws = (version_is, protocol_is, set_is, level_is, stamped_is, stamp_is)
-
--- ---- the timestamp
-
-and_true : (b : Bool) → (b && true) ≡ b
-and_true true = refl
-and_true false = refl
-
-same_diffs : (x y : ℤ) → (eqb (diff_of x).down (diff_of y).down && eqb (diff_of x).up (diff_of y).up) ≡ same_signed x y
-same_diffs (pos m) (pos n) = refl
-same_diffs (pos m) (negsuc n) = rw (ne_eqb 0 (suc n) (λ q. omega arith)) refl
-same_diffs (negsuc m) (pos n) = rw (ne_eqb (suc m) 0 (λ q. omega arith)) refl
-same_diffs (negsuc m) (negsuc n) = rw compare.suc-suc (and_true (eqb m n))
-
-module _ (x y : ℤ) (fx : SFits w64 x) (fy : SFits w64 y) (a b : Diff) (ea : a ≡ diff_of (to_z w64 (of_z w64 x))) (eb : b ≡ diff_of (to_z w64 (of_z w64 y))) where
-  pub signed_is : (eqb a.down b.down && eqb a.up b.up) ≡ same_signed x y
-  signed_is = rw (ea ∙ ap diff_of (to_z-of_z w64 x fx), eb ∙ ap diff_of (to_z-of_z w64 y fy)) (same_diffs x y)
-
-module _ (t u : Timestamp) (ft : SFits w64 t.seconds) (fu : SFits w64 u.seconds) (gt : SFits w32 t.offset) (gu : SFits w32 u.offset)
-    (r : Bool) (er : r ≡ same_signed (to_z w64 (of_z w64 t.seconds)) (to_z w64 (of_z w64 u.seconds)))
-    (a b : ℤ) (fa : SFits w64 a) (fb : SFits w64 b) (ea : a ≡ to_z w32 (of_z w32 t.offset)) (eb : b ≡ to_z w32 (of_z w32 u.offset))
-    (q : Bool) (eq : q ≡ same_signed (to_z w64 (of_z w64 a)) (to_z w64 (of_z w64 b))) where
-  pub time_is : ((r && eqb t.nanos u.nanos) && q) ≡ same_time (time_of (Stamped t)) (time_of (Stamped u))
-  time_is =
-      ap₂ (λ (x y : Bool). (x && eqb t.nanos u.nanos) && y)
-      (er ∙ ap₂ same_signed (to_z-of_z w64 t.seconds ft) (to_z-of_z w64 u.seconds fu))
-      (eq ∙ ap₂ same_signed (to_z-of_z w64 a fa ∙ ea ∙ to_z-of_z w32 t.offset gt) (to_z-of_z w64 b fb ∙ eb ∙ to_z-of_z w32 u.offset gu))
 
 -- ---- texts
 

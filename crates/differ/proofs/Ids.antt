@@ -1,13 +1,14 @@
 -- The ids: the loop that compares them, and what it says of positions.
 use Rattle.std.specs.Prelude.{if◌then◌else◌}
-use Prim.Native.Nat.{ℕ, zero, suc, ◌+◌, ◌≤◌, ◌<◌}
+use Prim.Native.Nat.{ℕ, zero, suc, ◌+◌, ◌≤◌, ◌<◌, min, max}
 use mathlib.Core.Path.{◌≡◌, refl, sym, ap, ap₂, ◌∙◌}
-use mathlib.Core.Bool.{Bool, true, false, not}
+use mathlib.Core.Bool.{Bool, true, false}
 use mathlib.Core.List.{List, [], ◌∷◌, map}
+use native.Mathlib.Decide.{dec_le}
 use native.Mathlib.Omega.{arith}
 use lib.Dec.{leb}
 use lib.ListN.{length, get_or, take, drop}
-use borrow.Author.Tests.{not-true, not-false, leb-true, leb-false, le-leb, lt-leb}
+use borrow.Author.Tests.{leb-true, leb-false, le-leb, lt-leb}
 use Rattle.base.specs.Texts.{same_text}
 use Rattle.base.proofs.Tests.{by_test}
 use Rattle.suits.proofs.Rows.{row_step, rows_ended}
@@ -63,19 +64,28 @@ module _ (line₁ : List ℕ) (e₁ : List (List ℕ)) (n₁ : ℕ) (line₂ : L
         step = ap₂ (λ (x y : List (List ℕ)). common_ids (map (id_of line₁) x) (map (id_of line₂) y)) (row_step e₁ n₁ a.given i [] h) (row_step e₂ n₂ b.given i [] g)
 
         module _ (t : Bool) (et : t ≡ same_text (id_of line₁ (get_or e₁ i [])) (id_of line₂ (get_or e₂ i []))) where
-          pub sharing_off : not t ≡ true → i ≡ common_ids (map (id_of line₁) (take n₁ e₁)) (map (id_of line₂) (take n₂ e₂))
+          pub sharing_off : t ≡ false → i ≡ common_ids (map (id_of line₁) (take n₁ e₁)) (map (id_of line₂) (take n₂ e₂))
           sharing_off q =
-              let f : same_text (id_of line₁ (get_or e₁ i [])) (id_of line₂ (get_or e₂ i [])) ≡ false = sym et ∙ not-true t q in
+              let f : same_text (id_of line₁ (get_or e₁ i [])) (id_of line₂ (get_or e₂ i [])) ≡ false = sym et ∙ q in
               let z : common_ids (ids₁ i) (ids₂ i) ≡ 0 = step ∙ ap (λ (x : Bool). if x then suc (common_ids (ids₁ (i + 1)) (ids₂ (i + 1))) else 0) f in
               omega (arith, w.same)
 
-          pub sharing_on : not t ≡ false → Sharing line₁ e₁ n₁ line₂ e₂ n₂ (i + 1)
+          pub sharing_on : t ≡ true → Sharing line₁ e₁ n₁ line₂ e₂ n₂ (i + 1)
           sharing_on q =
-              let f : same_text (id_of line₁ (get_or e₁ i [])) (id_of line₂ (get_or e₂ i [])) ≡ true = sym et ∙ not-false t q in
+              let f : same_text (id_of line₁ (get_or e₁ i [])) (id_of line₂ (get_or e₂ i [])) ≡ true = sym et ∙ q in
               let z : common_ids (ids₁ i) (ids₂ i) ≡ suc (common_ids (ids₁ (i + 1)) (ids₂ (i + 1))) = step ∙ ap (λ (x : Bool). if x then suc (common_ids (ids₁ (i + 1)) (ids₂ (i + 1))) else 0) f in
               record { inside₁ = omega arith; inside₂ = omega arith; same = omega (arith, w.same) }
 
-pub ruleset sharing_laws = (sharing_none, sharing_end, sharing_short, sharing_id₁, sharing_id₂, sharing_off, sharing_on)
+    -- the shorter list has ended
+    pub sharing_done : (n : ℕ) → n ≡ min n₁ n₂ → n ≤ i → n ≡ common_ids (map (id_of line₁) (take n₁ e₁)) (map (id_of line₂) (take n₂ e₂))
+    sharing_done n e h = go (dec_le n₁ i)
+      where
+        here : n ≡ i
+        here = omega (arith, w.inside₁, w.inside₂)
+
+        go : Dec (n₁ ≤ i) → n ≡ common_ids (map (id_of line₁) (take n₁ e₁)) (map (id_of line₂) (take n₂ e₂))
+        go (yes g) = here ∙ sharing_end g
+        go (no g) = here ∙ sharing_short (omega arith) (omega arith)
 
 -- ---- positions
 
@@ -101,6 +111,13 @@ same_before (s ∷ a) (t ∷ b) (suc j) h = let l = (lt_if (same_text s t) (comm
 
 abbrev pub longer : ℕ → ℕ → ℕ
 longer m n = if leb m n then n else m
+
+pub longer_is : (m n r : ℕ) → r ≡ max m n → r ≡ longer m n
+longer_is m n r e = go (dec_le m n)
+  where
+    go : Dec (m ≤ n) → r ≡ longer m n
+    go (yes h) = rw (le-leb m n h) (omega arith)
+    go (no h) = rw (lt-leb m n (omega arith)) (omega arith)
 
 longer_suc : (m n : ℕ) → longer (suc m) (suc n) ≡ suc (longer m n)
 longer_suc m n =

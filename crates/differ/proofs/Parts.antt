@@ -1,5 +1,5 @@
 -- Where the elements differ: from the ids that are the same and the pair that is odd.
-use Rattle.std.specs.Prelude.{if◌then◌else◌}
+use Rattle.std.specs.Prelude.{if◌then◌else◌, Option, Some, None}
 use Prim.Native.Nat.{ℕ, zero, suc, ◌+◌, ◌-◌, ◌≤◌, ◌<◌}
 use mathlib.Core.Path.{◌≡◌, refl, sym, ap, ap₂, ◌∙◌}
 use mathlib.Core.Bool.{Bool, true, false, not, ◌&&◌}
@@ -7,8 +7,8 @@ use mathlib.Core.List.{List, [], ◌∷◌}
 use native.Mathlib.Decide.{dec_le}
 use native.Mathlib.Omega.{arith}
 use lib.Dec.{eqb, ltb, leb}
-use lib.ListN.{length, get_or, take, drop}
-use borrow.Author.Tests.{lt-ltb, le-ltb, le-leb, lt-leb, leb-true, leb-false, eqb-true, eq-eqb}
+use lib.ListN.{length, get_or}
+use borrow.Author.Tests.{lt-ltb, le-ltb, leb-true, leb-false, eqb-true, eq-eqb}
 use Rattle.base.proofs.Tests.{by_test, clash}
 use Rattle.pairs.specs.Odd.{Least}
 use Rattle.pairs.specs.Odd.Least.{none, some}
@@ -18,6 +18,12 @@ use Rattle.differ.specs.Seen.{Pair, Seen}
 use Rattle.differ.specs.Differences.{occurs, before, has, odd_at, same_id_at, differs_at, positions, first_position, elements_differ}
 use Rattle.differ.specs.Steps.{common_ids, pair_part, part_of, part_from}
 use Rattle.differ.proofs.Ids.{common_le, same_before, other_there, longer}
+
+abbrev at_part : ℕ → ℕ → ℕ → Option Part
+at_part position line entry = Some (record { position = position; line = line; entry = entry })
+
+abbrev nowhere : Option Part
+nowhere = None
 
 -- ---- the first that passes a test
 
@@ -128,7 +134,7 @@ module _ (a b : Seen) (odd : ℕ → Bool) (element : ℕ → ℕ) (l : Linked a
   none_is f = has_none 0 (differs_at a b) (positions 0 most) (λ i h. let g : i < most = omega (arith, positions_length 0 most) in ap (differs_at a b) (position_at most i g) ∙ f i g)
 
   -- position k differs by its ids
-  by_ids : k < most → ((j : ℕ) → j < k → Quiet j) → record { differs = true; position = k; line = 0; entry = 0 } ≡ part_from a b
+  by_ids : k < most → ((j : ℕ) → j < k → Quiet j) → at_part k 0 0 ≡ part_from a b
   unfolding part_from
   by_ids h q =
       let o : same_id_at a b k ≡ false = other_there a.ids b.ids h in
@@ -136,7 +142,7 @@ module _ (a b : Seen) (odd : ℕ → Bool) (element : ℕ → ℕ) (l : Linked a
       rw (f.1, f.0, o) refl
 
   -- none does
-  by_none : most ≤ k → ((j : ℕ) → j < k → Quiet j) → record { differs = false; position = 0; line = 0; entry = 0 } ≡ part_from a b
+  by_none : most ≤ k → ((j : ℕ) → j < k → Quiet j) → nowhere ≡ part_from a b
   unfolding part_from
   by_none h q = rw (none_is (λ j b. let g : j < k = omega arith in alike_at j g (q j g))) refl
 
@@ -149,7 +155,7 @@ module _ (a b : Seen) (odd : ℕ → Bool) (element : ℕ → ℕ) (l : Linked a
     alike j g = alike_at j (omega arith) (q j g)
 
     by_first : (i : ℕ) → i < m → ((j : ℕ) → j < i → odd_at a.pairs b.pairs p (get_or a.pairs j blank_pair) ≡ false) → odd_at a.pairs b.pairs p (get_or a.pairs i blank_pair) ≡ true
-        → record { differs = true; position = p; line = 1; entry = i } ≡ part_from a b
+        → at_part p 1 i ≡ part_from a b
     unfolding part_from
     by_first i g f t =
         let s = same_before a.ids b.ids p h in
@@ -160,7 +166,7 @@ module _ (a b : Seen) (odd : ℕ → Bool) (element : ℕ → ℕ) (l : Linked a
 
     by_second : (i : ℕ) → i < length b.pairs → ((j : ℕ) → j < m → odd_at a.pairs b.pairs p (get_or a.pairs j blank_pair) ≡ false)
         → ((j : ℕ) → j < i → odd_at a.pairs b.pairs p (get_or b.pairs j blank_pair) ≡ false) → odd_at a.pairs b.pairs p (get_or b.pairs i blank_pair) ≡ true
-        → record { differs = true; position = p; line = 2; entry = i } ≡ part_from a b
+        → at_part p 2 i ≡ part_from a b
     unfolding part_from
     by_second i g u f t =
         let s = same_before a.ids b.ids p h in
@@ -211,7 +217,7 @@ module _ (a b : Seen) (odd : ℕ → Bool) (element : ℕ → ℕ) (l : Linked a
               before₂ : (j : ℕ) → j < length b.pairs → m + j < r.entry → odd_at a.pairs b.pairs r.element (get_or b.pairs j blank_pair) ≡ false
               before₂ j x y = not_odd _ r.element (uneven a b (get_or b.pairs j blank_pair)) (λ u v. let z = g (m + j) y (l.odd₂ j x ∙ u) in omega (arith, l.element₂ j x))
 
-              side : Dec (m ≤ r.entry) → r.element < k → ((j : ℕ) → j < r.element → Quiet j) → pair_part r m ≡ part_from a b
+              side : Dec (m ≤ r.entry) → r.element < k → ((j : ℕ) → j < r.element → Quiet j) → Some (pair_part r m) ≡ part_from a b
               side (no x) s q =
                   let y : r.entry < m = omega arith in
                   rw (lt-ltb r.entry m y)
@@ -227,36 +233,24 @@ module _ (a b : Seen) (odd : ℕ → Bool) (element : ℕ → ℕ) (l : Linked a
 
 -- ---- in the form of the code
 
-pub front_is : (line : List ℕ) (end : ℕ) (s : List ℕ) → s ≡ take (end - 0) (drop 0 line) → s ≡ take end line
-front_is line end s e = let z : end - 0 ≡ end = omega arith in e ∙ ap (λ (n : ℕ). take n line) z
-
-module _ (a b : ℕ) where
-  pub larger_second : a ≤ b → b ≡ longer a b
-  larger_second h = rw (le-leb a b h) refl
-
-  pub larger_first : b < a → a ≡ longer a b
-  larger_first h = rw (lt-leb a b h) refl
-
-pub ruleset larger_laws = (larger_second, larger_first)
-
 module _ (odd : Odd) (m : ℕ) where
-  pub pair_first : odd.entry < m → record { differs = true; position = odd.element; line = 1; entry = odd.entry } ≡ pair_part odd m
+  pub pair_first : odd.entry < m → record { position = odd.element; line = 1; entry = odd.entry } ≡ pair_part odd m
   pair_first h = rw (lt-ltb odd.entry m h) refl
 
-  pub pair_second : m ≤ odd.entry → record { differs = true; position = odd.element; line = 2; entry = odd.entry - m } ≡ pair_part odd m
+  pub pair_second : m ≤ odd.entry → record { position = odd.element; line = 2; entry = odd.entry - m } ≡ pair_part odd m
   pair_second h = rw (le-ltb odd.entry m h) refl
 
 pub ruleset pair_laws = (pair_first, pair_second)
 
 module _ (k most : ℕ) (odd : Odd) (m n : ℕ) where
-  pub part_pair : (ltb odd.entry n && ltb odd.element k) ≡ true → (p : Part) → p ≡ pair_part odd m → p ≡ part_of k most odd m n
-  part_pair h p e = rw h e
+  pub part_pair : (ltb odd.entry n && ltb odd.element k) ≡ true → (p : Part) → p ≡ pair_part odd m → Some p ≡ part_of k most odd m n
+  part_pair h p e = rw h (ap Some e)
 
   module _ (h : (ltb odd.entry n && ltb odd.element k) ≡ false) where
-    pub part_ids : k < most → record { differs = true; position = k; line = 0; entry = 0 } ≡ part_of k most odd m n
+    pub part_ids : k < most → at_part k 0 0 ≡ part_of k most odd m n
     part_ids g = rw (h, lt-ltb k most g) refl
 
-    pub part_none : most ≤ k → record { differs = false; position = 0; line = 0; entry = 0 } ≡ part_of k most odd m n
+    pub part_none : most ≤ k → nowhere ≡ part_of k most odd m n
     part_none g = rw (h, le-ltb k most g) refl
 
 pub ruleset part_laws = (part_pair, part_ids, part_none)

@@ -1,11 +1,10 @@
 -- The comparison as a whole.
-use Rattle.std.specs.Prelude.{if◌then◌else◌}
+use Rattle.std.specs.Prelude.{if◌then◌else◌, Option, is_some, unwrap_or}
 use Prim.Native.Nat.{ℕ, ◌+◌, ◌*◌, ◌≤◌}
 use mathlib.Core.Path.{◌≡◌, refl, sym, ap, ap₂, ◌∙◌, subst}
 use mathlib.Core.Bool.{Bool, true, false, not}
 use mathlib.Core.List.{List, [], ◌∷◌, map}
 use native.Mathlib.Omega.{arith}
-use lib.Dec.{leb}
 use lib.ListN.{length, take, length-map}
 use lib.Seq.{length-take-le}
 use mir.Syntax.{w64}
@@ -19,7 +18,7 @@ use Rattle.differ.specs.declared.Line.{Line}
 use Rattle.differ.specs.declared.Part.{Part}
 use Rattle.differ.specs.Seen.{Seen, id_of, pair_of}
 use Rattle.differ.specs.Differences.{same_protocol, same_level, same_time, same_given, elements_differ, differing, bits, differences_of}
-use Rattle.differ.specs.Steps.{mark_of, Marks, head_marks, text_marks, message_mark, common_ids, part_of, part_from, rows_in_line, seen_by, Readable, Differs}
+use Rattle.differ.specs.Steps.{Marks, head_marks, text_marks, message_mark, common_ids, part_of, part_from, rows_in_line, seen_by, Readable, Differs}
 use Rattle.differ.proofs.Ids.{longer}
 use Rattle.differ.proofs.Parts.{part_tells}
 use Rattle.differ.proofs.Links.{linked, least_linked}
@@ -56,7 +55,7 @@ module _ (line₁ : List ℕ) (a : Line) (e₁ : List (List ℕ)) (ra : Readable
         (record { listed₁ = ra.listed; listed₂ = rb.listed; sizes = omega (arith, ra.size, rb.size); counts = omega (arith, ra.count, rb.count) })))
 
     module _ (k : ℕ) (ek : k ≡ common_ids (map (id_of line₁) (take a.ids e₁)) (map (id_of line₂) (take b.ids e₂)))
-        (odd : Odd) (eo : FirstOdd s₁ (rows_of s₁ e₁ a.ids) s₂ (rows_of s₂ e₂ b.ids) odd) (most : ℕ) (em : most ≡ (if leb a.ids b.ids then b.ids else a.ids)) where
+        (odd : Odd) (eo : FirstOdd s₁ (rows_of s₁ e₁ a.ids) s₂ (rows_of s₂ e₂ b.ids) odd) (most : ℕ) (em : most ≡ longer a.ids b.ids) where
       first : FirstOdd (take a.end line₁) (rows_in_line line₁ a e₁) (take b.end line₂) (rows_in_line line₂ b e₂) odd
       first =
           subst (λ (x : List ℕ). FirstOdd x (rows_of x e₁ a.ids) (take b.end line₂) (rows_in_line line₂ b e₂) odd) q₁
@@ -71,14 +70,12 @@ module _ (line₁ : List ℕ) (a : Line) (e₁ : List (List ℕ)) (ra : Readable
       most_is : most ≡ longer (length (seen_by line₁ a e₁).ids) (length (seen_by line₂ b e₂).ids)
       most_is = em ∙ sym (ap₂ longer (ids_length line₁ e₁ a.ids ra.listed.given) (ids_length line₂ e₂ b.ids rb.listed.given))
 
-      pub part_is : (p : Part) → p ≡ part_of k most odd a.params (a.params + b.params) → p ≡ part_from (seen_by line₁ a e₁) (seen_by line₂ b e₂)
+      pub part_is : (p : Option Part) → p ≡ part_of k most odd a.params (a.params + b.params) → p ≡ part_from (seen_by line₁ a e₁) (seen_by line₂ b e₂)
       part_is p e =
           e
           ∙ ap₂ (λ (x y : ℕ). part_of x y odd a.params (a.params + b.params)) ek most_is
           ∙ ap₂ (λ (x y : ℕ). part_of (common_ids (seen_by line₁ a e₁).ids (seen_by line₂ b e₂).ids) (longer (length (seen_by line₁ a e₁).ids) (length (seen_by line₂ b e₂).ids)) odd x y) m_is n_is
           ∙ part_tells (seen_by line₁ a e₁) (seen_by line₂ b e₂) _ _ (linked line₁ a e₁ ra line₂ b e₂ rb) odd (least_linked line₁ a e₁ ra line₂ b e₂ rb odd first)
-
-pub ruleset elements_laws = (readable_listed, params_fit_lem, both_short, both_bounded, part_is)
 
 -- ---- all fields
 
@@ -89,25 +86,31 @@ ten : (b₀ b₁ b₂ b₃ b₄ b₅ b₆ b₇ b₈ b₉ : Bool) (n₀ n₁ n₂
 ten b₀ b₁ b₂ b₃ b₄ b₅ b₆ b₇ b₈ b₉ n₀ n₁ n₂ n₃ n₄ n₅ n₆ n₇ n₈ n₉ e₀ e₁ e₂ e₃ e₄ e₅ e₆ e₇ e₈ e₉ =
     rw (← e₀, ← e₁, ← e₂, ← e₃, ← e₄, ← e₅, ← e₆, ← e₇, ← e₈, ← e₉) (omega arith)
 
-from_differs : (a b : Seen) → (part_from a b).differs ≡ elements_differ a b
+from_differs : (a b : Seen) → is_some (part_from a b) ≡ elements_differ a b
 unfolding part_from
 from_differs a b =
-    by_test (λ t. elements_differ a b ≡ t → (part_from a b).differs ≡ t) (elements_differ a b) (λ h e. rw e refl) (λ h e. rw e refl) refl
+    by_test (λ t. elements_differ a b ≡ t → is_some (part_from a b) ≡ t) (elements_differ a b) (λ h e. rw e refl) (λ h e. rw e refl) refl
 
-not_not : (b : Bool) → not (not b) ≡ b
-not_not true = refl
-not_not false = refl
+byte_is : (b : Bool) → val.bool_byte b ≡ (if b then 1 else 0)
+byte_is true = refl
+byte_is false = refl
 
-whole : (a b : Seen) → record { fields = bits (differing a b); position = (part_from a b).position; pair_line = (part_from a b).line; pair_entry = (part_from a b).entry } ≡ differences_of a b
+-- zeros where there is none
+abbrev part_or : Option Part → Part
+part_or p = unwrap_or p (record { position = 0; line = 0; entry = 0 })
+
+whole : (a b : Seen)
+    → record { fields = bits (differing a b); position = (part_or (part_from a b)).position; pair_line = (part_or (part_from a b)).line; pair_entry = (part_or (part_from a b)).entry } ≡ differences_of a b
 unfolding part_from
 whole a b =
     by_test
-    (λ t. elements_differ a b ≡ t → record { fields = bits (differing a b); position = (part_from a b).position; pair_line = (part_from a b).line; pair_entry = (part_from a b).entry } ≡ differences_of a b)
+    (λ t. elements_differ a b ≡ t
+    → record { fields = bits (differing a b); position = (part_or (part_from a b)).position; pair_line = (part_or (part_from a b)).line; pair_entry = (part_or (part_from a b)).entry } ≡ differences_of a b)
     (elements_differ a b) (λ h e. rw e refl) (λ h e. rw e refl) refl
 
-module _ (line₁ : List ℕ) (a : Line) (e₁ : List (List ℕ)) (line₂ : List ℕ) (b : Line) (e₂ : List (List ℕ)) (p : Part) (ep : p ≡ part_from (seen_by line₁ a e₁) (seen_by line₂ b e₂))
+module _ (line₁ : List ℕ) (a : Line) (e₁ : List (List ℕ)) (line₂ : List ℕ) (b : Line) (e₂ : List (List ℕ)) (p : Option Part) (ep : p ≡ part_from (seen_by line₁ a e₁) (seen_by line₂ b e₂))
     (h t d m : ℕ) (mh : Marks (head_marks a.read b.read) 15 h) (mt : Marks (text_marks line₁ a.read line₂ b.read) 15 t)
-    (mm : Marks (message_mark line₁ a.read line₂ b.read) 1 m) (md : Marks (mark_of (not p.differs)) 1 d) where
+    (mm : Marks (message_mark line₁ a.read line₂ b.read) 1 m) (s : Bool) (es : s ≡ is_some p) (md : d ≡ val.bool_byte s) (q : Part) (eq : q ≡ part_or p) where
   abbrev A : Seen
   A = seen_by line₁ a e₁
 
@@ -115,7 +118,7 @@ module _ (line₁ : List ℕ) (a : Line) (e₁ : List (List ℕ)) (line₂ : Lis
   B = seen_by line₂ b e₂
 
   d_is : d ≡ (if elements_differ A B then 1 else 0)
-  d_is = md.is ∙ ap (λ (x : Bool). if x then 1 else 0) (not_not p.differs ∙ ap (λ (x : Part). x.differs) ep ∙ from_differs A B)
+  d_is = md ∙ byte_is s ∙ ap (λ (x : Bool). if x then 1 else 0) (es ∙ ap is_some ep ∙ from_differs A B)
 
   fields_are : h + 16 * t + 256 * d + 512 * m ≡ bits (differing A B)
   fields_are =
@@ -125,11 +128,11 @@ module _ (line₁ : List ℕ) (a : Line) (e₁ : List (List ℕ)) (line₂ : Lis
       (not (same_given A.host B.host)) (not (same_given A.app B.app)) (not (same_given A.procid B.procid)) (not (same_given A.msgid B.msgid)) (elements_differ A B)
       (not (same_text A.message B.message)) _ _ _ _ _ _ _ _ _ _ refl refl refl refl refl refl refl refl refl refl
 
-  pub differs_is : Differs line₁ a e₁ line₂ b e₂ (record { fields = h + 16 * t + 256 * d + 512 * m; position = p.position; pair_line = p.line; pair_entry = p.entry }) e₁ e₂
+  pub differs_is : Differs line₁ a e₁ line₂ b e₂ (record { fields = h + 16 * t + 256 * d + 512 * m; position = q.position; pair_line = q.line; pair_entry = q.entry }) e₁ e₂
   differs_is =
       record {
         is =
-            ap₂ (λ (n : ℕ) (x : Part). record { fields = n; position = x.position; pair_line = x.line; pair_entry = x.entry }) fields_are ep ∙ whole A B;
+            ap₂ (λ (n : ℕ) (x : Part). record { fields = n; position = x.position; pair_line = x.line; pair_entry = x.entry }) fields_are (eq ∙ ap part_or ep) ∙ whole A B;
         kept₁ = refl;
         kept₂ = refl;
       }

@@ -1,11 +1,9 @@
 -- What differs between two readings, in the order of the request: protocol and version, facility, severity, timestamp, host, app, process id, message id, elements,
 -- message.
-use Rattle.std.specs.Prelude.{ℕ, zero, suc, ◌+◌, ◌*◌, List, [], ◌∷◌, Bool, true, false, not, ◌&&◌, ◌||◌, eqb, leb, ltb, length, ℤ, pos, negsuc, if◌then◌else◌}
+use Rattle.std.specs.Prelude.{ℕ, zero, suc, ◌+◌, ◌*◌, List, [], ◌∷◌, Bool, true, false, not, ◌&&◌, ◌||◌, eqb, leb, ltb, length, ℤ, pos, negsuc, if◌then◌else◌, Option, Some, None}
 use Rattle.base.specs.Texts.{same_text}
 use Rattle.record.specs.declared.Protocol.{Protocol}
 use Rattle.record.specs.declared.Protocol.TheVariants.{Rfc3164, Rfc5424}
-use Rattle.record.specs.declared.Level.{Level}
-use Rattle.record.specs.declared.Level.TheVariants.{Unset, Set}
 use Rattle.differ.specs.declared.Differences.{Differences}
 use Rattle.differ.specs.Seen.{Text, Time, Pair, Seen}
 
@@ -19,11 +17,11 @@ same_protocol (Rfc5424 v) Rfc3164 = false
 same_protocol (Rfc5424 v) (Rfc5424 w) = eqb v w
 
 -- a facility or a severity
-abbrev pub same_level : Level → Level → Bool
-same_level Unset Unset = true
-same_level Unset (Set n) = false
-same_level (Set m) Unset = false
-same_level (Set m) (Set n) = eqb m n
+abbrev pub same_level : Option ℕ → Option ℕ → Bool
+same_level None None = true
+same_level None (Some n) = false
+same_level (Some m) None = false
+same_level (Some m) (Some n) = eqb m n
 
 abbrev pub same_signed : ℤ → ℤ → Bool
 same_signed (pos m) (pos n) = eqb m n

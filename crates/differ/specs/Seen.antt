@@ -1,13 +1,11 @@
 -- A reading as a user sees it: numbers and bytes. No place, no digit count and no escape is in it.
-use Rattle.std.specs.Prelude.{ℕ, List, map, true, get_or, ℤ, if◌then◌else◌}
+use Rattle.std.specs.Prelude.{ℕ, List, map, true, get_or, ℤ, if◌then◌else◌, Option, Some, None}
 use Rattle.base.specs.Texts.{text_at}
 use Rattle.record.specs.declared.Place.{Place}
 use Rattle.record.specs.declared.Protocol.{Protocol}
-use Rattle.record.specs.declared.Level.{Level}
-use Rattle.record.specs.declared.Stamp.{Stamp}
-use Rattle.record.specs.declared.Stamp.TheVariants.{Unstamped, Stamped}
 use Rattle.record.specs.declared.Record.{Record}
 use Rattle.lookup.specs.Unescape.{unescaped}
+use Rattle.record.specs.declared.Timestamp.{Timestamp}
 
 -- a text that may be absent; an empty one is there
 pub data Text : Type 0 where
@@ -28,8 +26,8 @@ pub record Pair : Type 0 where
 -- the elements as their ids, and all parameters, in the order of the line
 pub record Seen : Type 0 where
   pub protocol : Protocol
-  pub facility : Level
-  pub severity : Level
+  pub facility : Option ℕ
+  pub severity : Option ℕ
   pub time : Time
   pub host : Text
   pub app : Text
@@ -42,9 +40,9 @@ pub record Seen : Type 0 where
 abbrev pub text_of : List ℕ → Place → Text
 text_of line p = if p.present then Text.given (text_at line p.start p.len) else Text.missing
 
-abbrev pub time_of : Stamp → Time
-time_of Unstamped = Time.untimed
-time_of (Stamped t) = Time.timed t.seconds t.nanos t.offset
+abbrev pub time_of : Option Timestamp → Time
+time_of None = Time.untimed
+time_of (Some t) = Time.timed t.seconds t.nanos t.offset
 
 abbrev pub id_of : List ℕ → List ℕ → List ℕ
 id_of line row = text_at line (get_or row 0 0) (get_or row 1 0)

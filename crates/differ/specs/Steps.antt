@@ -1,5 +1,5 @@
 -- For private contracts alone: the steps of a comparison.
-use Rattle.std.specs.Prelude.{ℕ, suc, ◌+◌, ◌-◌, ◌*◌, ◌≤◌, ◌<◌, ◌≡◌, List, [], ◌∷◌, Bool, true, false, not, ◌&&◌, eqb, ltb, length, get_or, take, if◌then◌else◌}
+use Rattle.std.specs.Prelude.{ℕ, suc, ◌+◌, ◌-◌, ◌*◌, ◌≤◌, ◌<◌, ◌≡◌, List, [], ◌∷◌, Option, Some, None, Bool, not, ◌&&◌, eqb, ltb, length, get_or, take, if◌then◌else◌}
 use Rattle.base.specs.Texts.{text_at, same_text}
 use Rattle.record.specs.Limits.{line_limit}
 use Rattle.record.specs.declared.Record.{Record}
@@ -70,20 +70,19 @@ common_ids (s ∷ a) (t ∷ b) = if same_text s t then suc (common_ids a b) else
 
 abbrev pub pair_part : Odd → ℕ → Part
 pair_part odd m =
-    if ltb odd.entry m then record { differs = true; position = odd.element; line = 1; entry = odd.entry }
-    else record { differs = true; position = odd.element; line = 2; entry = odd.entry - m }
+    if ltb odd.entry m then record { position = odd.element; line = 1; entry = odd.entry } else record { position = odd.element; line = 2; entry = odd.entry - m }
 
-abbrev pub part_of : ℕ → ℕ → Odd → ℕ → ℕ → Part
+abbrev pub part_of : ℕ → ℕ → Odd → ℕ → ℕ → Option Part
 part_of k longer odd m n =
-    if ltb odd.entry n && ltb odd.element k then pair_part odd m
-    else if ltb k longer then record { differs = true; position = k; line = 0; entry = 0 }
-    else record { differs = false; position = 0; line = 0; entry = 0 }
+    if ltb odd.entry n && ltb odd.element k then Some (pair_part odd m)
+    else if ltb k longer then Some (record { position = k; line = 0; entry = 0 })
+    else None
 
 -- the same of two readings
-unfoldable pub part_from : Seen → Seen → Part
+unfoldable pub part_from : Seen → Seen → Option Part
 part_from a b =
-    if elements_differ a b then record { differs = true; position = first_position a b; line = (pair_at a b (first_position a b)).0; entry = (pair_at a b (first_position a b)).1 }
-    else record { differs = false; position = 0; line = 0; entry = 0 }
+    if elements_differ a b then Some (record { position = first_position a b; line = (pair_at a b (first_position a b)).0; entry = (pair_at a b (first_position a b)).1 })
+    else None
 
 -- ---- lines
 

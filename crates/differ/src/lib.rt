@@ -1,18 +1,15 @@
 // What differs between two readings.
 #![tactic(auto)]
 
-ghost use Rattle.std.specs.Prelude.{◌≡◌, [], map, leb, ◌+◌, ◌≤◌, ◌<◌, length, get_or, take, if◌then◌else◌};
+ghost use Rattle.std.specs.Prelude.{◌≡◌, [], map, ◌+◌, ◌≤◌, ◌<◌, length, get_or, take};
 ghost use Rattle.keyed.specs.Notes.{Listed};
 ghost use Rattle.base.specs.Texts.{text_at, same_text};
-ghost use Rattle.record.specs.declared.Protocol.TheVariants.{Rfc3164, Rfc5424};
-ghost use Rattle.record.specs.declared.Level.TheVariants.{Unset, Set};
-ghost use Rattle.record.specs.declared.Stamp.TheVariants.{Unstamped, Stamped};
 ghost use Rattle.differ.specs.Seen.{text_of, time_of, id_of};
-ghost use Rattle.differ.specs.Differences.{same_protocol, same_level, same_signed, same_time, same_given};
+ghost use Rattle.differ.specs.Differences.{same_protocol, same_level, same_time, same_given};
 ghost use Rattle.differ.specs.Steps.{same_eight, mark_of, Marks, level_marks, head_marks, text_marks, message_mark, RecordIn, IdIn, common_ids, pair_part, part_of, part_from, seen_by, Readable, Differs};
 
 use pairs::Odd;
-use record::{Level, Place, Protocol, Record, Stamp, Timestamp};
+use record::{Place, Protocol, Record, Timestamp};
 
 // Which of the ten fields differ: bit k of `fields` is the k-th. Where the elements do, the first position that differs and, where both lines have one id there,
 // the line (1 or 2; else 0) and the entry of its parameter table whose pair does not occur as often in the other.
@@ -26,102 +23,32 @@ pub struct Differences {
 
 // ---- fields
 
-fn is_rfc3164(p: Protocol) -> bool
-    ensures { result ≡ same_protocol Rfc3164 p }
-{
-    match p {
-        Protocol::Rfc3164 => true,
-        Protocol::Rfc5424(_) => false,
-    }
-}
-
-fn is_version(v: u32, p: Protocol) -> bool
-    ensures { result ≡ same_protocol (Rfc5424 v) p }
-{
-    match p {
-        Protocol::Rfc3164 => false,
-        Protocol::Rfc5424(w) => v == w,
-    }
-}
-
 fn same_protocol(a: Protocol, b: Protocol) -> bool
     ensures { result ≡ same_protocol a b }
 {
-    match a {
-        Protocol::Rfc3164 => is_rfc3164(b),
-        Protocol::Rfc5424(v) => is_version(v, b),
-    }
+    a == b
 }
 
-fn is_unset(l: Level) -> bool
-    ensures { result ≡ same_level Unset l }
-{
-    match l {
-        Level::Unset => true,
-        Level::Set(_) => false,
-    }
-}
-
-fn is_set(n: u8, l: Level) -> bool
-    ensures { result ≡ same_level (Set n) l }
-{
-    match l {
-        Level::Unset => false,
-        Level::Set(m) => n == m,
-    }
-}
-
-fn same_level(a: Level, b: Level) -> bool
+fn same_level(a: Option<u8>, b: Option<u8>) -> bool
     ensures { result ≡ same_level a b }
 {
-    match a {
-        Level::Unset => is_unset(b),
-        Level::Set(n) => is_set(n, b),
-    }
-}
-
-fn same_signed(x: i64, y: i64) -> bool
-    ensures { result ≡ same_signed x y }
-{
-    let a = base::split(x);
-    let b = base::split(y);
-    (a.down == b.down) & (a.up == b.up)
+    a == b
 }
 
 // The instant and the offset; the digit count is none of it.
 fn same_time(t: Timestamp, u: Timestamp) -> bool
-    ensures { result ≡ same_time (time_of (Stamped t)) (time_of (Stamped u)) }
+    ensures { result ≡ same_time (time_of (Some t)) (time_of (Some u)) }
 {
-    let instant = same_signed(t.seconds, u.seconds) & (t.nanos == u.nanos);
-    let a = base::widen(t.offset);
-    let b = base::widen(u.offset);
-    instant & same_signed(a, b)
+    t.seconds == u.seconds && t.nanos == u.nanos && t.offset == u.offset
 }
 
-fn is_unstamped(s: Stamp) -> bool
-    ensures { result ≡ same_time (time_of Unstamped) (time_of s) }
-{
-    match s {
-        Stamp::Unstamped => true,
-        Stamp::Stamped(_) => false,
-    }
-}
-
-fn is_stamped(t: Timestamp, s: Stamp) -> bool
-    ensures { result ≡ same_time (time_of (Stamped t)) (time_of s) }
-{
-    match s {
-        Stamp::Unstamped => false,
-        Stamp::Stamped(u) => same_time(t, u),
-    }
-}
-
-fn same_stamp(a: Stamp, b: Stamp) -> bool
+fn same_stamp(a: Option<Timestamp>, b: Option<Timestamp>) -> bool
     ensures { result ≡ same_time (time_of a) (time_of b) }
 {
-    match a {
-        Stamp::Unstamped => is_unstamped(b),
-        Stamp::Stamped(t) => is_stamped(t, b),
+    match (a, b) {
+        (None, None) => true,
+        (Some(t), Some(u)) => same_time(t, u),
+        _ => false,
     }
 }
 
@@ -163,8 +90,7 @@ fn part_at(line: &[u8], start: usize, len: usize) -> &[u8]
     requires { start + len ≤ length line.now }
     ensures { result.now ≡ text_at line.now start len }
 {
-    let end = start + len;
-    &line[start..end]
+    &line[start..start + len]
 }
 
 fn same_part(
@@ -189,38 +115,32 @@ fn same_place(line1: &[u8], p: Place, line2: &[u8], q: Place) -> bool
     ensures { result ≡ same_given (text_of line1.now p) (text_of line2.now q) }
 {
     if p.present & q.present {
-        return same_part(line1, p.start, p.len, line2, q.start, q.len);
+        same_part(line1, p.start, p.len, line2, q.start, q.len)
+    } else {
+        !(p.present | q.present)
     }
-    !(p.present | q.present)
 }
 
 fn mark(same: bool) -> u32
     ensures { Marks (mark_of same) 1 result }
 {
-    if same { 0 } else { 1 }
+    u32::from(!same)
 }
 
 // Facility and severity: a bit each.
 fn level_marks(a: Record, b: Record) -> u32
     ensures { Marks (level_marks a b) 3 result }
 {
-    let p = a.facility;
-    let q = b.facility;
-    let s = a.severity;
-    let t = b.severity;
-    mark(same_level(p, q)) + 2 * mark(same_level(s, t))
+    mark(same_level(a.facility, b.facility)) + 2 * mark(same_level(a.severity, b.severity))
 }
 
 // Protocol, facility, severity and timestamp.
 fn head_marks(a: Record, b: Record) -> u32
     ensures { Marks (head_marks a b) 15 result }
 {
-    let levels = level_marks(a, b);
-    let p = a.protocol;
-    let q = b.protocol;
-    let s = a.timestamp;
-    let t = b.timestamp;
-    mark(same_protocol(p, q)) + 2 * levels + 8 * mark(same_stamp(s, t))
+    let protocol = mark(same_protocol(a.protocol, b.protocol));
+    let timestamp = mark(same_stamp(a.timestamp, b.timestamp));
+    protocol + 2 * level_marks(a, b) + 8 * timestamp
 }
 
 fn place_mark(line1: &[u8], p: Place, line2: &[u8], q: Place) -> u32
@@ -275,23 +195,18 @@ fn common_ids(
     requires listed_2 { Listed line2.now elements2.now n2 }
     ensures { result ≡ common_ids (map (id_of line1.now) (take n1 elements1.now)) (map (id_of line2.now) (take n2 elements2.now)) }
 {
-    let mut i = 0;
-    while i < n1 {
-        if n2 <= i {
-            return i;
-        }
+    let n = n1.min(n2);
+    for i in 0..n {
         if !same_id(line1, elements1, line2, elements2, i) {
             return i;
         }
-        i += 1;
     }
-    i
+    n
 }
 
-// Whether the elements differ; if so, where, and the pair as `Differences` has it.
+// Where the elements differ, and the pair as `Differences` has it.
 #[derive(Clone, Copy)]
 struct Part {
-    differs: bool,
     position: usize,
     line: u32,
     entry: usize,
@@ -300,42 +215,36 @@ struct Part {
 fn pair_part(odd: Odd, m: usize) -> Part
     ensures { result ≡ pair_part odd m }
 {
+    let position = odd.element;
     if odd.entry < m {
-        return Part {
-            differs: true,
-            position: odd.element,
+        Part {
+            position,
             line: 1,
             entry: odd.entry,
-        };
-    }
-    Part {
-        differs: true,
-        position: odd.element,
-        line: 2,
-        entry: odd.entry - m,
+        }
+    } else {
+        Part {
+            position,
+            line: 2,
+            entry: odd.entry - m,
+        }
     }
 }
 
-// From the ids that are the same, `k`, the longer list's length, and the pair that is odd, of `n` pairs of which `m` are the first line's.
-fn part_of(k: usize, longer: usize, odd: Odd, m: usize, n: usize) -> Part
+// Where they do, from the ids that are the same, `k`, the longer list's length, and the pair that is odd, of `n` pairs of which `m` are the first line's.
+fn part_of(k: usize, longer: usize, odd: Odd, m: usize, n: usize) -> Option<Part>
     ensures { result ≡ part_of k longer odd m n }
 {
-    if (odd.entry < n) & (odd.element < k) {
-        return pair_part(odd, m);
-    }
-    if k < longer {
-        return Part {
-            differs: true,
+    if odd.entry < n && odd.element < k {
+        Some(pair_part(odd, m))
+    } else if k < longer {
+        Some(Part {
             position: k,
             line: 0,
             entry: 0,
-        };
-    }
-    Part {
-        differs: false,
-        position: 0,
-        line: 0,
-        entry: 0,
+        })
+    } else {
+        None
     }
 }
 
@@ -348,19 +257,6 @@ pub struct Line {
     pub params: usize,
 }
 
-fn front(line: &[u8], end: usize) -> &[u8]
-    requires { end ≤ length line.now }
-    ensures { result.now ≡ take end line.now }
-{
-    &line[0..end]
-}
-
-fn larger(a: usize, b: usize) -> usize
-    ensures { result ≡ (if leb a b then b else a) }
-{
-    if a <= b { b } else { a }
-}
-
 fn elements_part(
     line1: &[u8],
     a: Line,
@@ -368,21 +264,21 @@ fn elements_part(
     line2: &[u8],
     b: Line,
     elements2: &[[usize; 2]],
-) -> Part
+) -> Option<Part>
     requires readable { Readable line1.now a elements1.now }
     requires readable_2 { Readable line2.now b elements2.now }
     ensures { result ≡ part_from (seen_by line1.now a elements1.now) (seen_by line2.now b elements2.now) }
 {
     let k = common_ids(line1, elements1, a.ids, line2, elements2, b.ids);
     let odd = keyed::first_odd(
-        front(line1, a.end),
+        &line1[..a.end],
         elements1,
         a.ids,
-        front(line2, b.end),
+        &line2[..b.end],
         elements2,
         b.ids,
     );
-    part_of(k, larger(a.ids, b.ids), odd, a.params, a.params + b.params)
+    part_of(k, a.ids.max(b.ids), odd, a.params, a.params + b.params)
 }
 
 fn message_mark(line1: &[u8], a: Record, line2: &[u8], b: Record) -> u32
@@ -390,10 +286,8 @@ fn message_mark(line1: &[u8], a: Record, line2: &[u8], b: Record) -> u32
     requires record_in_2 { RecordIn line2.now b }
     ensures { Marks (message_mark line1.now a line2.now b) 1 result }
 {
-    let p = a.message;
-    let q = b.message;
-    let x = part_at(line1, p.start, p.len);
-    let y = part_at(line2, q.start, q.len);
+    let x = part_at(line1, a.message.start, a.message.len);
+    let y = part_at(line2, b.message.start, b.message.len);
     mark(same_long(x, y))
 }
 
@@ -414,11 +308,20 @@ pub fn differ_in(
     let head = head_marks(a.read, b.read);
     let texts = text_marks(line1, a.read, line2, b.read);
     let message = message_mark(line1, a.read, line2, b.read);
-    let data = mark(!part.differs);
+    let data = u32::from(part.is_some());
+    let Part {
+        position,
+        line,
+        entry,
+    } = part.unwrap_or(Part {
+        position: 0,
+        line: 0,
+        entry: 0,
+    });
     Differences {
         fields: head + 16 * texts + 256 * data + 512 * message,
-        position: part.position,
-        pair_line: part.line,
-        pair_entry: part.entry,
+        position,
+        pair_line: line,
+        pair_entry: entry,
     }
 }

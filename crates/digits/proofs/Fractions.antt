@@ -1,12 +1,13 @@
--- `fractionAt`: what it answers, on which text, and a fraction in nanoseconds.
-use Prim.Native.Nat.{ℕ, zero, suc, ◌+◌, ◌-◌, ◌*◌, ◌^◌, ◌≤◌, ◌<◌}
-use mathlib.Core.Path.{◌≡◌, refl, sym, ap, ◌∙◌}
+-- `fraction_at`: what it answers, on which text, and a fraction in nanoseconds.
+use Rattle.std.specs.Prelude.{Option, Some, None}
+use Prim.Native.Nat.{ℕ, suc, ◌+◌, ◌-◌, ◌*◌, ◌^◌, ◌≤◌, ◌<◌}
+use mathlib.Core.Path.{◌≡◌, sym, ap, ◌∙◌}
 use mathlib.Core.Bool.{false, ◌&&◌, and-false}
-use mathlib.Core.List.{List, [], ◌∷◌, ◌++◌}
-use native.Mathlib.Nat.{pow-zero, one-le-pow, add-mul, mul-le-mul_right, pow-le-pow_right}
+use mathlib.Core.List.{List, ◌++◌}
+use native.Mathlib.Nat.{one-le-pow, add-mul, mul-le-mul_right, pow-le-pow_right}
 use native.Mathlib.Omega.{arith}
 use lib.Dec.{leb}
-use lib.ListN.{length, get_or, take}
+use lib.ListN.{length, take}
 use lib.Pow.{pow-add}
 use lib.Seq.{take-append_seam}
 use mir.Syntax.{w32}
@@ -16,36 +17,11 @@ use Rattle.base.specs.Runs.{All}
 use Rattle.base.proofs.Tests.{both, by_test}
 use Rattle.base.proofs.Runs.{run_le, run_text}
 use Rattle.digits.specs.Digits.{is_digit, digit_run, decimal, number_at, fraction_at}
-use Rattle.digits.specs.declared.Number.{Number}
-use Rattle.digits.specs.declared.Number.TheVariants.{Nothing, Value}
 use Rattle.digits.proofs.Choices.{chosen, not_chosen}
 use Rattle.digits.proofs.Decimals.{decimal_front_lt}
 use Rattle.digits.proofs.Numbers.{IsNumber, number_is}
 
--- the powers of ten from 10 ^ n down
-unfoldable powers : ℕ → List ℕ
-powers zero = 1 ∷ []
-powers (suc n) = (10 ^ suc n) ∷ powers n
-
-power_at : (n k : ℕ) → k ≤ n → get_or (powers n) k 0 ≡ 10 ^ (n - k)
-unfolding powers
-power_at zero zero h = refl
-power_at zero (suc k) h = absurd (omega arith)
-power_at (suc n) zero h = let e : suc n - 0 ≡ suc n = omega arith in rw e
-power_at (suc n) (suc k) h = let e : suc n - suc k ≡ n - k = omega arith in rw e (power_at n k (omega arith))
-
--- what a one is in the last place of a fraction
-module _ (n : ℕ) where
-  pub unit_past : 9 < n → 1 ≡ 10 ^ (9 - n)
-  unit_past h = let z : 9 - n ≡ 0 = omega arith in rw (z, pow-zero)
-
-  pub unit_at : n ≤ 9 → get_or (1000000000 ∷ 100000000 ∷ 10000000 ∷ 1000000 ∷ 100000 ∷ 10000 ∷ 1000 ∷ 100 ∷ 10 ∷ 1 ∷ []) n 0 ≡ 10 ^ (9 - n)
-  unfolding powers
-  unit_at h = power_at 9 n h
-
-pub ruleset unit_laws = (unit_past, unit_at)
-
--- as a divisor
+-- the unit of a fraction as a divisor
 pub unit_some : (n u : ℕ) → u ≡ 10 ^ (9 - n) → 0 < u
 unit_some n u e = rw e (one-le-pow (9 - n) 10 (omega arith))
 
@@ -59,22 +35,13 @@ below_second v n h =
     let z : 1 ≤ p = one-le-pow (9 - n) 10 (omega arith) in
     omega (arith, q, add-mul 1 v p)
 
-module _ (v n : ℕ) (h : (n ≤ 9) × (v < 10 ^ n)) (u : ℕ) (e : u ≡ 10 ^ (9 - n)) where
-  pub nanos_fit : Fits w32 (v * u)
-  nanos_fit = record { fits = rw e (omega (arith, below_second v n h)) }
-
-  pub nanos_are : v * u ≡ v * 10 ^ (9 - n)
-  nanos_are = rw e
-
-pub ruleset unit_nanos_laws = (nanos_fit, nanos_are)
-
 pub record IsFraction (most : ℕ) (s : List ℕ) (v n : ℕ) : Type 0 where
   pub whole : n ≡ digit_run s
   pub value : v ≡ decimal (take n s) * 10 ^ (9 - n)
   pub some : 1 ≤ n
   pub few : n ≤ most
 
-module _ (most : ℕ) (s : List ℕ) (v n : ℕ) (e : fraction_at most s ≡ Value v n) where
+module _ (most : ℕ) (s : List ℕ) (v n : ℕ) (e : fraction_at most s ≡ Some (v, n)) where
   pub fraction_is : IsFraction most s v n
   unfolding fraction_at
   fraction_is =
@@ -96,13 +63,13 @@ module _ (most : ℕ) (s : List ℕ) (v n : ℕ) (e : fraction_at most s ≡ Val
 
 -- digits, and after them a byte that is none
 pub fraction_text_lem : (most : ℕ) (t r : List ℕ) → All is_digit t → 1 ≤ length t → length t ≤ most → digit_run r ≡ 0
-    → fraction_at most (t ++ r) ≡ Value (decimal t * 10 ^ (9 - length t)) (length t)
+    → fraction_at most (t ++ r) ≡ Some (decimal t * 10 ^ (9 - length t), length t)
 unfolding fraction_at
 fraction_text_lem most t r a h g z = rw (run_text is_digit t r a z, take-append_seam t r, le-leb 1 (length t) h, le-leb (length t) most g)
 
 -- a number of nine digits at most is read, and then counted
-module _ (most : ℕ) (s : List ℕ) (h : most ≤ 9) (f : Number) (ef : f ≡ number_at 999999999 s) where
-  pub fraction_none : f ≡ Nothing → Nothing ≡ fraction_at most s
+module _ (most : ℕ) (s : List ℕ) (h : most ≤ 9) (f : Option (ℕ × ℕ)) (ef : f ≡ number_at 999999999 s) where
+  pub fraction_none : f ≡ None → None ≡ fraction_at most s
   unfolding number_at fraction_at
   fraction_none e = rw (few (digit_run s) (decimal_front_lt s (digit_run s) (omega arith)) (not_chosen _ _ _ (sym ef ∙ e)))
     where
@@ -113,20 +80,23 @@ module _ (most : ℕ) (s : List ℕ) (h : most ≤ 9) (f : Number) (ef : f ≡ n
           rw (le-leb (decimal (take k s)) 999999999 (omega arith)) at t)
           (λ m. and-false (leb 1 k))
 
-  module _ (v n : ℕ) (ev : f ≡ Value v n) where
+  module _ (v n : ℕ) (ev : f ≡ Some (v, n)) where
     is : IsNumber 999999999 s v n
     is = number_is 999999999 s v n (sym ef ∙ ev)
 
-    pub fraction_many : most < n → Nothing ≡ fraction_at most s
+    pub fraction_many : most < n → None ≡ fraction_at most s
     unfolding fraction_at
     fraction_many l = rw (← is.whole, lt-leb n most l, and-false)
 
     module _ (l : n ≤ most) where
-      pub fraction_small : v < 10 ^ n
+      fraction_small : v < 10 ^ n
       fraction_small = rw is.value (decimal_front_lt s n (omega (arith, is.whole)))
 
-      pub fraction_value : (w : ℕ) → w ≡ v * 10 ^ (9 - n) → Value w n ≡ fraction_at most s
+      pub fraction_fits : (u : ℕ) → u ≡ 10 ^ (9 - n) → Fits w32 (v * u)
+      fraction_fits u e = record { fits = rw e (omega (arith, below_second v n (omega arith, fraction_small))) }
+
+      pub fraction_value : (w : ℕ) → w ≡ v * 10 ^ (9 - n) → Some (w, n) ≡ fraction_at most s
       unfolding fraction_at
       fraction_value w e = rw (← is.whole, ← is.value, le-leb n most l, le-leb 1 n is.some, e)
 
-pub ruleset fraction_laws = (fraction_none, fraction_many, fraction_small, fraction_value)
+pub ruleset fraction_laws = (fraction_none, fraction_many, fraction_fits, fraction_value)

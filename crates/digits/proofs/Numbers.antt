@@ -1,8 +1,8 @@
 -- `number_at`: what it answers, on which text, and the loop that reads it.
-use Rattle.std.specs.Prelude.{if◌then◌else◌}
+use Rattle.std.specs.Prelude.{if◌then◌else◌, Option, Some, None}
 use Prim.Native.Nat.{ℕ, ◌+◌, ◌-◌, ◌*◌, ◌≤◌, ◌<◌}
 use mathlib.Core.Path.{◌≡◌, refl, sym, ap, ◌∙◌}
-use mathlib.Core.Bool.{Bool, true, false, not, and-true, and-false}
+use mathlib.Core.Bool.{true, false, and-true, and-false}
 use mathlib.Core.List.{List}
 use native.Mathlib.Numerals.{add-one}
 use native.Mathlib.Omega.{arith}
@@ -10,11 +10,9 @@ use lib.Dec.{leb}
 use lib.ListN.{length, get_or, take}
 use lib.Seq.{take-suc}
 use borrow.Author.Tests.{le-leb, lt-leb, leb-true}
-use Rattle.base.proofs.Tests.{both, told}
-use Rattle.base.proofs.Runs.{run_le, Runs, runs_start, runs_out, runs_on, runs_off}
+use Rattle.base.proofs.Tests.{both}
+use Rattle.base.proofs.Runs.{run_le, Runs, runs_start, runs_out, runs_yes, runs_no}
 use Rattle.digits.specs.Digits.{is_digit, digit_run, decimal_from, decimal, number_at}
-use Rattle.digits.specs.declared.Number.{Number}
-use Rattle.digits.specs.declared.Number.TheVariants.{Nothing, Value}
 use Rattle.digits.proofs.Choices.{chosen}
 use Rattle.digits.proofs.Decimals.{decimal_append, decimal_more}
 
@@ -24,7 +22,7 @@ pub record IsNumber (max : ℕ) (s : List ℕ) (v n : ℕ) : Type 0 where
   pub some : 1 ≤ n
   pub small : v ≤ max
 
-module _ (max : ℕ) (s : List ℕ) (v n : ℕ) (e : number_at max s ≡ Value v n) where
+module _ (max : ℕ) (s : List ℕ) (v n : ℕ) (e : number_at max s ≡ Some (v, n)) where
   pub number_is : IsNumber max s v n
   unfolding number_at
   number_is =
@@ -53,33 +51,33 @@ unfolding decimal_from
 passed_none s max = record { run_is = runs_start is_digit s; small = omega arith; value = refl }
 
 module _ (s : List ℕ) (max i v : ℕ) (p : Passed s max i v) where
-  ended : (a : Number) → i ≡ digit_run s → a ≡ (if leb 1 i then Value v i else Nothing) → a ≡ number_at max s
+  ended : (a : Option (ℕ × ℕ)) → i ≡ digit_run s → a ≡ (if leb 1 i then Some (v, i) else None) → a ≡ number_at max s
   unfolding number_at
   ended a n e = e ∙ rw (← n, ← p.value, le-leb v max p.small, and-true)
 
-  pub ended_text : (a : Number) → length s ≤ i → a ≡ (if leb 1 i then Value v i else Nothing) → a ≡ number_at max s
-  ended_text a h e = ended a (runs_out is_digit s _ i p.run_is h) e
+  pub ended_text : (a : Option (ℕ × ℕ)) → length s ≤ i → i ≤ length s → a ≡ (if leb 1 (length s) then Some (v, length s) else None) → a ≡ number_at max s
+  ended_text a h g e = let n : length s ≡ i = omega arith in ended a (runs_out is_digit s _ i p.run_is h) (rw n at e)
 
-  module _ (h : i < length s) (d : Bool) (ed : d ≡ is_digit (get_or s i 0)) where
-    pub ended_digits : (a : Number) → not d ≡ true → a ≡ (if leb 1 i then Value v i else Nothing) → a ≡ number_at max s
-    ended_digits a q e = ended a (runs_off is_digit s _ i p.run_is h d ed q) e
+  module _ (h : i < length s) where
+    pub ended_digits : (a : Option (ℕ × ℕ)) → is_digit (get_or s i 0) ≡ false → a ≡ (if leb 1 i then Some (v, i) else None) → a ≡ number_at max s
+    ended_digits a q e = ended a (runs_no is_digit s _ i p.run_is h q) e
 
     -- one digit more
-    module _ (q : not d ≡ false) (x : ℕ) (ex : x ≡ get_or s i 0 - 48) where
+    module _ (x : ℕ) (d : (is_digit (get_or s i 0) ≡ true) × (x ≡ get_or s i 0 - 48) × (x ≤ 9)) where
       more : v * 10 + x ≡ decimal (take (i + 1) s)
       unfolding decimal_from
-      more = rw (ex, add-one i, take-suc s i 0, decimal_append, ← p.value)
+      more = rw (d.1, add-one i, take-suc s i 0, decimal_append, ← p.value)
 
       longer : Runs is_digit s (digit_run s) (i + 1)
-      longer = runs_on is_digit s _ i p.run_is h d ed q
+      longer = runs_yes is_digit s _ i p.run_is h d.0
 
-      pub passed_more : v * 10 + x ≤ max → Passed s max (i + 1) (v * 10 + x)
-      passed_more m = record { run_is = longer; small = m; value = more }
+      pub passed_more : (w : ℕ) → w ≡ v * 10 + x → w ≤ max → Passed s max (i + 1) w
+      passed_more w e m = record { run_is = longer; small = m; value = e ∙ more }
 
-      pub too_large : max < v * 10 + x → Nothing ≡ number_at max s
+      pub too_large : max < v * 10 + x → None ≡ number_at max s
       unfolding number_at
       too_large m =
           let g : max < decimal (take (digit_run s) s) = omega (arith, more, decimal_more s (i + 1) (digit_run s) (omega (arith, longer))) in
           rw (lt-leb (decimal (take (digit_run s) s)) max g, and-false)
 
-pub ruleset number_laws = (passed_none, passed_more, ended_text, ended_digits, told, too_large)
+pub ruleset number_laws = (passed_none, passed_more, ended_text, ended_digits, too_large)

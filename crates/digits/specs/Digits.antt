@@ -1,9 +1,7 @@
 -- ASCII digits as numbers.
-use Rattle.std.specs.Prelude.{ℕ, ◌+◌, ◌-◌, ◌*◌, ◌^◌, List, [], ◌∷◌, Bool, ◌&&◌, leb, take, if◌then◌else◌}
+use Rattle.std.specs.Prelude.{ℕ, ◌+◌, ◌-◌, ◌*◌, ◌^◌, List, [], ◌∷◌, Bool, ◌&&◌, leb, take, if◌then◌else◌, Option, Some, None}
 use Rattle.base.specs.Choose.{within}
 use Rattle.base.specs.Runs.{run}
-use Rattle.digits.specs.declared.Number.{Number}
-use Rattle.digits.specs.declared.Number.TheVariants.{Nothing, Value}
 
 -- `0` to `9`
 abbrev pub is_digit : ℕ → Bool
@@ -22,18 +20,18 @@ abbrev pub decimal : List ℕ → ℕ
 decimal t = decimal_from 0 t
 
 -- All the digits at the front of `s`, one or more, as a number of at most `max`. Nothing: no digit, or a larger number.
-unfoldable pub number_at : ℕ → List ℕ → Number
+unfoldable pub number_at : ℕ → List ℕ → Option (ℕ × ℕ)
 number_at max s =
     let n = digit_run s in
     let v = decimal (take n s) in
-    if leb 1 n && leb v max then Value v n else Nothing
+    if leb 1 n && leb v max then Some (v, n) else None
 
 -- The first `k` bytes of `s`, which are digits, as a number. What stands after them does not matter.
-unfoldable pub fixed_at : ℕ → List ℕ → Number
-fixed_at k s = if leb k (digit_run s) then Value (decimal (take k s)) k else Nothing
+unfoldable pub fixed_at : ℕ → List ℕ → Option (ℕ × ℕ)
+fixed_at k s = if leb k (digit_run s) then Some (decimal (take k s), k) else None
 
 -- All the digits at the front of `s`, from 1 to `most` of them, as a fraction of a second in nanoseconds. (`most` is at most 9.)
-unfoldable pub fraction_at : ℕ → List ℕ → Number
+unfoldable pub fraction_at : ℕ → List ℕ → Option (ℕ × ℕ)
 fraction_at most s =
     let n = digit_run s in
-    if leb 1 n && leb n most then Value (decimal (take n s) * 10 ^ (9 - n)) n else Nothing
+    if leb 1 n && leb n most then Some (decimal (take n s) * 10 ^ (9 - n), n) else None

@@ -1,97 +1,63 @@
 // ASCII digits as numbers.
 #![tactic(auto)]
 
-ghost use Rattle.std.specs.Prelude.{◌≡◌, true, ◌-◌, ◌*◌, ◌^◌, ◌≤◌, ◌<◌, leb, if◌then◌else◌};
+ghost use Rattle.std.specs.Prelude.{◌≡◌, true, false, ◌-◌, ◌^◌, ◌≤◌, leb, if◌then◌else◌, MatchOption};
 ghost use Rattle.digits.specs.Digits.{is_digit, number_at, fixed_at, fraction_at};
 
-// A number, and how many digits were read for it.
-#[derive(Clone, Copy)]
-pub enum Number {
-    Nothing,
-    Value { value: u32, len: usize },
-}
-
-fn is_digit(b: u8) -> bool
-    ensures { result ≡ is_digit b }
+// What a digit writes; nothing for another byte.
+fn digit(b: u8) -> Option<u32>
+    ensures { MatchOption result (is_digit b ≡ false) (λ d. (is_digit b ≡ true) × (d ≡ b - 48) × (d ≤ 9)) }
 {
-    base::in_range(b'0', b'9', b)
-}
-
-// What a digit writes.
-fn digit_value(b: u8) -> u32
-    requires { is_digit b ≡ true }
-    ensures value { result ≡ b - 48 }
-    ensures upper_bound { result ≤ 9 }
-{
-    (b - b'0') as u32
+    match b {
+        b'0'..=b'9' => Some(u32::from(b - b'0')),
+        _ => None,
+    }
 }
 
 // What `len` digits that write `value` answer.
-fn written(value: u32, len: usize) -> Number
-    ensures { result ≡ (if leb 1 len then Number.Value value len else Number.Nothing) }
+fn written(value: u32, len: usize) -> Option<(u32, usize)>
+    ensures { result ≡ (if leb 1 len then Some (value, len) else None) }
 {
-    if len < 1 {
-        return Number::Nothing;
-    }
-    Number::Value { value, len }
+    (1 <= len).then_some((value, len))
 }
 
 // All the digits at the front of `s`, one or more, as a number of at most `max`.
-pub fn digits(s: &[u8], max: u32) -> Number
+pub fn digits(s: &[u8], max: u32) -> Option<(u32, usize)>
     ensures { result ≡ number_at max s.now }
 {
-    let mut i = 0;
-    let mut value: u32 = 0;
-    while i < s.len() {
-        let b = s[i];
-        if !is_digit(b) {
+    let mut value = 0;
+    for (i, b) in s.iter().enumerate() {
+        let Some(d) = digit(*b) else {
             return written(value, i);
-        }
-        let wide = (value as u64) * 10 + digit_value(b) as u64;
-        if (max as u64) < wide {
-            return Number::Nothing;
+        };
+        let wide = u64::from(value) * 10 + u64::from(d);
+        if u64::from(max) < wide {
+            return None;
         }
         value = wide as u32;
-        i += 1;
     }
-    written(value, i)
+    written(value, s.len())
 }
 
 // The first two bytes of `s`, which are digits. What stands after them does not matter.
-pub fn two_digits(s: &[u8]) -> Number
+pub fn two_digits(s: &[u8]) -> Option<(u32, usize)>
     ensures { result ≡ fixed_at 2 s.now }
 {
-    if s.len() < 2 {
-        return Number::Nothing;
-    }
-    let tens = s[0];
-    let ones = s[1];
-    if !is_digit(tens) {
-        return Number::Nothing;
-    }
-    if !is_digit(ones) {
-        return Number::Nothing;
-    }
-    Number::Value {
-        value: digit_value(tens) * 10 + digit_value(ones),
-        len: 2,
-    }
+    let [tens, ones, ..] = s else {
+        return None;
+    };
+    let tens = digit(*tens)?;
+    let ones = digit(*ones)?;
+    Some((tens * 10 + ones, 2))
 }
 
 // The first four bytes of `s`, likewise.
-pub fn four_digits(s: &[u8]) -> Number
+pub fn four_digits(s: &[u8]) -> Option<(u32, usize)>
     ensures { result ≡ fixed_at 4 s.now }
 {
-    let Number::Value { value: top, len: _ } = two_digits(s) else {
-        return Number::Nothing;
-    };
-    let Number::Value { value: low, len: _ } = two_digits(base::past(s, 2)) else {
-        return Number::Nothing;
-    };
-    Number::Value {
-        value: top * 100 + low,
-        len: 4,
-    }
+    let (top, _) = two_digits(s)?;
+    let (low, _) = two_digits(base::past(s, 2))?;
+    Some((top * 100 + low, 4))
 }
 
 // How many nanoseconds a one is in the last place of a fraction of 0 to 9 digits.
@@ -112,18 +78,7 @@ const UNITS: [u32; 10] = [
 pub fn unit(len: usize) -> u32
     ensures { result ≡ 10 ^ (9 - len) }
 {
-    if 9 < len {
-        return 1;
-    }
-    UNITS[len]
-}
-
-// The nanoseconds of a fraction whose `len` digits write `value`.
-fn nanos(value: u32, len: usize) -> u32
-    requires { (len ≤ 9) × (value < 10 ^ len) }
-    ensures { result ≡ value * 10 ^ (9 - len) }
-{
-    value * unit(len)
+    UNITS.get(len).copied().unwrap_or(1)
 }
 
 // How many digits a fraction of `len` bytes has, its point among them; one of no bytes has none.
@@ -131,25 +86,17 @@ pub fn after_point(len: usize) -> u32
     requires { len ≤ 10 }
     ensures { result ≡ len - 1 }
 {
-    if len == 0 {
-        return 0;
-    }
-    (len - 1) as u32
+    len.saturating_sub(1) as u32
 }
 
 // All the digits at the front of `s`, from 1 to `most` of them, as nanoseconds.
-pub fn fraction(s: &[u8], most: usize) -> Number
+pub fn fraction(s: &[u8], most: usize) -> Option<(u32, usize)>
     requires { most ≤ 9 }
     ensures { result ≡ fraction_at most s.now }
 {
-    let Number::Value { value, len } = digits(s, 999_999_999) else {
-        return Number::Nothing;
-    };
+    let (value, len) = digits(s, 999_999_999)?;
     if most < len {
-        return Number::Nothing;
+        return None;
     }
-    Number::Value {
-        value: nanos(value, len),
-        len,
-    }
+    Some((value * unit(len), len))
 }

@@ -1,5 +1,5 @@
 -- The ids of a line: what is lent of it, and a byte of a text.
-use Prim.Native.Nat.{ℕ, ◌+◌, ◌-◌, ◌/◌, ◌^◌, ◌≤◌, ◌<◌}
+use Prim.Native.Nat.{ℕ, ◌+◌, ◌-◌, ◌^◌, ◌≤◌, ◌<◌}
 use mathlib.Core.Path.{◌≡◌, refl, sym, ◌∙◌}
 use mathlib.Core.List.{List}
 use native.Mathlib.Omega.{arith}
@@ -8,7 +8,6 @@ use mir.Syntax.{w64}
 use mir.Val.{Fits}
 use Rattle.base.proofs.Texts.{part_text_lem}
 use Rattle.distinct.specs.Distinct.{id_of, Rows}
-use Rattle.distinct.specs.Tree.{Placing}
 
 module _ (line starts lens : List ℕ) (k : ℕ) (r : Rows line starts lens (k + 1)) (start len : ℕ) (es : start ≡ get_or starts k 0) (el : len ≡ get_or lens k 0) where
   pub id_inside : start + len ≤ length line
@@ -29,10 +28,6 @@ rows_less line starts lens n k r h = record {
   lens_given = omega (arith, r.lens_given);
   inside = λ m l. r.inside m (omega arith);
 }
-
--- the element whose slot it is
-pub parent_rows : (line starts lens depths : List ℕ) (slot i : ℕ) → Placing line starts lens depths slot i → 128 ≤ slot → Rows line starts lens ((slot - 128) / 3 + 1)
-parent_rows line starts lens depths slot i p l = rows_less line starts lens (i + 1) ((slot - 128) / 3 + 1) p.rows (omega (arith, p.under))
 
 -- a byte past the end
 pub byte_out : (text : List ℕ) (p : ℕ) → length text ≤ p → 0 ≡ get_or text p 0

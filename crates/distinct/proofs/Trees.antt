@@ -2,25 +2,21 @@
 use Prim.Native.Nat.{ℕ, ◌+◌, ◌*◌, ◌≤◌, ◌<◌}
 use mathlib.Core.Path.{◌≡◌, refl, sym, ap, ◌∙◌, subst}
 use mathlib.Core.List.{List}
+use Rattle.std.specs.Prelude.{Option, Some}
 use native.Mathlib.Decide.{ℕ_discrete}
 use native.Mathlib.Omega.{arith}
 use lib.ListN.{length, get_or, set, length-set}
 use lib.Seq.{get_or-set_same, get_or-set_other}
-use mir.Syntax.{w64}
-use mir.Val.{Fits}
 use Rattle.base.specs.Texts.{Differ}
-use Rattle.distinct.specs.declared.Seat.{Seat}
-use Rattle.distinct.specs.declared.Seat.TheVariants.{Taken, Free}
-use Rattle.distinct.specs.Distinct.{id_of, Rows, FirstRepeat}
-use Rattle.distinct.specs.Tree.{head_of, turn_of, Leads, Tree, Room, Seeking, Grows, Fresh, Sought, Placing, Asked}
+use Rattle.distinct.specs.declared.Places.{Places}
+use Rattle.distinct.specs.Tree.{ids_of, Stand, head_of, slot_of, Leads, Tree, Room, Grows, Fresh, Sought}
 use Rattle.distinct.specs.Tree.Leads.{here, on}
-use Rattle.distinct.proofs.Ids.{rows_less}
 
 -- the first i of n elements are in the tree
-pub record Placed (line starts lens : List ℕ) (n : ℕ) (depths kids : List ℕ) (i : ℕ) : Type 0 where
-  pub rows : Rows line starts lens n
+pub record Placed (p : Places) (n : ℕ) (depths kids : List ℕ) (i : ℕ) : Type 0 where
+  pub rows : Stand p n
   pub room : Room n depths kids
-  pub tree : Tree (id_of line starts lens) depths kids i
+  pub tree : Tree (ids_of p) depths kids i
   pub inside : i ≤ n
 
 -- ---- one element more
@@ -32,7 +28,7 @@ module _ (id : ℕ → List ℕ) (depths kids : List ℕ) (i : ℕ) (t : Tree id
   leads_more depths' kids' own g {q} {m} (on j e l) =
       let d : get_or depths' j 0 ≡ get_or depths j 0 = g.same_depths j (omega (arith, t.kept q)) in
       on j (g.same_slots q (λ z. omega arith) ∙ e)
-      (subst (λ (x : ℕ). Leads id depths' kids' own (turn_of own (id j) j x).slot m) (sym d) (leads_more depths' kids' own g l))
+      (subst (λ (x : ℕ). Leads id depths' kids' own (slot_of own (id j) j x) m) (sym d) (leads_more depths' kids' own g l))
 
   module _ (slot d : ℕ) (f : Fresh id depths kids i slot) (h : slot < length kids) where
     at : (P : ℕ → ℕ → Type 0) → P slot (i + 1) → ((q : ℕ) → (q ≡ slot → ⊥) → P q (get_or kids q 0)) → (q : ℕ) → P q (get_or (set kids slot (i + 1)) q 0)
@@ -72,61 +68,21 @@ module _ (id : ℕ → List ℕ) (depths kids : List ℕ) (i : ℕ) (t : Tree id
 
 -- ---- the loop
 
-module _ (line starts lens : List ℕ) (n : ℕ) (depths kids : List ℕ) where
-  pub tree_begins : Asked line starts lens n depths kids → Placed line starts lens n depths kids 0
-  tree_begins a = record {
-    rows = a.rows;
-    room = a.room;
-    tree = record {
-      kept = λ q. omega (arith, a.clear q);
-      later = λ q j e. absurd (omega (arith, a.clear q));
-      found = λ m l. absurd (omega arith);
-      differ = λ x y p q. absurd (omega arith);
-    };
-    inside = omega arith;
-  }
-
-  module _ (i : ℕ) (p : Placed line starts lens n depths kids i) where
+module _ (at : Places) (n : ℕ) (depths kids : List ℕ) where
+  module _ (i : ℕ) (p : Placed at n depths kids i) where
     module _ (h : i < n) where
-      pub tree_seeks : Seeking line starts lens depths kids i
-      tree_seeks = record {
-        rows = rows_less line starts lens n (i + 1) p.rows (omega arith);
-        room = record { few = omega (arith, p.room.few); depths_room = omega (arith, p.room.depths_room); slots_room = omega (arith, p.room.slots_room) };
-        tree = p.tree;
-      }
+      module _ (r : Option ℕ) (s : Sought (ids_of at) depths kids i r) where
+        module _ (slot : ℕ) (e : r ≡ Some slot) where
+          fresh : Fresh (ids_of at) depths kids i slot
+          fresh = subst (Sought (ids_of at) depths kids i) e s
 
-      pub depths_many : i < length depths
-      depths_many = omega (arith, p.room.depths_room)
-
-      pub count_small : i + 1 < 65536
-      count_small = omega (arith, p.room.few)
-
-      module _ (r : Seat) (s : Sought (id_of line starts lens) depths kids i r) where
-        pub repeat_found : r ≡ Taken → FirstRepeat (id_of line starts lens) n i
-        repeat_found e = record { inside = omega arith; differ = p.tree.differ; repeated = λ l. subst (Sought (id_of line starts lens) depths kids i) e s }
-
-        module _ (slot : ℕ) (e : r ≡ Free slot) where
-          fresh : Fresh (id_of line starts lens) depths kids i slot
-          fresh = subst (Sought (id_of line starts lens) depths kids i) e s
-
-          pub slot_placed : Placing line starts lens depths slot i
-          slot_placed = record { rows = rows_less line starts lens n (i + 1) p.rows (omega arith); below = depths_many; under = fresh.under }
-
-          pub slot_scales : Fits w64 (slot * 2)
-          slot_scales = record { fits = omega (arith, fresh.under, p.room.few) }
-
-          pub slot_inside : slot < length kids
+          slot_inside : slot < length kids
           slot_inside = omega (arith, fresh.under, p.room.slots_room)
 
-          pub tree_grows : (d : ℕ) → Placed line starts lens n (set depths i d) (set kids slot (i + 1)) (i + 1)
+          pub tree_grows : (d : ℕ) → Placed at n (set depths i d) (set kids slot (i + 1)) (i + 1)
           tree_grows d = record {
             rows = p.rows;
             room = record { few = p.room.few; depths_room = simp length-set p.room.depths_room; slots_room = simp length-set p.room.slots_room };
-            tree = tree_more (id_of line starts lens) depths kids i p.tree slot d fresh slot_inside;
+            tree = tree_more (ids_of at) depths kids i p.tree slot d fresh slot_inside;
             inside = omega arith;
           }
-
-    pub repeat_none : n ≤ i → FirstRepeat (id_of line starts lens) n n
-    repeat_none h = record { inside = omega arith; differ = λ a b l m. p.tree.differ a b l (omega arith); repeated = λ l. absurd (omega arith) }
-
-pub ruleset tree_laws = (tree_begins, tree_seeks, depths_many, count_small, repeat_found, slot_placed, slot_scales, slot_inside, tree_grows, repeat_none)

@@ -6,20 +6,11 @@ use mathlib.Core.List.{List}
 use native.Mathlib.Omega.{arith}
 use lib.Dec.{eqb}
 use lib.ListN.{get_or}
-use borrow.Author.Tests.{eq-eqb, ne_eqb, eqb-false}
+use borrow.Author.Tests.{eqb-false}
 use Rattle.base.specs.Texts.{same_text}
 use Rattle.base.proofs.Tests.{by_if}
 use Rattle.base.proofs.Texts.{same_bytes}
 use Rattle.distinct.specs.Tree.{bit_of, side_of, Sided}
-
-module _ (own other : List ℕ) (d p x y : ℕ) (ep : p ≡ d / 8) (ex : x ≡ get_or own p 0) (ey : y ≡ get_or other p 0) where
-  pub side_third : x ≡ y → 2 ≡ side_of own other d
-  side_third h = rw (← ep, ← ex, ← ey, eq-eqb x y h) refl
-
-  pub side_bit : (x ≡ y → ⊥) → (b n : ℕ) → b ≡ d % 8 → n ≡ bit_of x b → n ≡ side_of own other d
-  side_bit h b n eb e = rw (← ep, ← ex, ← ey, ne_eqb x y h, ← eb) e
-
-pub ruleset side_laws = (side_third, side_bit)
 
 -- whether it is the same id: not where it went by a bit, and not where a byte is another
 module _ (own other : List ℕ) where

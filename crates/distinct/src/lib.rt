@@ -2,54 +2,69 @@
 // may be many. The id of element `k` takes `lens[k]` bytes of the line from `starts[k]`.
 #![tactic(auto)]
 
-ghost use Rattle.std.specs.Prelude.{◌≡◌, ◌+◌, ◌<◌, get_or};
+ghost use Rattle.std.specs.Prelude.{◌≡◌, ◌+◌, ◌<◌, length, get_or, MatchOption};
 ghost use Rattle.base.specs.Texts.{same_text};
 ghost use Rattle.distinct.specs.Distinct.{id_of, FirstRepeat, Rows};
-ghost use Rattle.distinct.specs.Tree.{bit_of, head_of, side_of, turn_of, Asking, Sided, Turning, Seeking, Sought, Placing, Asked, Occurs};
+ghost use Rattle.distinct.specs.Tree.{ids_of, Stand, bit_of, head_of, side_of, turn_of, Asking, Sided, Turning, Seeking, Sought, Placing, Asked, Occurs};
 
 // How many slots stand before those of the first element. The slots of element `j` are the three from `HEADS + 3 * j`.
 const HEADS: usize = 128;
 
-fn wide(x: u16) -> usize
-    ensures { result ≡ x }
-{
-    x as usize
+// Where the ids of a line stand: that of element `k` takes `lens[k]` bytes from `starts[k]`.
+#[derive(Clone, Copy)]
+struct Places<'a> {
+    line: &'a [u8],
+    starts: &'a [u16],
+    lens: &'a [u8],
 }
 
-fn small(x: u8) -> usize
-    ensures { result ≡ x }
-{
-    x as usize
+impl<'a> Places<'a> {
+    fn id(self, k: usize) -> &'a [u8]
+        requires { Stand self (k + 1) }
+        ensures { result.now ≡ ids_of self.entry k }
+    {
+        let start = usize::from(self.starts[k]);
+        let end = start + usize::from(self.lens[k]);
+        &self.line[start..end]
+    }
 }
 
-fn id_of<'a>(line: &'a [u8], starts: &'a [u16], lens: &'a [u8], k: usize) -> &'a [u8]
-    requires { Rows line.now starts.now lens.now (k + 1) }
-    ensures { result.now ≡ id_of line.now starts.now lens.now k }
-{
-    let start = wide(starts[k]);
-    let end = start + small(lens[k]);
-    &line[start..end]
+// The elements of the tree: the depth of each, and the slots of all. A slot holds the number of its element and one more, 0 where it is free.
+#[derive(Clone, Copy)]
+struct Nodes<'a> {
+    depths: &'a [u8],
+    kids: &'a [u16],
+}
+
+impl Nodes<'_> {
+    // The element in a slot.
+    fn element(self, slot: usize) -> Option<usize>
+        requires { slot < length self.kids.now }
+        ensures { MatchOption result (get_or self.entry.kids.now slot 0 ≡ 0) (λ j. get_or self.entry.kids.now slot 0 ≡ j + 1) }
+    {
+        usize::from(self.kids[slot]).checked_sub(1)
+    }
 }
 
 // The byte at place `p`, or 0 past the end.
 fn byte_of(text: &[u8], p: usize) -> u8
     ensures { result ≡ get_or text.now p 0 }
 {
-    if p < text.len() { text[p] } else { 0 }
+    text.get(p).copied().unwrap_or(0)
 }
 
 // The slot where the walk of an id begins: by its first byte.
 fn head_of(text: &[u8]) -> usize
     ensures { result ≡ head_of text.now }
 {
-    small(byte_of(text, 0) % 128)
+    usize::from(byte_of(text, 0) % 128)
 }
 
 fn bit_of(x: u8, b: usize) -> usize
     requires { b < 8 }
     ensures { result ≡ bit_of x b }
 {
-    small((x >> b) % 2)
+    usize::from((x >> b) % 2)
 }
 
 // To which of an element's three slots an id goes that meets it. The element's depth names a bit: `d % 8` of byte `d / 8`. An id with another byte there goes by
@@ -57,126 +72,80 @@ fn bit_of(x: u8, b: usize) -> usize
 fn side_of(own: &[u8], other: &[u8], d: u8) -> usize
     ensures { result ≡ side_of own.now other.now d }
 {
-    let p = small(d / 8);
+    let p = usize::from(d / 8);
     let x = byte_of(own, p);
     if x == byte_of(other, p) {
-        return 2;
+        2
+    } else {
+        bit_of(x, usize::from(d % 8))
     }
-    bit_of(x, small(d % 8))
 }
 
 // The byte by which the element in a slot was told from the one before it; 0 where the slot is free.
-fn told_by(depths: &[u8], kids: &[u16], slot: usize) -> usize
-    requires { Asking depths.now kids.now slot }
+fn told_by(tree: Nodes, slot: usize) -> usize
+    requires { Asking tree slot }
 {
-    let k = wide(kids[slot]);
-    if k == 0 {
-        return 0;
+    match tree.element(slot) {
+        None => 0,
+        Some(j) => usize::from(tree.depths[j] / 8),
     }
-    small(depths[k - 1] / 8)
 }
 
 // Whether the id is the one that it meets. Only one that goes to the third slot can be. The element there differs from the one that is met in a known byte, and
 // most ids that pass differ in it too, so that byte is compared first.
-fn is_same(own: &[u8], other: &[u8], side: usize, depths: &[u8], kids: &[u16], slot: usize) -> bool
+fn is_same(own: &[u8], other: &[u8], side: usize, tree: Nodes, slot: usize) -> bool
     requires sided { Sided own.now other.now side }
-    requires asking { Asking depths.now kids.now slot }
+    requires asking { Asking tree slot }
     ensures { result ≡ same_text own.now other.now }
 {
     if side != 2 {
         return false;
     }
-    let p = told_by(depths, kids, slot);
-    if byte_of(own, p) != byte_of(other, p) {
-        return false;
-    }
-    base::same_text(own, other)
+    let p = told_by(tree, slot);
+    byte_of(own, p) == byte_of(other, p) && base::same_text(own, other)
 }
 
-// What an id finds at an element: its own text, or the slot where its walk goes on.
-#[derive(Clone, Copy)]
-struct Turn {
-    same: bool,
-    slot: usize,
-}
-
-// The id of element `i` meets element `j`.
-fn meet<'a>(
-    line: &'a [u8],
-    starts: &'a [u16],
-    lens: &'a [u8],
-    depths: &[u8],
-    kids: &[u16],
-    i: usize,
-    j: usize,
-) -> Turn
-    requires { Turning line.now starts.now lens.now depths.now kids.now i j }
-    ensures { result ≡ turn_of (id_of line.now starts.now lens.now i) (id_of line.now starts.now lens.now j) j (get_or depths.now j 0) }
+// The id of element `i` meets element `j`: the slot where its walk goes on, if it is another id.
+fn meet(places: Places, tree: Nodes, i: usize, j: usize) -> Option<usize>
+    requires { Turning places tree i j }
+    ensures { result ≡ turn_of (ids_of places.entry i) (ids_of places.entry j) j (get_or tree.entry.depths.now j 0) }
 {
-    let own = id_of(line, starts, lens, i);
-    let other = id_of(line, starts, lens, j);
-    let side = side_of(own, other, depths[j]);
+    let own = places.id(i);
+    let other = places.id(j);
+    let side = side_of(own, other, tree.depths[j]);
     let slot = HEADS + 3 * j + side;
-    Turn {
-        same: is_same(own, other, side, depths, kids, slot),
-        slot,
+    if is_same(own, other, side, tree, slot) {
+        None
+    } else {
+        Some(slot)
     }
 }
 
-// Where an element goes: nowhere, since its id occurred before, or into a free slot.
-#[derive(Clone, Copy)]
-enum Seat {
-    Taken,
-    Free(usize),
-}
-
-// The walk of the id of element `i` among the elements before it. A slot holds the number of its element and one more, 0 where it is free.
-fn find<'a>(
-    line: &'a [u8],
-    starts: &'a [u16],
-    lens: &'a [u8],
-    depths: &[u8],
-    kids: &[u16],
-    i: usize,
-) -> Seat
-    requires { Seeking line.now starts.now lens.now depths.now kids.now i }
-    ensures { Sought (id_of line.now starts.now lens.now) depths.now kids.now i result }
+// The walk of the id of element `i` among the elements before it, to the free slot where the element goes, if its id did not occur before.
+fn find(places: Places, tree: Nodes, i: usize) -> Option<usize>
+    requires { Seeking places tree i }
+    ensures { Sought (ids_of places.entry) tree.entry.depths.now tree.entry.kids.now i result }
 {
-    let mut slot = head_of(id_of(line, starts, lens, i));
-    loop {
-        let k = wide(kids[slot]);
-        if k == 0 {
-            return Seat::Free(slot);
-        }
-        let t = meet(line, starts, lens, depths, kids, i, k - 1);
-        if t.same {
-            return Seat::Taken;
-        }
-        slot = t.slot;
+    let mut slot = head_of(places.id(i));
+    while let Some(j) = tree.element(slot) {
+        slot = meet(places, tree, i, j)?;
     }
+    Some(slot)
 }
 
 // The depth of element `i`, which goes into a slot: the next bit where it went by a bit, else the first byte in which it differs from the element that it met.
 // No answer depends on it; the cost does. Along a walk no byte is asked again after it was the same, so that a walk meets at most eight elements for each byte.
-fn depth_in<'a>(
-    line: &'a [u8],
-    starts: &'a [u16],
-    lens: &'a [u8],
-    depths: &[u8],
-    slot: usize,
-    i: usize,
-) -> u8
-    requires { Placing line.now starts.now lens.now depths.now slot i }
+fn depth_in(places: Places, depths: &[u8], slot: usize, i: usize) -> u8
+    requires { Placing places depths.now slot i }
 {
     if slot < HEADS {
         return 8;
     }
     let j = (slot - HEADS) / 3;
     if (slot - HEADS) % 3 < 2 {
-        let d = depths[j];
-        return if d < 255 { d + 1 } else { d };
+        return depths[j].saturating_add(1);
     }
-    let p = base::common_len(id_of(line, starts, lens, i), id_of(line, starts, lens, j));
+    let p = base::common_len(places.id(i), places.id(j));
     (8 * (p % 32)) as u8
 }
 
@@ -192,31 +161,24 @@ pub fn first_repeat<'a>(
     requires { Asked line.now starts.now lens.now n depths.old kids.old }
     ensures { FirstRepeat (id_of line.now starts.now lens.now) n result }
 {
-    let mut i = 0;
-    while i < n {
-        let Seat::Free(slot) = find(line, starts, lens, depths, kids, i) else {
+    let places = Places { line, starts, lens };
+    for i in 0..n {
+        let Some(slot) = find(places, Nodes { depths, kids }, i) else {
             return i;
         };
-        depths[i] = depth_in(line, starts, lens, depths, slot, i);
-        i += 1;
-        kids[slot] = i as u16;
+        depths[i] = depth_in(places, depths, slot, i);
+        kids[slot] = (i + 1) as u16;
     }
     n
 }
 
 // Whether an element before `i` has the same id.
-fn occurs<'a>(line: &'a [u8], starts: &'a [u16], lens: &'a [u8], i: usize) -> bool
-    requires { Rows line.now starts.now lens.now (i + 1) }
-    ensures { Occurs (id_of line.now starts.now lens.now) i result }
+fn occurs(places: Places, i: usize) -> bool
+    requires { Stand places (i + 1) }
+    ensures { Occurs (ids_of places.entry) i result }
 {
-    let mut j = 0;
-    while j < i {
-        if base::same_text(id_of(line, starts, lens, i), id_of(line, starts, lens, j)) {
-            return true;
-        }
-        j += 1;
-    }
-    false
+    let own = places.id(i);
+    (0..i).any(|j| base::same_text(own, places.id(j)))
 }
 
 // The same as `first_repeat`, for few ids: each is compared with all before it, and no room is needed.
@@ -224,12 +186,6 @@ pub fn first_of_few<'a>(line: &'a [u8], starts: &'a [u16], lens: &'a [u8], n: us
     requires { Rows line.now starts.now lens.now n }
     ensures { FirstRepeat (id_of line.now starts.now lens.now) n result }
 {
-    let mut i = 0;
-    while i < n {
-        if occurs(line, starts, lens, i) {
-            return i;
-        }
-        i += 1;
-    }
-    n
+    let places = Places { line, starts, lens };
+    (0..n).find(|i| occurs(places, *i)).unwrap_or(n)
 }

@@ -1,4 +1,5 @@
 -- Outcomes by their drafts, and by their rows.
+use Rattle.std.specs.Prelude.{None}
 use Prim.Native.Nat.{ℕ}
 use mathlib.Core.Path.{◌≡◌, refl}
 use mathlib.Core.List.{List}
@@ -7,9 +8,8 @@ use Rattle.structured_data.specs.Data.{data_from, rows_or}
 use Rattle.draft.specs.Outcome.{Outcome}
 use Rattle.draft.specs.Outcome.Outcome.{no_reading, is_reading}
 use Rattle.draft.specs.Drafts.{rules_by, draft_of}
-use Rattle.draft.specs.declared.Draft.TheVariants.{NoDraft}
 
-pub no_draft : (o : Outcome) → NoDraft ≡ draft_of o → o ≡ no_reading
+pub no_draft : (o : Outcome) → None ≡ draft_of o → o ≡ no_reading
 no_draft no_reading e = refl
 no_draft (is_reading r at rows) e = let z : ◌≡◌ {A = ℕ} 0 1 = cc in absurd (omega arith)
 

@@ -1,5 +1,5 @@
 -- For private contracts alone: what the code keeps of an outcome before the tables are filled.
-use Rattle.std.specs.Prelude.{length}
+use Rattle.std.specs.Prelude.{length, Option, Some, None}
 use Rattle.record.specs.declared.Protocol.{Protocol}
 use Rattle.record.specs.declared.Protocol.TheVariants.{Rfc3164, Rfc5424}
 use Rattle.structured_data.specs.declared.Rules.{Rules}
@@ -7,7 +7,6 @@ use Rattle.structured_data.specs.declared.Rules.TheVariants.{Rfc3164Rules, Rfc54
 use Rattle.draft.specs.Outcome.{Outcome}
 use Rattle.draft.specs.Outcome.Outcome.{no_reading, is_reading}
 use Rattle.draft.specs.declared.Draft.{Draft}
-use Rattle.draft.specs.declared.Draft.TheVariants.{NoDraft, IsDraft}
 
 -- a line's structured data is read by the rules of its protocol
 abbrev pub rules_by : Protocol → Rules
@@ -15,6 +14,6 @@ rules_by Rfc3164 = Rfc3164Rules
 rules_by (Rfc5424 version) = Rfc5424Rules
 
 -- the rows are counted
-abbrev pub draft_of : Outcome → Draft
-draft_of no_reading = NoDraft
-draft_of (is_reading r at rows) = IsDraft (rules_by r.protocol) r at (length rows.elements) (length rows.params)
+abbrev pub draft_of : Outcome → Option Draft
+draft_of no_reading = None
+draft_of (is_reading r at rows) = Some (record { rules = rules_by r.protocol; read = r; at = at; elements = length rows.elements; params = length rows.params })

@@ -6,13 +6,10 @@ use structured_data::Rules;
 
 // The rules that the structured data is read by, the record, where the structured data stands, and the counts of elements and parameters.
 #[derive(Clone, Copy)]
-pub enum Draft {
-    NoDraft,
-    IsDraft {
-        rules: Rules,
-        read: Record,
-        at: usize,
-        elements: usize,
-        params: usize,
-    },
+pub struct Draft {
+    pub rules: Rules,
+    pub read: Record,
+    pub at: usize,
+    pub elements: usize,
+    pub params: usize,
 }

@@ -1,4 +1,5 @@
 -- Tables, a record's memory and an output that are always enough for a call (specs/Called.antt).
+use Rattle.std.specs.Prelude.{Err}
 use Prim.Native.Nat.{ℕ, ◌≤◌}
 use mathlib.Core.Path.{◌≡◌, refl}
 use mathlib.Core.Bool.{false}
@@ -12,7 +13,6 @@ use Rattle.record.specs.Limits.{line_limit}
 use Rattle.record.specs.declared.OutputAnswer.{OutputAnswer}
 use Rattle.record.specs.declared.ReadAnswer.{ReadAnswer}
 use Rattle.record.specs.declared.Refusal.{Refusal}
-use Rattle.record.specs.declared.Written.TheVariants.{Refused}
 use Rattle.layout.specs.Layout.{record_size, strict_size}
 use Rattle.exports.specs.Exports.{left_answer, with_reach, first_refusal, ServesPrint, ServesLookup}
 use Rattle.exports.specs.Exports.Serves.{held, unheld}
@@ -33,10 +33,10 @@ told_same : (a : ReadAnswer) (size room : ℕ) → size ≤ room → eqb a.numbe
 told_same a size room l h = rw (le-ltb room size l) h
 
 -- bytes that hold no record are refused with 1, 2 or 7
-first_other : (len kind : ℕ) → Done (Refused (first_refusal len kind))
+first_other : (len kind : ℕ) → Done (Err (first_refusal len kind))
 first_other len kind =
-    by_if (λ (f : Refusal). Done (Refused f)) (ltb line_limit len) _ _ (λ q. refl)
-    (λ q. by_if (λ (f : Refusal). Done (Refused f)) (ltb 1 kind) _ _ (λ q. refl) (λ q. refl))
+    by_if (λ (f : Refusal). Done (Err f)) (ltb line_limit len) _ _ (λ q. refl)
+    (λ q. by_if (λ (f : Refusal). Done (Err f)) (ltb 1 kind) _ _ (λ q. refl) (λ q. refl))
 
 module _ (n : ℕ) {line memory : List ℕ} {elements params : List (List ℕ)} {old new : List ℕ} {a : OutputAnswer} (short : length line ≤ line_limit → length line ≤ n) where
   print_called : print_for n ≤ length old → Called line memory elements params → ServesPrint line memory elements params old a new → eqb a.number 8 ≡ false

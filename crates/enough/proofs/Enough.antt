@@ -1,6 +1,7 @@
 -- Tables and an output that are always enough (specs/Enough.antt), from the bounds of a reading.
+use Rattle.std.specs.Prelude.{Result, Ok, Err}
 use Prim.Native.Nat.{ℕ, ◌+◌, ◌≤◌}
-use mathlib.Core.Path.{◌≡◌, refl}
+use mathlib.Core.Path.{◌≡◌, refl, ap}
 use mathlib.Core.List.{List, [], ◌∷◌}
 use mathlib.Core.Bool.{Bool, true, false, not, ◌&&◌}
 use native.Mathlib.Omega.{arith}
@@ -23,9 +24,7 @@ use Rattle.record.specs.declared.Reading.{Reading}
 use Rattle.record.specs.declared.Reading.TheVariants.{Read}
 use Rattle.record.specs.declared.StrictRecord.{StrictRecord}
 use Rattle.record.specs.declared.StrictReading.{StrictReading}
-use Rattle.record.specs.declared.StrictReading.TheVariants as strict
 use Rattle.record.specs.declared.Refusal.{Refusal}
-use Rattle.record.specs.declared.Written.{Written}
 use Rattle.grammar.specs.Reading.{data_at, record_of, param_count, element_rows, param_rows, StrictReads}
 use Rattle.grammar.specs.Reading.StrictReads.{too_long, underivable, elements_over, params_over, accepted}
 use Rattle.strict_data.proofs.Filling.{elements_many, all_many}
@@ -56,7 +55,7 @@ use Rattle.enough.proofs.Strict.{division_bounded}
 abbrev pub Fitting : ℕ → ℕ → ℕ → ℕ → Type 0
 Fitting n e p number = (elements_for n ≤ e → eqb number 5 ≡ false) × (params_for n ≤ p → eqb number 6 ≡ false) × (eqb number 8 ≡ false)
 
-abbrev pub LooseFits : ℕ → ℕ → ℕ → Reading → Type 0
+abbrev pub LooseFits : ℕ → ℕ → ℕ → Result Reading Refusal → Type 0
 LooseFits n e p r = Fitting n e p (answer_of r).number
 
 judged_fits : (n : ℕ) (line : List ℕ) (e p : ℕ) → length line ≤ n → (o : Outcome) → OutcomeBounded line o → LooseFits n e p (judged line o e p)
@@ -68,7 +67,7 @@ judged_fits n line e p l (is_reading x at rows) h =
     (λ q. (λ a. refl, λ a. absurd (omega (arith, ltb-true p (length rows.params) q, h.params_few)), refl)) (λ q. (λ a. refl, λ a. refl, refl))
 
 module _ (n : ℕ) {line : List ℕ} (short : length line ≤ line_limit → length line ≤ n) where
-  module _ {variant year : ℕ} {offset : ℤ} {e₀ p₀ e₁ p₁ : List (List ℕ)} {r : Reading} where
+  module _ {variant year : ℕ} {offset : ℤ} {e₀ p₀ e₁ p₁ : List (List ℕ)} {r : (Result Reading Refusal)} where
     pub loose_fits : Reads line variant year offset e₀ p₀ r e₁ p₁ → LooseFits n (length e₀) (length p₀) r
     loose_fits h =
         rw h.answer
@@ -78,7 +77,7 @@ module _ (n : ℕ) {line : List ℕ} (short : length line ≤ line_limit → len
         judged_fits n line (length e₀) (length p₀) (short (ltb-false line_limit (length line) long)) (outcome_of line variant year offset)
         (outcome_bounded line variant year offset (not-false _ settings)))
 
-  pub strict_fits : {e₀ p₀ e₁ p₁ : List (List ℕ)} {r : StrictReading} → StrictReads line e₀ p₀ r e₁ p₁ → Fitting n (length e₀) (length p₀) (strict_answer_of r).number
+  pub strict_fits : {e₀ p₀ e₁ p₁ : List (List ℕ)} {r : (Result StrictReading Refusal)} → StrictReads line e₀ p₀ r e₁ p₁ → Fitting n (length e₀) (length p₀) (strict_answer_of r).number
   strict_fits (too_long l a b c) = rw a (λ a. refl, λ a. refl, refl)
   strict_fits (underivable l h a b c) = rw a (λ a. refl, λ a. refl, refl)
   strict_fits (elements_over d l h m a b c) =
@@ -89,7 +88,7 @@ module _ (n : ℕ) {line : List ℕ} (short : length line ≤ line_limit → len
 
 -- ---- printing and lookup: another answer than 8
 
-abbrev pub Done : Written → Type 0
+abbrev pub Done : Result ℕ Refusal → Type 0
 Done w = eqb (output_answer_of w).number 8 ≡ false
 
 -- what a reader left, in tables whose front its rows fill
@@ -104,10 +103,10 @@ judged_bounded : (line : List ℕ) (r : Record) (e p at : ℕ) (rows : Rows) (e�
 judged_bounded line r e p at rows e₀ p₀ e₁ p₁ o q a b c d h = rw (c, d, q, a, b) (rows_bounded line r rows.elements rows.params e₀ p₀ (rw q at h))
 
 loose_bounded : {line : List ℕ} {variant year : ℕ} {offset : ℤ} {e₀ p₀ e₁ p₁ : List (List ℕ)} {r : Record} {e p : ℕ}
-    → Reads line variant year offset e₀ p₀ (Read r e p) e₁ p₁ → Bounded line r (take e e₁) (take p p₁)
+    → Reads line variant year offset e₀ p₀ (Ok (Read r e p)) e₁ p₁ → Bounded line r (take e e₁) (take p p₁)
 loose_bounded {line} {variant} {year} {offset} {e₀} {p₀} {e₁} {p₁} {r} {e} {p} h =
     let j = reading_judged line e₀ p₀ e₁ p₁ variant year offset h in
-    let settings = (passes (Read r e p) (read_done r e p) line variant year offset (length e₀) (length p₀) h.answer).settings in
+    let settings = (passes (Ok (Read r e p)) (read_done r e p) line variant year offset (length e₀) (length p₀) h.answer).settings in
     judged_bounded line r e p j.at j.rows e₀ p₀ e₁ p₁ _ j.outcome j.elements_many j.params_many h.elements h.params
     (outcome_bounded line variant year offset settings)
 
@@ -120,20 +119,24 @@ whole_bounded line =
       printed_small = rw pieces (rw pri_size (omega (arith, width_small 9 1 47 (omega arith), end_le Rfc3164 0, field_size line absent)));
     }
 
-never : {A : Type 0} {s : StrictRecord} {e p : ℕ} (f : Refusal) → strict.Read s e p ≡ strict.Refused f → A
-never f h = let z : true ≡ false = cc in clash z
+never : {A : Type 0} {r : StrictReading} (f : Refusal) → ◌≡◌ {A = Result StrictReading Refusal} (Ok r) (Err f) → A
+never f h = absurd (cc)
+
+same_reading : {r q : StrictReading} → ◌≡◌ {A = Result StrictReading Refusal} (Ok r) (Ok q) → r ≡ q
+same_reading h = cc
 
 strict_bounded : {line : List ℕ} {e₀ p₀ e₁ p₁ : List (List ℕ)} {s : StrictRecord} {e p : ℕ}
-    → StrictReads line e₀ p₀ (strict.Read s e p) e₁ p₁ → Bounded line s.common (take e e₁) (take p p₁)
+    → StrictReads line e₀ p₀ (Ok (record { reading = s; elements = e; params = p })) e₁ p₁ → Bounded line s.common (take e e₁) (take p p₁)
 strict_bounded (too_long l a b c) = never _ a
 strict_bounded (underivable l h a b c) = never _ a
 strict_bounded (elements_over d l h m a b c) = never _ a
 strict_bounded (params_over d l h k m a b c) = never _ a
 strict_bounded {line} {e₀} {p₀} {s} {e} {p} (accepted d l h k m a b c) =
     let es = d.elements in
-    let its : s ≡ record_of d = cc in
-    let n : e ≡ length es = cc in
-    let m : p ≡ param_count es = cc in
+    let q = same_reading a in
+    let its : s ≡ record_of d = ap (λ (x : StrictReading). x.reading) q in
+    let n : e ≡ length es = ap (λ (x : StrictReading). x.elements) q in
+    let m : p ≡ param_count es = ap (λ (x : StrictReading). x.params) q in
     rw (its, n, m, b, c, ← elements_many (data_at d) es, ← all_many 0 (data_at d) es)
     (rows_bounded line (record_of d).common (element_rows (data_at d) es) (param_rows 0 (data_at d) es) e₀ p₀ (division_bounded line d h))
 
@@ -155,7 +158,7 @@ module _ {line : List ℕ} {r : Record} {e p : ℕ} {elements params : List (Lis
   left_bounded (Left.by_whole h a b) = rw (a, b, (whole_is h).is.alone) (whole_bounded line)
   left_bounded (Left.by_strict h q) = rw q (strict_bounded h)
 
-  pub print_done : (n : ℕ) {before after : List ℕ} {w : Written} → length line ≤ n → print_for n ≤ length before → Left line r e p elements params
+  pub print_done : (n : ℕ) {before after : List ℕ} {w : (Result ℕ Refusal)} → length line ≤ n → print_for n ≤ length before → Left line r e p elements params
       → Prints line r e p elements params before w after → Done w
   print_done n {before} l room left h =
       let text = printed line r (take e elements) (take p params) in
@@ -183,7 +186,7 @@ value_done loose (Found.value v) m out h l =
     by_if Done (ltb out (length (unescaped loose v))) _ _
     (λ q. absurd (omega (arith, ltb-true out (length (unescaped loose v)) q, unescaped_le loose v))) (λ q. refl)
 
-pub lookup_done : (n : ℕ) {line : List ℕ} {r : Record} {e p : ℕ} {elements params : List (List ℕ)} {id name : List ℕ} {kind : ℕ} {before after : List ℕ} {w : Written}
+pub lookup_done : (n : ℕ) {line : List ℕ} {r : Record} {e p : ℕ} {elements params : List (List ℕ)} {id name : List ℕ} {kind : ℕ} {before after : List ℕ} {w : (Result ℕ Refusal)}
     → (length line ≤ line_limit → length line ≤ n) → n ≤ length before → Looks line r e p elements params id name kind before w after → Done w
 lookup_done n {line} {r} {e} {p} {elements} {params} {id} {name} {kind} {before} short room h =
     rw h.answer

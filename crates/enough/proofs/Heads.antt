@@ -1,5 +1,5 @@
 -- What stands before the structured data: the priority, the timestamp and the names, in print and in the line.
-use Rattle.std.specs.Prelude.{if◌then◌else◌}
+use Rattle.std.specs.Prelude.{if◌then◌else◌, Option, Some, None}
 use Prim.Native.Nat.{ℕ, zero, suc, ◌+◌, ◌*◌, ◌/◌, ◌%◌, ◌^◌, ◌≤◌, ◌<◌}
 use mathlib.Core.Path.{◌≡◌, refl}
 use mathlib.Core.List.{List, [], ◌∷◌}
@@ -13,23 +13,18 @@ use Rattle.base.specs.Choose.{is_at}
 use Rattle.base.specs.Texts.{text_at}
 use Rattle.base.proofs.Tests.{by_if}
 use Rattle.digits.specs.Digits.{number_at}
-use Rattle.digits.specs.declared.Number.{Number}
-use Rattle.digits.specs.declared.Number.TheVariants.{Nothing, Value}
-use Rattle.record.specs.declared.Level.{Level}
 use Rattle.record.specs.declared.Place.{Place}
 use Rattle.record.specs.declared.Record.{Record}
-use Rattle.record.specs.declared.Stamp.{Stamp}
-use Rattle.record.specs.declared.Stamp.TheVariants.{Unstamped, Stamped}
 use Rattle.output.specs.Numerals.{width_from, width}
 use Rattle.output.proofs.Numerals.{length_fixed}
 use Rattle.pri.specs.Pri.{no_pri, pri_after, pri_at}
 use Rattle.pri.specs.declared.Pri.{Pri}
-use Rattle.timestamp.specs.declared.Stamping.TheVariants.{IsStamp}
 use Rattle.suits.specs.Suits.{stamp_suits}
 use Rattle.message_stamp.specs.Stamps.{stamp_text, fraction_text}
 use Rattle.message_stamp.proofs.Texts.{stamp_sized}
 use Rattle.message.specs.Message.{level_or, pri_text, place_text, field_text}
 use Rattle.enough.proofs.Stamps.{StampFrom}
+use Rattle.record.specs.declared.Timestamp.{Timestamp}
 
 -- ---- numbers
 
@@ -45,7 +40,7 @@ width_small (suc f) (suc k) n h =
 
 -- ---- the priority: `<47>` where none was read
 
-abbrev pub pri_number : Level → Level → ℕ
+abbrev pub pri_number : Option ℕ → Option ℕ → ℕ
 pri_number facility severity = level_or 5 facility * 8 + level_or 7 severity
 
 abbrev PriGrows : Pri → Type 0
@@ -58,14 +53,14 @@ pri_grows s = by_if PriGrows (is_at s 0 60) _ _ (λ h. after (number_at 255 (dro
     none : PriGrows no_pri
     none = width_small 9 1 47 (omega arith)
 
-    after : (r : Number) → PriGrows (pri_after s r)
-    after Nothing = none
-    after (Value v n) =
-        by_if PriGrows (is_at s (n + 1) 62) _ _
+    after : (r : Option (ℕ × ℕ)) → PriGrows (pri_after s r)
+    after None = none
+    after (Some x) =
+        by_if PriGrows (is_at s (x.1 + 1) 62) _ _
         (λ h.
-        by_if (λ (l : Level). width (level_or 5 l * 8 + v % 8) ≤ n + 2 + 2) (leb (v / 8) 23) _ _
-        (λ q. let l = leb-true (v / 8) 23 q in let w = width_small 9 2 (v / 8 * 8 + v % 8) (omega arith) in omega arith)
-        (λ q. let w = width_small 9 2 (5 * 8 + v % 8) (omega arith) in omega arith))
+        by_if (λ (l : Option ℕ). width (level_or 5 l * 8 + x.0 % 8) ≤ x.1 + 2 + 2) (leb (x.0 / 8) 23) _ _
+        (λ q. let l = leb-true (x.0 / 8) 23 q in let w = width_small 9 2 (x.0 / 8 * 8 + x.0 % 8) (omega arith) in omega arith)
+        (λ q. let w = width_small 9 2 (5 * 8 + x.0 % 8) (omega arith) in omega arith))
         (λ h. none)
 
 pub pri_size : (r : Record) → length (pri_text r) ≡ width (pri_number r.facility r.severity) + 2
@@ -74,9 +69,9 @@ pri_size r = simp (length-append, length_fixed) (omega arith)
 
 -- ---- the timestamp: 25 bytes and the fraction, where it took `least` bytes and the fraction
 
-pub stamp_size : (least at n : ℕ) (t : Stamp) → least ≤ 20 → stamp_suits t ≡ true → StampFrom least at (IsStamp t n) → 8 * at + 8 * least + 7 * length (stamp_text t) ≤ 8 * n + 175
-stamp_size least at n Unstamped l h f = omega arith
-stamp_size least at n (Stamped t) l h f = omega (arith, (stamp_sized (Stamped t) h t refl (length (fraction_text t.digits t.nanos)) refl).is)
+pub stamp_size : (least at n : ℕ) (t : Option Timestamp) → least ≤ 20 → stamp_suits t ≡ true → StampFrom least at (Some (t, n)) → 8 * at + 8 * least + 7 * length (stamp_text t) ≤ 8 * n + 175
+stamp_size least at n None l h f = omega arith
+stamp_size least at n (Some t) l h f = omega (arith, (stamp_sized (Some t) h t refl (length (fraction_text t.digits t.nanos)) refl).is)
 
 -- ---- the names
 

@@ -1,4 +1,5 @@
 -- A line that has a loose reading: how many rows it has at most, and how long the reading is in print.
+use Rattle.std.specs.Prelude.{Option, Some, None}
 use Prim.Native.Nat.{ℕ, ◌+◌, ◌*◌, ◌≤◌}
 use mathlib.Core.Path.{◌≡◌, refl}
 use mathlib.Core.List.{List}
@@ -14,16 +15,13 @@ use Rattle.calendar.specs.Calendar.{offset_limit, last_year}
 use Rattle.record.specs.declared.Protocol.{Protocol}
 use Rattle.record.specs.declared.Protocol.TheVariants.{Rfc3164, Rfc5424}
 use Rattle.record.specs.declared.Record.{Record}
-use Rattle.record.specs.declared.Stamp.{Stamp}
 use Rattle.output.proofs.Numerals.{length_fixed, width_le}
 use Rattle.pri.specs.Pri.{pri_at}
 use Rattle.pri.specs.declared.Pri.{Pri}
-use Rattle.parsers.specs.Steps.{blanks_from, some_blanks_from, number_from}
+use Rattle.parsers.specs.Steps.{blanks_from, some_blanks_from, number_from, on_read}
 use Rattle.parsers.proofs.Steps.{blanks_within}
 use Rattle.timestamp.specs.Rfc3339.{rfc3339_from}
 use Rattle.timestamp.specs.Timestamp.{rfc3164_from}
-use Rattle.timestamp.specs.declared.Stamping.{Stamping}
-use Rattle.timestamp.specs.declared.Stamping.TheVariants.{NoStamp, IsStamp}
 use Rattle.timestamp.proofs.Onward.{on_num_lem, on_pos_lem}
 use Rattle.timestamp.proofs.Answers.{rfc3164_within, rfc3164_stamp}
 use Rattle.structured_data.specs.Data.{data_from, rows_or}
@@ -34,7 +32,6 @@ use Rattle.rfc3164.specs.Rfc3164 as rfc3164
 use Rattle.rfc3164.proofs.Lines.{header_within, end_within}
 use Rattle.rfc5424.specs.Rfc5424 as rfc5424
 use Rattle.rfc5424.specs.declared.Start.{Start}
-use Rattle.rfc5424.specs.declared.Start.TheVariants.{NoStart, IsStart}
 use Rattle.rfc5424.proofs.Headers.{start_stamp, four_within}
 use Rattle.rfc5424.proofs.Lines.{on_start_lem, on_four_lem, on_data_lem}
 use Rattle.loose.specs.Loose.{outcome_of, settings_ok}
@@ -48,6 +45,7 @@ use Rattle.bounds.proofs.Data.{Takes, data_takes}
 use Rattle.enough.proofs.Stamps.{num_is, pos_is, number_from_lem, some_from, colon_from_lem, StampFrom, rfc3339_from_lem, rfc3164_from_lem}
 use Rattle.enough.proofs.Heads.{pri_grows, pri_size, stamp_size, field_size, size_le}
 use Rattle.enough.proofs.Names.{four_from_lem, header_grows, header_onward}
+use Rattle.record.specs.declared.Timestamp.{Timestamp}
 
 -- A reading of the line: 3 bytes of it for each element, 5 for each parameter, and the bound of the text (see `printFor`).
 pub record Bounded (line : List ℕ) (r : Record) (elements params : List (List ℕ)) : Type 0 where
@@ -81,14 +79,14 @@ unfolding rfc3164.tag_end
 tag_end_from s at = omega (arith, colon_from_lem s (blanks_from s at))
 
 -- version and timestamp of an RFC 5424 line: a digit and a blank at least, and the timestamp
-record Begins (at : ℕ) (t : Stamp) (next : ℕ) : Type 0 where
+record Begins (at : ℕ) (t : Option Timestamp) (next : ℕ) : Type 0 where
   from : ℕ
   behind : at + 2 ≤ from
-  stamped : StampFrom 20 from (IsStamp t next)
+  stamped : StampFrom 20 from (Some (t, next))
 
-abbrev StartFrom : ℕ → Start → Type 0
-StartFrom at NoStart = Unit {0}
-StartFrom at (IsStart version t next) = Begins at t next
+abbrev StartFrom : ℕ → Option (Start × ℕ) → Type 0
+StartFrom at None = Unit {0}
+StartFrom at (Some x) = Begins at x.0.timestamp x.1
 
 start_from_lem : (s : List ℕ) (at : ℕ) → StartFrom at (rfc5424.start_from s at)
 unfolding rfc5424.start_from
@@ -97,9 +95,9 @@ start_from_lem s at =
     on_pos_lem (StartFrom at) (some_blanks_from s a) _ _ tt λ b e2.
     go version b (omega (arith, num_is (number_from_lem s at) e1, pos_is (some_from s a) e2)) (rfc3339_from s b) (rfc3339_from_lem s b)
   where
-    go : (version b : ℕ) → at + 2 ≤ b → (g : Stamping) → StampFrom 20 b g → StartFrom at (rfc5424.start_of version g)
-    go version b l NoStamp h = tt
-    go version b l (IsStamp t n) h = record { from = b; behind = l; stamped = h }
+    go : (version b : ℕ) → at + 2 ≤ b → (g : Option (Option Timestamp × ℕ)) → StampFrom 20 b g → StartFrom at (rfc5424.start_of version g)
+    go version b l None h = tt
+    go version b l (Some x) h = record { from = b; behind = l; stamped = h }
 
 pub version_le : (v : ℕ) → length (version_text (Rfc5424 v)) ≤ 10
 version_le v = rw length_fixed (width_le 9 v)
@@ -140,25 +138,25 @@ module _ (line s : List ℕ) (inside : length s ≤ length line) (start : ℕ) w
         from : ℕ
         from = blanks_from s (start + pri.next)
 
-        go : (g : Stamping) → g ≡ rfc3164_from year offset s from → StampFrom 11 from g
-            → OutcomeBounded line (rfc3164.on_stamping g no_reading (λ stamp a. rfc3164.body_from pri stamp s a))
-        go NoStamp q f = tt
-        go (IsStamp t a) q f =
-            let within_line = rfc3164_within s from _ t a refl year offset q in
-            let header = rfc3164.header_from s a in
+        go : (g : Option (Option Timestamp × ℕ)) → g ≡ rfc3164_from year offset s from → StampFrom 11 from g
+            → OutcomeBounded line (on_read g no_reading (λ stamp a. rfc3164.body_from pri stamp s a))
+        go None q f = tt
+        go (Some x) q f =
+            let within_line = rfc3164_within s from _ x.0 x.1 refl year offset q in
+            let header = rfc3164.header_from s x.1 in
             let b = rfc3164.tag_end s header.next in
-            let b_in = end_within s header.next (header_within s a within_line _ refl) b refl in
+            let b_in = end_within s header.next (header_within s x.1 within_line _ refl) b refl in
             let rows = rows_or b (data_from Rfc3164Rules s b) in
             let takes = data_takes Rfc3164Rules s b b_in in
             let message = blanks_within s rows.next _ refl takes.inside in
-            let stamp = stamp_size 11 from a t (omega arith) (stamp_suits_lem t (rfc3164_stamp s from _ t a refl year offset q range)) f in
+            let stamp = stamp_size 11 from x.1 x.0 (omega arith) (stamp_suits_lem x.0 (rfc3164_stamp s from _ x.0 x.1 refl year offset q range)) f in
             record {
               elements_few = omega (arith, takes.elements_many, takes.inside);
               params_few = omega (arith, takes.params_many, takes.inside);
               printed_small =
                   rw pieces
                   (rw pri_size
-                  (omega (arith, pri_grows (drop start s), stamp, header_grows line s a, header_onward s a, tag_end_from s header.next, end_3164 (length rows.elements), takes.small, takes.inside, message)));
+                  (omega (arith, pri_grows (drop start s), stamp, header_grows line s x.1, header_onward s x.1, tag_end_from s header.next, end_3164 (length rows.elements), takes.small, takes.inside, message)));
             }
 
 -- the text of a line is its trimmed part

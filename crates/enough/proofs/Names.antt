@@ -1,4 +1,5 @@
 -- Fields and names: how many bytes of the line they take at least, and by how much they grow in print.
+use Rattle.std.specs.Prelude.{Option, Some, None}
 use Prim.Native.Nat.{ℕ, ◌+◌, ◌≤◌}
 use mathlib.Core.Path.{◌≡◌, refl, sym, ap, ◌∙◌}
 use mathlib.Core.List.{List}
@@ -9,32 +10,25 @@ use Rattle.base.proofs.Tests.{by_if}
 use Rattle.record.specs.Places.{absent, place}
 use Rattle.record.specs.declared.Place.{Place}
 use Rattle.parsers.specs.Parsers.{plain_at, host_at, tag_at}
-use Rattle.parsers.specs.Steps.{byte_from, some_blanks_from, placed, plain_from, host_from, tag_from, on_pos, on_field}
-use Rattle.parsers.specs.declared.Pos.{Pos}
-use Rattle.parsers.specs.declared.Pos.TheVariants.{NoPos, IsPos}
+use Rattle.parsers.specs.Steps.{byte_from, some_blanks_from, placed, plain_from, host_from, tag_from, on_some, on_read}
 use Rattle.parsers.specs.declared.Text.{Text}
 use Rattle.parsers.specs.declared.Text.TheVariants.{Fails, Absent, Given}
-use Rattle.parsers.specs.declared.Field.{Field}
-use Rattle.parsers.specs.declared.Field.TheVariants.{NoField, IsField}
 use Rattle.parsers.proofs.Texts.{TextIn, plain_in, host_in, tag_in}
 use Rattle.rfc3164.specs.Names.{split_at, split_of, no_names, with_tag, only_field, host_and_tag}
 use Rattle.rfc3164.specs.Rfc3164.{spaced_host, spaced_tag, behind_field, header_from}
-use Rattle.rfc3164.specs.declared.Split.{Split}
-use Rattle.rfc3164.specs.declared.Split.TheVariants.{Whole, Parts}
 use Rattle.rfc3164.specs.declared.Names.{Names}
 use Rattle.rfc3164.proofs.Splits.{parts_within}
 use Rattle.rfc3164.proofs.Lines.{by_header}
 use Rattle.rfc5424.specs.Rfc5424.{blank_host, blank_plain, four_from}
 use Rattle.rfc5424.specs.declared.Four.{Four}
-use Rattle.rfc5424.specs.declared.Four.TheVariants.{NoFour, IsFour}
 use Rattle.message.specs.Message.{field_text, tag_text}
 use Rattle.enough.proofs.Stamps.{PosFrom, byte_from_lem, some_from}
 use Rattle.enough.proofs.Heads.{text_le, field_size, size_le}
 
 -- a field whose text starts at `at` or after
-abbrev FieldFrom : ℕ → Field → Type 0
-FieldFrom at NoField = Unit {0}
-FieldFrom at (IsField p n) = at + p.len ≤ n
+abbrev FieldFrom : ℕ → Option (Place × ℕ) → Type 0
+FieldFrom at None = Unit {0}
+FieldFrom at (Some x) = at + x.0.len ≤ x.1
 
 placed_from : (at least n : ℕ) → least ≤ at → (t : Text) → TextIn n t → FieldFrom least (placed at t)
 placed_from at least n l Fails i = tt
@@ -42,10 +36,10 @@ placed_from at least n l (Absent m) i = omega arith
 placed_from at least n l (Given k m) i = omega arith
 
 -- whatever is read behind a step that goes on by a byte at least
-behind : (read : List ℕ → Text) → ((s : List ℕ) → TextIn (length s) (read s)) → (s : List ℕ) (at : ℕ) (x : Pos) → PosFrom (at + 1) x
-    → FieldFrom (at + 1) (on_pos x NoField (λ a. placed a (read (drop a s))))
-behind read read-in s at NoPos h = tt
-behind read read-in s at (IsPos a) h = placed_from a (at + 1) (length (drop a s)) h (read (drop a s)) (read-in (drop a s))
+behind : (read : List ℕ → Text) → ((s : List ℕ) → TextIn (length s) (read s)) → (s : List ℕ) (at : ℕ) (x : Option ℕ) → PosFrom (at + 1) x
+    → FieldFrom (at + 1) (on_some x None (λ a. placed a (read (drop a s))))
+behind read read-in s at None h = tt
+behind read read-in s at (Some a) h = placed_from a (at + 1) (length (drop a s)) h (read (drop a s)) (read-in (drop a s))
 
 module _ (s : List ℕ) (at : ℕ) where
   host_from_lem : FieldFrom (at + 1) (spaced_host s at)
@@ -66,15 +60,15 @@ module _ (s : List ℕ) (at : ℕ) where
 
 -- ---- RFC 5424: host, app, process id and message id
 
-abbrev FourFrom : ℕ → Four → Type 0
-FourFrom at NoFour = Unit {0}
-FourFrom at (IsFour host app procid msgid n) = at + 4 + host.len + app.len + procid.len + msgid.len ≤ n
+abbrev FourFrom : ℕ → Option (Four × ℕ) → Type 0
+FourFrom at None = Unit {0}
+FourFrom at (Some x) = at + 4 + x.0.host.len + x.0.app.len + x.0.procid.len + x.0.msgid.len ≤ x.1
 
-on_field_lem : (P : Four → Type 0) (x : Field) (r : Four) (k : Place → ℕ → Four) → P r → ((p : Place) (n : ℕ) → x ≡ IsField p n → P (k p n)) → P (on_field x r k)
-on_field_lem P NoField r k a b = a
-on_field_lem P (IsField p n) r k a b = b p n refl
+on_field_lem : (P : Option (Four × ℕ) → Type 0) (x : Option (Place × ℕ)) (r : Option (Four × ℕ)) (k : Place → ℕ → Option (Four × ℕ)) → P r → ((p : Place) (n : ℕ) → x ≡ Some (p, n) → P (k p n)) → P (on_read x r k)
+on_field_lem P None r k a b = a
+on_field_lem P (Some x) r k a b = b x.0 x.1 refl
 
-field_is : (at : ℕ) {x : Field} {n : ℕ} {p : Place} → FieldFrom at x → x ≡ IsField p n → at + p.len ≤ n
+field_is : (at : ℕ) {x : (Option (Place × ℕ))} {n : ℕ} {p : Place} → FieldFrom at x → x ≡ Some (p, n) → at + p.len ≤ n
 field_is at h e = rw e at h
 
 pub four_from_lem : (s : List ℕ) (at : ℕ) → FourFrom at (four_from s at)
@@ -89,12 +83,12 @@ four_from_lem s at =
 -- ---- RFC 3164: host and tag
 
 -- app, `[`, pid and `]` fill the field
-parts_fill : (s : List ℕ) (f : Place) (a p : ℕ) → Parts a p ≡ split_of s f → a + p + 2 ≤ f.len
+parts_fill : (s : List ℕ) (f : Place) (a p : ℕ) → Some (a, p) ≡ split_of s f → a + p + 2 ≤ f.len
 unfolding split_of
 parts_fill s f a p e =
     let t = take f.len (drop f.start s) in
-    let whole : Parts a p ≡ split_of t (place 0 (length t)) = e ∙ ap split_at (sym (take_all (length t) t (omega arith))) in
-    omega (arith, parts_within t (place 0 (length t)) (Parts a p) whole a p refl (omega arith), length-take f.len (drop f.start s))
+    let whole : Some (a, p) ≡ split_of t (place 0 (length t)) = e ∙ ap split_at (sym (take_all (length t) t (omega arith))) in
+    omega (arith, parts_within t (place 0 (length t)) (Some (a, p)) whole a p refl (omega arith), length-take f.len (drop f.start s))
 
 abbrev NamesGrow : List ℕ → ℕ → Names → ℕ → Type 0
 NamesGrow line at x next = at + length (field_text line x.host) + length (tag_text line x.app x.procid) ≤ next + 4
@@ -116,23 +110,23 @@ module _ (line s : List ℕ) where
 
   -- a field that stands behind a space
   module _ (at next : ℕ) (f : Place) (h : at + 1 + f.len ≤ next) where
-    only_grow : (g : Split) → g ≡ split_of s f → NamesGrow line at (only_field f g) next
+    only_grow : (g : Option (ℕ × ℕ)) → g ≡ split_of s f → NamesGrow line at (only_field f g) next
     unfolding field_text
-    only_grow Whole e = omega (arith, field_size line f, size_le line f)
-    only_grow (Parts a p) e = omega (arith, parts_fill s f a p e, parts_size line f.start a (f.start + a + 1) p)
+    only_grow None e = omega (arith, field_size line f, size_le line f)
+    only_grow (Some x) e = omega (arith, parts_fill s f x.0 x.1 e, parts_size line f.start x.0 (f.start + x.0 + 1) x.1)
 
     -- and a tag behind it and another
-    tagged_grow : (last : ℕ) (tag : Place) → next + 1 + tag.len ≤ last → (g : Split) → g ≡ split_of s tag → NamesGrow line at (with_tag f tag g) last
-    tagged_grow last tag k Whole e = omega (arith, field_size line f, size_le line f, tag_size line tag)
-    tagged_grow last tag k (Parts a p) e =
-        omega (arith, field_size line f, size_le line f, parts_fill s tag a p e, parts_size line tag.start a (tag.start + a + 1) p)
+    tagged_grow : (last : ℕ) (tag : Place) → next + 1 + tag.len ≤ last → (g : Option (ℕ × ℕ)) → g ≡ split_of s tag → NamesGrow line at (with_tag f tag g) last
+    tagged_grow last tag k None e = omega (arith, field_size line f, size_le line f, tag_size line tag)
+    tagged_grow last tag k (Some x) e =
+        omega (arith, field_size line f, size_le line f, parts_fill s tag x.0 x.1 e, parts_size line tag.start x.0 (tag.start + x.0 + 1) x.1)
 
-    names_grow : (tag : Field) → FieldFrom (next + 1) tag → NamesGrow line at (host_and_tag s f tag) (behind_field next tag)
+    names_grow : (tag : Option (Place × ℕ)) → FieldFrom (next + 1) tag → NamesGrow line at (host_and_tag s f tag) (behind_field next tag)
     unfolding host_and_tag
-    names_grow NoField k =
+    names_grow None k =
         by_if (λ x. NamesGrow line at x next) f.present _ _ (λ q. only_grow (split_of s f) refl) (λ q. none_grow at next (omega arith))
-    names_grow (IsField tag n) k =
-        by_if (λ x. NamesGrow line at x n) tag.present _ _ (λ q. tagged_grow n tag k (split_of s tag) refl) (λ q. none_grow at n (omega arith))
+    names_grow (Some y) k =
+        by_if (λ x. NamesGrow line at x y.1) y.0.present _ _ (λ q. tagged_grow y.1 y.0 k (split_of s y.0) refl) (λ q. none_grow at y.1 (omega arith))
 
   pub header_grows : (at : ℕ) → NamesGrow line at (header_from s at).names (header_from s at).next
   header_grows at =
@@ -140,9 +134,9 @@ module _ (line s : List ℕ) where
       names_grow at a host (field_is (at + 1) (host_from_lem s at) z) (spaced_tag s a) (tag_from_lem s a)
 
 -- and reading goes on from there or after
-onward : (at : ℕ) (f : Field) → FieldFrom (at + 1) f → at ≤ behind_field at f
-onward at NoField h = omega arith
-onward at (IsField p n) h = omega arith
+onward : (at : ℕ) (f : Option (Place × ℕ)) → FieldFrom (at + 1) f → at ≤ behind_field at f
+onward at None h = omega arith
+onward at (Some x) h = omega arith
 
 pub header_onward : (s : List ℕ) (at : ℕ) → at ≤ (header_from s at).next
 header_onward s at =

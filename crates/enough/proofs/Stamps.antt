@@ -1,4 +1,5 @@
 -- Timestamps of the loose readers: how many bytes of the line each form takes at least, over the fraction that is printed of it.
+use Rattle.std.specs.Prelude.{Option, Some, None}
 use Prim.Native.Nat.{ℕ, ◌+◌, ◌-◌, ◌≤◌}
 use mathlib.Core.Path.{◌≡◌, refl, sym, ap}
 use mathlib.Core.List.{List}
@@ -12,54 +13,41 @@ use Rattle.base.specs.Choose.{is_at}
 use Rattle.base.specs.Runs.{run}
 use Rattle.base.proofs.Tests.{by_if}
 use Rattle.digits.specs.Digits.{number_at, fixed_at}
-use Rattle.digits.specs.declared.Number.{Number}
-use Rattle.digits.specs.declared.Number.TheVariants.{Nothing, Value}
 use Rattle.digits.proofs.Fixed.{fixed_len}
 use Rattle.digits.proofs.Numbers.{number_len}
 use Rattle.calendar.specs.Calendar.{valid}
 use Rattle.calendar.specs.Instant.{seconds_of, shown, is_shown}
 use Rattle.calendar.specs.declared.DateTime.{DateTime}
-use Rattle.record.specs.declared.Stamp.TheVariants.{Unstamped, Stamped}
 use Rattle.parsers.specs.Steps.{is_blank, blanks_from, some_blanks_from, byte_from, colon_from, moved, number_from}
-use Rattle.parsers.specs.declared.Num.{Num}
-use Rattle.parsers.specs.declared.Num.TheVariants.{NoNum, IsNum}
-use Rattle.parsers.specs.declared.Pos.{Pos}
-use Rattle.parsers.specs.declared.Pos.TheVariants.{NoPos, IsPos}
 use Rattle.parsers.proofs.Steps.{some_no, some_yes}
 use Rattle.timestamp.specs.Month.{month_of, month_from}
 use Rattle.timestamp.specs.Clock.{clock_from}
 use Rattle.timestamp.specs.Rfc3339.{fixed_from, either_from, date_from, time_from, nanos_from, minutes_from, east_of, west_of, zone_from, stamp_if, end_from, full_from, rfc3339_from}
 use Rattle.timestamp.specs.Timestamp.{day_from, without_year, utc_if, with_year, or_else, rfc3164_from}
 use Rattle.timestamp.specs.declared.Clock.{Clock}
-use Rattle.timestamp.specs.declared.Clock.TheVariants.{NoClock, IsClock}
 use Rattle.timestamp.specs.declared.Date.{Date}
-use Rattle.timestamp.specs.declared.Date.TheVariants.{NoDate, IsDate}
 use Rattle.timestamp.specs.declared.Day.{Day}
-use Rattle.timestamp.specs.declared.Day.TheVariants.{NoDay, IsDay}
-use Rattle.timestamp.specs.declared.Zone.{Zone}
-use Rattle.timestamp.specs.declared.Zone.TheVariants.{NoZone, IsZone}
-use Rattle.timestamp.specs.declared.Stamping.{Stamping}
-use Rattle.timestamp.specs.declared.Stamping.TheVariants.{NoStamp, IsStamp}
 use Rattle.timestamp.proofs.Onward.{on_num_lem, on_pos_lem, on_clock_lem, on_date_lem, on_day_lem, on_zone_lem}
 use Rattle.timestamp.proofs.Triples.{clocks, times, dates, triple_by}
 use Rattle.timestamp.proofs.Within.{time_within, nanos_onward}
 use Rattle.message_stamp.specs.Stamps.{fraction_text}
 use Rattle.message_stamp.proofs.Texts.{fraction_le, fraction_none}
+use Rattle.record.specs.declared.Timestamp.{Timestamp}
 
 -- ---- a step that answers a position goes on by `k` bytes at least
 
-abbrev pub NumFrom : ℕ → Num → Type 0
-NumFrom least NoNum = Unit {0}
-NumFrom least (IsNum v n) = least ≤ n
+abbrev pub NumFrom : ℕ → Option (ℕ × ℕ) → Type 0
+NumFrom least None = Unit {0}
+NumFrom least (Some x) = least ≤ x.1
 
-abbrev pub PosFrom : ℕ → Pos → Type 0
-PosFrom least NoPos = Unit {0}
-PosFrom least (IsPos n) = least ≤ n
+abbrev pub PosFrom : ℕ → Option ℕ → Type 0
+PosFrom least None = Unit {0}
+PosFrom least (Some n) = least ≤ n
 
-pub num_is : {x : Num} {least v n : ℕ} → NumFrom least x → x ≡ IsNum v n → least ≤ n
+pub num_is : {x : (Option (ℕ × ℕ))} {least v n : ℕ} → NumFrom least x → x ≡ Some (v, n) → least ≤ n
 num_is h e = rw e at h
 
-pub pos_is : {x : Pos} {least n : ℕ} → PosFrom least x → x ≡ IsPos n → least ≤ n
+pub pos_is : {x : (Option ℕ)} {least n : ℕ} → PosFrom least x → x ≡ Some n → least ≤ n
 pos_is h e = rw e at h
 
 module _ (s : List ℕ) (at : ℕ) where
@@ -67,17 +55,17 @@ module _ (s : List ℕ) (at : ℕ) where
   unfolding number_from
   number_from_lem = go (number_at 4294967295 (drop at s)) refl
     where
-      go : (r : Number) → number_at 4294967295 (drop at s) ≡ r → NumFrom (at + 1) (moved at r)
-      go Nothing e = tt
-      go (Value v n) e = omega (arith, (number_len 4294967295 (drop at s) v n e).0)
+      go : (r : Option (ℕ × ℕ)) → number_at 4294967295 (drop at s) ≡ r → NumFrom (at + 1) (moved at r)
+      go None e = tt
+      go (Some x) e = omega (arith, (number_len 4294967295 (drop at s) x.0 x.1 e).0)
 
   fixed_from_lem : (k : ℕ) → NumFrom (at + k) (fixed_from k s at)
   unfolding fixed_from
   fixed_from_lem k = go (fixed_at k (drop at s)) refl
     where
-      go : (r : Number) → fixed_at k (drop at s) ≡ r → NumFrom (at + k) (moved at r)
-      go Nothing e = tt
-      go (Value v n) e = omega (arith, (fixed_len k (drop at s) v n e).0)
+      go : (r : Option (ℕ × ℕ)) → fixed_at k (drop at s) ≡ r → NumFrom (at + k) (moved at r)
+      go None e = tt
+      go (Some x) e = omega (arith, (fixed_len k (drop at s) x.0 x.1 e).0)
 
   month_from_lem : NumFrom (at + 3) (month_from s at)
   unfolding month_from
@@ -99,21 +87,21 @@ module _ (s : List ℕ) (at : ℕ) where
       go (no l) = rw (← some_yes s at (blanks_from s at) refl (λ z. omega arith)) (omega arith)
 
 -- hh:mm:ss with digits of any count, and both parts of form (c)
-abbrev ClockFrom : ℕ → Clock → Type 0
-ClockFrom least NoClock = Unit {0}
-ClockFrom least (IsClock h m x n) = least ≤ n
+abbrev ClockFrom : ℕ → Option (Clock × ℕ) → Type 0
+ClockFrom least None = Unit {0}
+ClockFrom least (Some y) = least ≤ y.1
 
-abbrev DateFrom : ℕ → Date → Type 0
-DateFrom least NoDate = Unit {0}
-DateFrom least (IsDate y m d n) = least ≤ n
+abbrev DateFrom : ℕ → Option (Date × ℕ) → Type 0
+DateFrom least None = Unit {0}
+DateFrom least (Some x) = least ≤ x.1
 
-abbrev DayFrom : ℕ → Day → Type 0
-DayFrom least NoDay = Unit {0}
-DayFrom least (IsDay m d n) = least ≤ n
+abbrev DayFrom : ℕ → Option (Day × ℕ) → Type 0
+DayFrom least None = Unit {0}
+DayFrom least (Some x) = least ≤ x.1
 
-abbrev ZoneFrom : ℕ → Zone → Type 0
-ZoneFrom least NoZone = Unit {0}
-ZoneFrom least (IsZone o n) = least ≤ n
+abbrev ZoneFrom : ℕ → Option (ℤ × ℕ) → Type 0
+ZoneFrom least None = Unit {0}
+ZoneFrom least (Some x) = least ≤ x.1
 
 module _ (s : List ℕ) where
   clock_from_lem : (at : ℕ) → ClockFrom (at + 5) (clock_from s at)
@@ -158,20 +146,23 @@ module _ (s : List ℕ) where
       by_if (ZoneFrom (at + 1)) (is_at s at 43) _ _ (λ q. east (minutes_from s (at + 1)) (minutes_from_lem (at + 1))) λ q.
       by_if (ZoneFrom (at + 1)) (is_at s at 45) _ _ (λ q. west (minutes_from s (at + 1)) (minutes_from_lem (at + 1))) (λ q. tt)
     where
-      east : (x : Num) → NumFrom (at + 1) x → ZoneFrom (at + 1) (east_of x)
-      east NoNum h = tt
-      east (IsNum m n) h = h
+      east : (x : Option (ℕ × ℕ)) → NumFrom (at + 1) x → ZoneFrom (at + 1) (east_of x)
+      east None h = tt
+      east (Some x) h = h
 
-      west : (x : Num) → NumFrom (at + 1) x → ZoneFrom (at + 1) (west_of x)
-      west NoNum h = tt
-      west (IsNum m n) h = h
+      west : (x : Option (ℕ × ℕ)) → NumFrom (at + 1) x → ZoneFrom (at + 1) (west_of x)
+      west None h = tt
+      west (Some x) h = h
 
 -- ---- a timestamp that was read at `at`: `least` bytes or more, and its fraction
 
-abbrev pub StampFrom : ℕ → ℕ → Stamping → Type 0
-StampFrom least at NoStamp = Unit {0}
-StampFrom least at (IsStamp Unstamped n) = at + 1 ≤ n
-StampFrom least at (IsStamp (Stamped t) n) = at + least + length (fraction_text t.digits t.nanos) ≤ n
+abbrev pub StampTo : ℕ → ℕ → Option Timestamp → ℕ → Type 0
+StampTo least at None n = at + 1 ≤ n
+StampTo least at (Some t) n = at + least + length (fraction_text t.digits t.nanos) ≤ n
+
+abbrev pub StampFrom : ℕ → ℕ → Option (Option Timestamp × ℕ) → Type 0
+StampFrom least at None = Unit {0}
+StampFrom least at (Some x) = StampTo least at x.0 x.1
 
 module _ (least at : ℕ) where
   stamp_from : (t : DateTime) (nanos digits : ℕ) (o : ℤ) (next : ℕ) → at + least + length (fraction_text digits nanos) ≤ next
@@ -238,14 +229,17 @@ module _ (s : List ℕ) where
         let j : c + 5 ≤ d = rw e4 at (clock_from_lem s c) in
         utc_from 11 at _ o _ (omega (arith, num_is (number_from_lem s a) e2, pos_is (some_from s b) e3, colon_from_lem s d))
 
-    first_from : (x y : Stamping) → StampFrom 11 at x → StampFrom 11 at y → StampFrom 11 at (or_else x y)
-    first_from NoStamp y a b = b
-    first_from (IsStamp t n) y a b = a
+    first_from : (x y : Option (Option Timestamp × ℕ)) → StampFrom 11 at x → StampFrom 11 at y → StampFrom 11 at (or_else x y)
+    first_from None y a b = b
+    first_from (Some x) y a b = a
 
-    shorter : (x : Stamping) → StampFrom 20 at x → StampFrom 11 at x
-    shorter NoStamp h = tt
-    shorter (IsStamp Unstamped n) h = h
-    shorter (IsStamp (Stamped t) n) h = omega arith
+    shorter : (x : Option (Option Timestamp × ℕ)) → StampFrom 20 at x → StampFrom 11 at x
+    shorter None h = tt
+    shorter (Some x) h = less x.0 h
+      where
+        less : (t : Option Timestamp) → StampTo 20 at t x.1 → StampTo 11 at t x.1
+        less None h = h
+        less (Some t) h = omega arith
 
     pub rfc3164_from_lem : (year : ℕ) → StampFrom 11 at (rfc3164_from year o s at)
     unfolding rfc3164_from

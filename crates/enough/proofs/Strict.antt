@@ -1,4 +1,5 @@
 -- A line that divides by the grammar: how many rows it has at most, and how long its record is in print.
+use Rattle.std.specs.Prelude.{Some}
 use Prim.Native.Nat.{ℕ, ◌+◌, ◌*◌, ◌/◌, ◌%◌, ◌≤◌}
 use mathlib.Core.Path.{◌≡◌, refl, sym, ap}
 use mathlib.Core.List.{List, [], ◌∷◌}
@@ -17,7 +18,6 @@ use Rattle.grammar.specs.Reading.{hostname_at, app_name_at, procid_at, msgid_at,
 use Rattle.grammar.proofs.Readers.{text_length}
 use Rattle.grammar.proofs.Data.{param_reads, element_reads}
 use Rattle.strict_data.proofs.Filling.{params_length, param_length, elements_many, all_many}
-use Rattle.timestamp.specs.declared.Stamping.TheVariants.{IsStamp}
 use Rattle.message_stamp.specs.Stamps.{fraction_text}
 use Rattle.message_stamp.proofs.Texts.{fraction_le, fraction_none}
 use Rattle.message.specs.Message.{field_text}
@@ -84,7 +84,7 @@ offset_some Offset.utc = omega arith
 offset_some (Offset.east h m) = omega arith
 offset_some (Offset.west h m) = omega arith
 
-stamp_from : (o : Option Timestamp) → TimestampOk o → StampFrom 20 0 (IsStamp (stamp_of o) (length (timestamp_then o [])))
+stamp_from : (o : Option Timestamp) → TimestampOk o → StampFrom 20 0 (Some (stamp_of o, length (timestamp_then o [])))
 stamp_from none h = omega arith
 stamp_from (some t) h =
     simp length-append

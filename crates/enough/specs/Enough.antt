@@ -1,16 +1,16 @@
 -- Which tables and which output are always enough: statements to be read without their proofs, which are in proofs/Enough.antt.
-use Rattle.std.specs.Prelude.{ℕ, ◌+◌, ◌/◌, ◌≤◌, ◌≡◌, List, length, ℤ}
+use Rattle.std.specs.Prelude.{ℕ, ◌+◌, ◌/◌, ◌≤◌, ◌≡◌, List, length, ℤ, Result}
 use Rattle.record.specs.Answers.{answer_of, strict_answer_of, output_answer_of}
 use Rattle.record.specs.Limits.{line_limit}
 use Rattle.record.specs.declared.Record.{Record}
 use Rattle.record.specs.declared.Reading.{Reading}
 use Rattle.record.specs.declared.StrictReading.{StrictReading}
-use Rattle.record.specs.declared.Written.{Written}
 use Rattle.grammar.specs.Reading.{StrictReads}
 use Rattle.loose.specs.Loose.{Reads}
 use Rattle.lookup.specs.Lookup.{Looks}
 use Rattle.message.specs.Prints.{Prints}
 use Rattle.suited.specs.Served.{Left}
+use Rattle.record.specs.declared.Refusal.{Refusal}
 
 -- ---- for a line of `n` bytes
 
@@ -48,19 +48,19 @@ value_enough = line_limit
 -- These are enough for each of the lines: an element table of `e` entries, a parameter table of `p`, an output of `t` bytes for printing and of `v` for lookup.
 pub record Enough (Line : List ℕ → Type 0) (e p t v : ℕ) : Type 0 where
   -- Neither reader answers 5 or 6.
-  pub loose_not_5 : {line : List ℕ} {variant year : ℕ} {offset : ℤ} {e₀ p₀ e₁ p₁ : List (List ℕ)} {r : Reading} → Line line → e ≤ length e₀
+  pub loose_not_5 : {line : List ℕ} {variant year : ℕ} {offset : ℤ} {e₀ p₀ e₁ p₁ : List (List ℕ)} {r : (Result Reading Refusal)} → Line line → e ≤ length e₀
       → Reads line variant year offset e₀ p₀ r e₁ p₁ → (answer_of r).number ≡ 5 → ⊥
-  pub loose_not_6 : {line : List ℕ} {variant year : ℕ} {offset : ℤ} {e₀ p₀ e₁ p₁ : List (List ℕ)} {r : Reading} → Line line → p ≤ length p₀
+  pub loose_not_6 : {line : List ℕ} {variant year : ℕ} {offset : ℤ} {e₀ p₀ e₁ p₁ : List (List ℕ)} {r : (Result Reading Refusal)} → Line line → p ≤ length p₀
       → Reads line variant year offset e₀ p₀ r e₁ p₁ → (answer_of r).number ≡ 6 → ⊥
-  pub strict_not_5 : {line : List ℕ} {e₀ p₀ e₁ p₁ : List (List ℕ)} {r : StrictReading} → Line line → e ≤ length e₀
+  pub strict_not_5 : {line : List ℕ} {e₀ p₀ e₁ p₁ : List (List ℕ)} {r : (Result StrictReading Refusal)} → Line line → e ≤ length e₀
       → StrictReads line e₀ p₀ r e₁ p₁ → (strict_answer_of r).number ≡ 5 → ⊥
-  pub strict_not_6 : {line : List ℕ} {e₀ p₀ e₁ p₁ : List (List ℕ)} {r : StrictReading} → Line line → p ≤ length p₀
+  pub strict_not_6 : {line : List ℕ} {e₀ p₀ e₁ p₁ : List (List ℕ)} {r : (Result StrictReading Refusal)} → Line line → p ≤ length p₀
       → StrictReads line e₀ p₀ r e₁ p₁ → (strict_answer_of r).number ≡ 6 → ⊥
   -- Printing of what a reader left does not answer 8,
-  pub print_not_8 : {line : List ℕ} {r : Record} {m n : ℕ} {elements params : List (List ℕ)} {before after : List ℕ} {w : Written} → Line line → t ≤ length before
+  pub print_not_8 : {line : List ℕ} {r : Record} {m n : ℕ} {elements params : List (List ℕ)} {before after : List ℕ} {w : (Result ℕ Refusal)} → Line line → t ≤ length before
       → Left line r m n elements params → Prints line r m n elements params before w after → (output_answer_of w).number ≡ 8 → ⊥
   -- nor does lookup, of any record.
-  pub lookup_not_8 : {line : List ℕ} {r : Record} {m n : ℕ} {elements params : List (List ℕ)} {id name : List ℕ} {kind : ℕ} {before after : List ℕ} {w : Written}
+  pub lookup_not_8 : {line : List ℕ} {r : Record} {m n : ℕ} {elements params : List (List ℕ)} {id name : List ℕ} {kind : ℕ} {before after : List ℕ} {w : (Result ℕ Refusal)}
       → Line line → v ≤ length before → Looks line r m n elements params id name kind before w after → (output_answer_of w).number ≡ 8 → ⊥
 
 pub record AlwaysEnough : Type 0 where

@@ -1,6 +1,6 @@
 -- A value's escapes by runs of plain bytes: the length and the writes.
 use Rattle.std.specs.Prelude.{if◌then◌else◌}
-use Prim.Native.Nat.{ℕ, suc, ◌+◌, ◌-◌, ◌*◌, ◌≤◌, ◌<◌}
+use Prim.Native.Nat.{ℕ, zero, suc, ◌+◌, ◌-◌, ◌*◌, ◌≤◌, ◌<◌}
 use mathlib.Core.Path.{◌≡◌, refl, sym, ap, ◌∙◌}
 use mathlib.Core.Bool.{Bool, true, false, not, ◌&&◌}
 use mathlib.Core.List.{List, [], ◌∷◌, ◌++◌}
@@ -10,11 +10,13 @@ use lib.Seq.{drop-drop, get_or-drop}
 use borrow.Author.Tests.{not-true, not-false}
 use mir.Syntax.{w64}
 use mir.Val as val
-use Rattle.base.specs.Runs.{run, eight}
+use Rattle.std.specs.List.{fold, list_all, prefix_len}
+use Rattle.std.proofs.lemmas.List.Folds.{length-prefix_len}
+use Rattle.base.specs.Runs.{run}
 use Rattle.base.specs.Texts.{text_at}
 use Rattle.base.proofs.Tests.{by_test, both, told}
 use Rattle.base.proofs.Parts.{step, ended}
-use Rattle.base.proofs.Runs.{run_le, run_yes, run_no, run_none, run_after, Runs, runs_from, runs_out, runs_yes, runs_on, runs_off, eight_on}
+use Rattle.base.proofs.Runs.{run_le, run_yes, run_no, run_none, run_after, run_split, Runs, runs_from}
 use Rattle.record.specs.Limits.{line_limit}
 use Rattle.output.specs.Fits.{Fits}
 use Rattle.output.specs.Output.{Wrote}
@@ -25,8 +27,26 @@ use Rattle.escaping.specs.Plain.{plain, sixteen}
 
 -- ---- runs by sixteens
 
-pub sixteen_is : (s : List ℕ) (i : ℕ) (a b : Bool) → a ≡ eight plain s i → b ≡ eight plain s (i + 8) → (a && b) ≡ sixteen plain s i
-sixteen_is s i a b e f = rw (e, f)
+-- the fold that asks all
+pub fold_all : (p : ℕ → Bool) (a : Bool) (xs : List ℕ) → fold (λ a b. a && p b) a xs ≡ (a && list_all p xs)
+fold_all p true [] = refl
+fold_all p false [] = refl
+fold_all p true (x ∷ xs) = fold_all p (p x) xs
+fold_all p false (x ∷ xs) = fold_all p false xs
+
+-- what `take_while` takes is the run in front
+prefix_run : (p : ℕ → Bool) (s : List ℕ) → prefix_len p s ≡ run p s
+unfolding run
+prefix_run p [] = refl
+prefix_run p (b ∷ s) = grind (arith, prefix_run p s)
+
+pub run_taken : (p : ℕ → Bool) (s : List ℕ) → length (take (prefix_len p s) s) ≡ run p s
+run_taken p s = length-prefix_len p s ∙ prefix_run p s
+
+all_run : (p : ℕ → Bool) (k : ℕ) (xs : List ℕ) → k ≤ length xs → list_all p (take k xs) ≡ true → k ≤ run p xs
+all_run p zero xs h t = omega arith
+all_run p (suc k) [] h t = absurd (omega arith)
+all_run p (suc k) (x ∷ xs) h t = let e = both (p x) (list_all p (take k xs)) t in omega (arith, run_yes p x xs e.0, all_run p k xs (omega arith) e.1)
 
 module _ (s : List ℕ) (from i : ℕ) (w : Runs plain s (from + run plain (drop from s)) i) where
   pub front_inside : i ≤ length s
@@ -37,20 +57,11 @@ module _ (s : List ℕ) (from i : ℕ) (w : Runs plain s (from + run plain (drop
 
   pub front_sixteen : i + 16 ≤ length s → (b : Bool) → b ≡ sixteen plain s i → not b ≡ false → Runs plain s (from + run plain (drop from s)) (i + 16)
   front_sixteen l b e q =
-      let n = from + run plain (drop from s) in
-      let t = both (eight plain s i) (eight plain s (i + 8)) (told b (sixteen plain s i) e q) in
-      let on : (j : ℕ) → j < length s → Runs plain s n j → plain (get_or s j 0) ≡ true → Runs plain s n (j + 1) = λ j h v. runs_yes plain s n j v h in
-      let a = eight_on plain s (Runs plain s n) on i (omega arith) w (eight plain s i) refl (ap not t.0) in
-      let b = eight_on plain s (Runs plain s n) on (i + 8) (omega arith) a (eight plain s (i + 8)) refl (ap not t.1) in
-      let z : i + 8 + 8 ≡ i + 16 = omega arith in
-      rw z at b
-
-pub front_at : (s : List ℕ) (from i : ℕ) → i ≤ length s → from + run plain (drop from s) ≡ i + run plain (drop i s) → Runs plain s (from + run plain (drop from s)) i
-front_at s from i l e = record { within_s = l; ends = e }
+      let t = told b (sixteen plain s i) e q in
+      let r = all_run plain 16 (drop i s) (omega (arith, length-drop i s)) t in
+      record { within_s = l; ends = omega (arith, w.ends, run_split plain (drop i s) 16 r, ap (run plain) (drop-drop 16 i s)) }
 
 pub ruleset front_laws = (runs_from, front_inside, front_rest)
-
-pub ruleset end_laws = (front_at, runs_out, runs_on, runs_off)
 
 -- ---- the escapes by runs
 

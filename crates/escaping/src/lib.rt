@@ -2,7 +2,7 @@
 #![tactic(auto)]
 
 ghost use Rattle.std.specs.Prelude.{◌≡◌, ◌∷◌, ◌+◌, ◌-◌, ◌≤◌, length, drop};
-ghost use Rattle.base.specs.Runs.{run, eight};
+ghost use Rattle.base.specs.Runs.{run};
 ghost use Rattle.base.specs.Texts.{text_at};
 ghost use Rattle.record.specs.Limits.{line_limit};
 ghost use Rattle.output.specs.Fits.{Fits};
@@ -13,29 +13,15 @@ ghost use Rattle.escaping.specs.Plain.{plain, sixteen};
 fn is_plain(b: u8) -> bool
     ensures { result ≡ plain b }
 {
-    !((b == 34) | (b == 92) | (b == 93))
+    !((b == b'"') | (b == b'\\') | (b == b']'))
 }
 
-// Whether the eight bytes from place `i` on are plain. All are asked, so that the compiler makes one test of them.
-fn eight_plain(s: &[u8], i: usize) -> bool
-    requires { i + 8 ≤ length s.now }
-    ensures { result ≡ eight plain s.now i }
-{
-    !((s[i] == 34) | (s[i] == 92) | (s[i] == 93))
-        & !((s[i + 1] == 34) | (s[i + 1] == 92) | (s[i + 1] == 93))
-        & !((s[i + 2] == 34) | (s[i + 2] == 92) | (s[i + 2] == 93))
-        & !((s[i + 3] == 34) | (s[i + 3] == 92) | (s[i + 3] == 93))
-        & !((s[i + 4] == 34) | (s[i + 4] == 92) | (s[i + 4] == 93))
-        & !((s[i + 5] == 34) | (s[i + 5] == 92) | (s[i + 5] == 93))
-        & !((s[i + 6] == 34) | (s[i + 6] == 92) | (s[i + 6] == 93))
-        & !((s[i + 7] == 34) | (s[i + 7] == 92) | (s[i + 7] == 93))
-}
-
+// Whether the sixteen bytes from place `i` on are plain. All are asked, so that the compiler makes one test of them.
 fn sixteen_plain(s: &[u8], i: usize) -> bool
     requires { i + 16 ≤ length s.now }
     ensures { result ≡ sixteen plain s.now i }
 {
-    eight_plain(s, i) & eight_plain(s, i + 8)
+    s[i..i + 16].iter().fold(true, |all, b| all & is_plain(*b))
 }
 
 // How far the plain bytes from `from` on reach, by sixteens.
@@ -60,14 +46,8 @@ fn plain_end(s: &[u8], from: usize) -> usize
     requires { from ≤ length s.now }
     ensures { result ≡ from + run plain (drop from s.now) }
 {
-    let mut i = plain_front(s, from);
-    while i < s.len() {
-        if !is_plain(s[i]) {
-            return i;
-        }
-        i += 1;
-    }
-    i
+    let i = plain_front(s, from);
+    i + s[i..].iter().take_while(|b| is_plain(**b)).count()
 }
 
 // The length of a value with its escapes.

@@ -1,4 +1,5 @@
 -- The contracts leave nothing open: any two results that one allows on the same inputs are equal.
+use Rattle.std.specs.Prelude.{Result}
 use Prim.Native.Nat.{ℕ}
 use mathlib.Core.Path.{◌≡◌, sym, ap, ap₂, ◌∙◌}
 use mathlib.Core.List.{List}
@@ -8,7 +9,6 @@ use Rattle.base.specs.Fills.{filled}
 use Rattle.base.proofs.Tests.{clash}
 use Rattle.record.specs.Answers.{read_answer_of, strict_read_answer_of, output_answer_of}
 use Rattle.record.specs.declared.Record.{Record}
-use Rattle.record.specs.declared.Written.{Written}
 use Rattle.record.specs.declared.Refusal.{Refusal}
 use Rattle.record.specs.declared.OutputAnswer.{OutputAnswer}
 use Rattle.record.specs.declared.ReadAnswer.{ReadAnswer}
@@ -51,8 +51,8 @@ module _ {A : Type 0} (told : A → ReadAnswer) (bytes : A → List ℕ) (size :
       }
 
 -- a service, where it is determined
-module _ (bytes : List ℕ) (first : Refusal) (Service : Record → ℕ → ℕ → Written → List ℕ → Type 0)
-    (one : (v w : Written) (new other : List ℕ) → Service (record_at bytes) (element_count_at bytes) (param_count_at bytes) v new
+module _ (bytes : List ℕ) (first : Refusal) (Service : Record → ℕ → ℕ → Result ℕ Refusal → List ℕ → Type 0)
+    (one : (v w : Result ℕ Refusal) (new other : List ℕ) → Service (record_at bytes) (element_count_at bytes) (param_count_at bytes) v new
     → Service (record_at bytes) (element_count_at bytes) (param_count_at bytes) w other → (v ≡ w) × (new ≡ other))
     (old : List ℕ) where
   pub serves_one : {a b : OutputAnswer} {new other : List ℕ} → Serves bytes first Service old a new → Serves bytes first Service old b other → (a ≡ b) × (new ≡ other)
@@ -71,7 +71,7 @@ module _ (line : List ℕ) (e₀ p₀ : List (List ℕ)) (out : List ℕ) (a b :
 
   pub strict_one : LeavesStrict line e₀ p₀ out a e p new → LeavesStrict line e₀ p₀ out b e' p' new' → Same a b e e' p p' new new'
   strict_one h k =
-      leaves_one (λ (r : StrictReading). with_reach h.reach (strict_read_answer_of r)) strict_bytes_of strict_size (StrictReads line e₀ p₀) (λ r s e₁ e₂ p₁ p₂ h k. strict_determined h k)
+      leaves_one (λ (r : Result StrictReading Refusal). with_reach h.reach (strict_read_answer_of r)) strict_bytes_of strict_size (StrictReads line e₀ p₀) (λ r s e₁ e₂ p₁ p₂ h k. strict_determined h k)
       e₀ p₀ out a b e e' p p' new new' h.leaves (rw (reports_one line h.reach k.reach h.reports k.reports) k.leaves)
 
 module _ (line bytes : List ℕ) (elements params : List (List ℕ)) (old : List ℕ) {a b : OutputAnswer} {new other : List ℕ} where

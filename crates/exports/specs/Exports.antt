@@ -1,13 +1,11 @@
 -- The functions of include/khamdoriem.h: what each answers, and what it leaves in what it was lent. Those of a stream are in crates/stream/specs/Numbers.antt.
-use Rattle.std.specs.Prelude.{ℕ, ◌≡◌, true, false, List, eqb, ltb, ℤ, length, if◌then◌else◌}
+use Rattle.std.specs.Prelude.{ℕ, ◌≡◌, true, false, List, eqb, ltb, ℤ, length, if◌then◌else◌, Result, Err}
 use Rattle.base.specs.Fills.{filled}
 use Rattle.record.specs.Limits.{line_limit}
 use Rattle.record.specs.Answers.{answer_of, strict_answer_of, read_answer_of, strict_read_answer_of, output_answer_of}
 use Rattle.record.specs.declared.Record.{Record}
 use Rattle.record.specs.declared.Reading.{Reading}
 use Rattle.record.specs.declared.StrictReading.{StrictReading}
-use Rattle.record.specs.declared.Written.{Written}
-use Rattle.record.specs.declared.Written.TheVariants as written
 use Rattle.record.specs.declared.Refusal.{Refusal}
 use Rattle.record.specs.declared.Refusal.TheVariants.{LineTooLong, BadSetting, Unsuitable}
 use Rattle.record.specs.declared.OutputAnswer.{OutputAnswer}
@@ -54,10 +52,10 @@ pub record Leaves {A : Type 0} (told : A → ReadAnswer) (bytes : A → List ℕ
   pub record_is : out₁ ≡ kept a.number (filled (bytes answer) out₀) out₀
 
 -- the bytes of the record and the counts
-abbrev pub bytes_of : Reading → List ℕ
+abbrev pub bytes_of : Result Reading Refusal → List ℕ
 bytes_of r = let a = answer_of r in record_bytes a.reading a.elements a.params
 
-abbrev pub strict_bytes_of : StrictReading → List ℕ
+abbrev pub strict_bytes_of : Result StrictReading Refusal → List ℕ
 strict_bytes_of r = let a = strict_answer_of r in strict_bytes a.reading a.elements a.params
 
 abbrev pub LeavesLoose : List ℕ → ℕ → ℕ → ℤ → List (List ℕ) → List (List ℕ) → List ℕ → ReadAnswer → List (List ℕ) → List (List ℕ) → List ℕ → Type 0
@@ -71,15 +69,15 @@ with_reach n a = record { number = a.number; whole = a.whole; reach = n }
 pub record LeavesStrict (line : List ℕ) (e₀ p₀ : List (List ℕ)) (out₀ : List ℕ) (a : ReadAnswer) (e₁ p₁ : List (List ℕ)) (out₁ : List ℕ) : Type 0 where
   pub reach : ℕ
   pub reports : Reports line reach
-  pub leaves : Leaves (λ (r : StrictReading). with_reach reach (strict_read_answer_of r)) strict_bytes_of strict_size (StrictReads line e₀ p₀) e₀ p₀ out₀ a e₁ p₁ out₁
+  pub leaves : Leaves (λ (r : Result StrictReading Refusal). with_reach reach (strict_read_answer_of r)) strict_bytes_of strict_size (StrictReads line e₀ p₀) e₀ p₀ out₀ a e₁ p₁ out₁
 
 -- ---- printing and lookup
 
 -- A call over the bytes of a record: where they hold one, the service's answer; where not, refusal `first`, and the output as it was.
-pub data Serves (bytes : List ℕ) (first : Refusal) (Service : Record → ℕ → ℕ → Written → List ℕ → Type 0) (old : List ℕ) (a : OutputAnswer) (new : List ℕ) : Type 0 where
-  held : holds_record bytes ≡ true → (w : Written) → Service (record_at bytes) (element_count_at bytes) (param_count_at bytes) w new → a ≡ output_answer_of w
+pub data Serves (bytes : List ℕ) (first : Refusal) (Service : Record → ℕ → ℕ → Result ℕ Refusal → List ℕ → Type 0) (old : List ℕ) (a : OutputAnswer) (new : List ℕ) : Type 0 where
+  held : holds_record bytes ≡ true → (w : Result ℕ Refusal) → Service (record_at bytes) (element_count_at bytes) (param_count_at bytes) w new → a ≡ output_answer_of w
       → Serves bytes first Service old a new
-  unheld : holds_record bytes ≡ false → a ≡ output_answer_of (written.Refused first) → new ≡ old → Serves bytes first Service old a new
+  unheld : holds_record bytes ≡ false → a ≡ output_answer_of (Err first) → new ≡ old → Serves bytes first Service old a new
 
 -- the first of the refusals 1, 2 and 7 that applies to a line of `len` bytes, a kind, and bytes that hold no record
 abbrev pub first_refusal : ℕ → ℕ → Refusal

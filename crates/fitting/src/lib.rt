@@ -12,7 +12,7 @@ ghost use Rattle.writes.specs.Fits.{digits_fit, class_fits, text_fits, message_f
 ghost use Rattle.writes.specs.Writes.{part_in, stamp_in, record_in};
 ghost use Rattle.fitting.specs.Heads.{byte_of, numbers_fit, names_fit, head_fits, row_fits};
 
-use record::{Param, Stamp, Timestamp};
+use record::{Param, Timestamp};
 use writes::{Handed, Part};
 
 // A text of the lent text.
@@ -25,19 +25,16 @@ pub fn text_at(text: &[u8], start: usize, len: usize) -> &[u8]
 }
 
 // How many bytes in front are printable; of a name, but for `=`, `]` and `"`.
+#[tactic(auto, using(crate::proofs::Tests::run_laws))]
 fn class_run(s: &[u8], name: bool) -> usize
     ensures { result ≡ run (byte_of name) s.now }
 {
-    let mut i = 0;
-    while i < s.len() {
-        let b = s[i];
-        if (33 <= b) & (b <= 126) & !(name & ((b == b'=') | (b == b']') | (b == b'"'))) {
-            i += 1;
-        } else {
+    for (i, &b) in s.iter().enumerate() {
+        if !((33 <= b) & (b <= 126) & !(name & ((b == b'=') | (b == b']') | (b == b'"')))) {
             return i;
         }
     }
-    i
+    s.len()
 }
 
 // Whether it is 1 to `most` such bytes.
@@ -45,72 +42,48 @@ pub fn class_fits(s: &[u8], most: usize, name: bool) -> bool
     ensures { result ≡ class_fits most (byte_of name) s.now }
 {
     let n = s.len();
-    if n < 1 {
-        return false;
-    }
-    if most < n {
-        return false;
-    }
-    class_run(s, name) == n
+    1 <= n && n <= most && class_run(s, name) == n
 }
 
 // Whether it is such a text and not `-`.
 fn text_fits(s: &[u8], most: usize) -> bool
     ensures { result ≡ (class_fits most (byte_of false) s.now && not (eqb (length s.now) 1 && is_at s.now 0 45)) }
 {
-    if !class_fits(s, most, false) {
-        return false;
-    }
-    if s.len() != 1 {
-        return true;
-    }
-    !base::is_at(s, 0, b'-')
+    class_fits(s, most, false) & !((s.len() == 1) & base::is_at(s, 0, b'-'))
 }
 
 fn part_fits(text: &[u8], p: Part, most: usize) -> bool
     requires { p.start + p.len ≤ length text.now }
     ensures { result ≡ text_fits most (part_in text.now p) }
 {
-    if p.present == 0 {
-        return true;
-    }
-    text_fits(text_at(text, p.start, p.len), most)
+    p.present == 0 || text_fits(text_at(text, p.start, p.len), most)
 }
 
 // Whether it is a message of any bytes, or a byte order mark and then UTF-8.
 fn is_message(m: &[u8]) -> bool
     ensures { result ≡ is_message m.now }
 {
-    if !base::is_at(m, 0, 0xEF) {
-        return true;
-    }
-    if !base::is_at(m, 1, 0xBB) {
-        return true;
-    }
-    if !base::is_at(m, 2, 0xBF) {
-        return true;
-    }
-    utf8::is_utf8(base::past(m, 3))
+    !base::is_at(m, 0, 0xEF)
+        || !base::is_at(m, 1, 0xBB)
+        || !base::is_at(m, 2, 0xBF)
+        || utf8::is_utf8(base::past(m, 3))
 }
 
 fn message_fits(text: &[u8], p: Part) -> bool
     requires { p.start + p.len ≤ length text.now }
     ensures { result ≡ message_fits (part_in text.now p) }
 {
-    if p.present == 0 {
-        return true;
-    }
-    is_message(text_at(text, p.start, p.len))
+    p.present == 0 || is_message(text_at(text, p.start, p.len))
 }
 
 // The timestamp that is handed in.
-pub fn stamp_in(h: Handed) -> Stamp
+pub fn stamp_in(h: Handed) -> Option<Timestamp>
     ensures { result ≡ stamp_in h }
 {
     if h.stamped == 0 {
-        return Stamp::Unstamped;
+        return None;
     }
-    Stamp::Stamped(Timestamp {
+    Some(Timestamp {
         seconds: h.seconds,
         nanos: h.nanos,
         digits: h.digits,
@@ -121,10 +94,7 @@ pub fn stamp_in(h: Handed) -> Stamp
 fn digits_fit(h: Handed) -> bool
     ensures { result ≡ digits_fit (stamp_in h) }
 {
-    if h.stamped == 0 {
-        return true;
-    }
-    h.digits <= 6
+    h.stamped == 0 || h.digits <= 6
 }
 
 fn numbers_fit(h: Handed) -> bool
@@ -133,6 +103,7 @@ fn numbers_fit(h: Handed) -> bool
     (h.priority <= 191) & ((1 <= h.version) & (h.version <= 999)) & digits_fit(h)
 }
 
+#[tactic(auto, using(crate::proofs::Tests::places_in))]
 fn names_fit(text: &[u8], h: Handed) -> bool
     requires { record_suits text.now (record_in h) ≡ true }
     ensures { result ≡ names_fit text.now h }
@@ -148,18 +119,13 @@ fn names_fit(text: &[u8], h: Handed) -> bool
 }
 
 // Whether all but the elements fits.
+#[tactic(auto, using(crate::proofs::Tests::places_in), unfolding(crate::specs::Heads::head_fits))]
 pub fn head_fits(text: &[u8], h: Handed) -> bool
     requires { record_suits text.now (record_in h) ≡ true }
     ensures { result ≡ head_fits text.now h }
 {
     let message = h.message;
-    if !numbers_fit(h) {
-        return false;
-    }
-    if !names_fit(text, h) {
-        return false;
-    }
-    message_fits(text, message)
+    numbers_fit(h) && names_fit(text, h) && message_fits(text, message)
 }
 
 // Whether a parameter fits: its name, and its value as UTF-8.
@@ -168,8 +134,6 @@ pub fn param_fits(text: &[u8], p: Param) -> bool
     requires value_len_in_bounds { p.value_start + p.value_len ≤ length text.now }
     ensures { result ≡ row_fits text.now (row_of p) }
 {
-    if !class_fits(text_at(text, p.name_start, p.name_len), 32, true) {
-        return false;
-    }
-    utf8::is_utf8(text_at(text, p.value_start, p.value_len))
+    class_fits(text_at(text, p.name_start, p.name_len), 32, true)
+        && utf8::is_utf8(text_at(text, p.value_start, p.value_len))
 }

@@ -1,4 +1,5 @@
 -- What the strict reader laid out comes back as the claim that it was made of, and so is told yes.
+use Rattle.std.specs.Prelude.{Result}
 use Prim.Native.Nat.{ℕ, ◌+◌, ◌*◌, ◌≤◌, ◌<◌}
 use mathlib.Core.Path.{◌≡◌, sym, ap, ◌∙◌}
 use mathlib.Core.Bool.{Bool, true, false}
@@ -28,6 +29,7 @@ use Rattle.checker.specs.Memory.{text_word, message_mark_word, holds_strict, str
 use Rattle.checker.specs.Memory.ChecksBytes.{held, unheld}
 use Rattle.followers.specs.Told.{LeftIsTold}
 use Rattle.followers.proofs.Followers.{text_in, reader_is_told}
+use Rattle.record.specs.declared.Refusal.{Refusal}
 
 -- ---- words behind others
 
@@ -158,7 +160,7 @@ module _ {line out memory : List ℕ} {e₀ p₀ elements params : List (List �
   rest = drop (length (strict_bytes common.full (element_count_at memory) (param_count_at memory))) out
 
   memory_laid : memory ≡ strict_bytes common.full (element_count_at memory) (param_count_at memory) ++ rest
-  memory_laid = h.leaves.record_is ∙ ap (λ (r : StrictReading). filled (strict_bytes_of r) out) (strict_determined h.leaves.reads common.reads).0
+  memory_laid = h.leaves.record_is ∙ ap (λ (r : Result StrictReading Refusal). filled (strict_bytes_of r) out) (strict_determined h.leaves.reads common.reads).0
 
   told : {n : ℕ} → ChecksBytes line memory elements params n → n ≡ 0
   told (unheld k z) =

@@ -1,4 +1,5 @@
 -- A true claim, in tables that hold its counts, suits its line; so it is told yes.
+use Rattle.std.specs.Prelude.{Result, Ok, Err}
 use Prim.Native.Nat.{ℕ, ◌+◌, ◌≤◌}
 use mathlib.Core.Path.{◌≡◌, refl, sym, ap, ap₂, ◌∙◌}
 use mathlib.Core.Bool.{true, false, ◌&&◌}
@@ -13,8 +14,8 @@ use Rattle.base.specs.Fills.{filled}
 use Rattle.base.proofs.Tests.{both, clash}
 use Rattle.record.specs.Limits.{line_limit}
 use Rattle.record.specs.declared.StrictRecord.{StrictRecord}
+use Rattle.record.specs.declared.StrictReading.{StrictReading}
 use Rattle.record.specs.declared.Refusal.{Refusal}
-use Rattle.record.specs.declared.StrictReading.TheVariants.{Read, Refused}
 use Rattle.grammar.specs.Line.{Division, Element, Timestamp, element_then, Derives}
 use Rattle.grammar.specs.Reading.{data_at, timestamp_place, record_of, element_rows, param_rows, param_count, StrictReads}
 use Rattle.grammar.specs.Reading.StrictReads.{too_long, underivable, elements_over, params_over, accepted}
@@ -25,7 +26,6 @@ use Rattle.suited.proofs.Strict.{line_length, division_suits}
 use Rattle.claims.specs.Claims.{claim_of, pair_of, pairs, claim_suits, Checks}
 use Rattle.claims.specs.Claims.Checks.{told_yes}
 use Rattle.claims.specs.Laws.{FollowerIsTold, ReaderIsTold}
-use Rattle.claims.specs.declared.Checked.TheVariants.{Yes}
 use Rattle.claims.proofs.Laws.{one_answer}
 
 -- ---- it suits
@@ -63,18 +63,21 @@ module _ (line : List ℕ) (d : Division) (h : Derives line d) where
         ap₂ (λ (n : ℕ) (rows : List (List ℕ)). params_suit line n 0 rows) (sym count_is ∙ sym (zero-add (length (element_rows (data_at d) d.elements)))) entries ∙ t.of_params 0 (omega arith) in
         rw (record_suits_lem, le-leb e (length elements) le, le-leb p (length params) lp, a, b, le-leb _ _ (stamp_in_lem line d h d.timestamp))
 
-    told : length line ≤ line_limit → Checks line (record_of d) e p elements params Yes
+    told : length line ≤ line_limit → Checks line (record_of d) e p elements params (Ok tt)
     unfolding claim_of
     told l = told_yes l claim_suits_lem (record { division = d; derives = h; is = rw (ids, entries) }) refl
 
 pub follower_is_told : FollowerIsTold
 follower_is_told line d e p elements params a l h le lp ids entries c =
-    one_answer line (record_of d) e p elements params a Yes c (told line d h e p elements params le lp ids entries l)
+    one_answer line (record_of d) e p elements params a (Ok tt) c (told line d h e p elements params le lp ids entries l)
 
 -- ---- what the strict reader leaves
 
-never : {A : Type 0} {r : StrictRecord} {e p : ℕ} (f : Refusal) → Read r e p ≡ Refused f → A
+never : {A : Type 0} {x : StrictReading} (f : Refusal) → ◌≡◌ {A = Result StrictReading Refusal} (Ok x) (Err f) → A
 never f h = let z : true ≡ false = cc in clash z
+
+same : {x y : StrictReading} → ◌≡◌ {A = Result StrictReading Refusal} (Ok x) (Ok y) → x ≡ y
+same h = cc
 
 pairs_of : (at : ℕ) (es : List Element) → pairs (element_rows at es) ≡ element_rows at es
 pairs_of at [] = refl
@@ -95,16 +98,16 @@ reader_is_told line e₀ p₀ e₁ p₁ r e p a (params_over d l h k m q b c) x 
 reader_is_told line e₀ p₀ e₁ p₁ r e p a (accepted d l h k m q b c) x =
     let at = data_at d in
     let es = d.elements in
-    let i : r ≡ record_of d = cc in
-    let n : e ≡ length (element_rows at es) = (let z : e ≡ length es = cc in omega (arith, elements_many at es)) in
-    let o : p ≡ length (param_rows 0 at es) = (let z : p ≡ param_count es = cc in omega (arith, all_many 0 at es)) in
+    let i : r ≡ record_of d = ap (λ (x : StrictReading). x.reading) (same q) in
+    let n : e ≡ length (element_rows at es) = (let z : e ≡ length es = ap (λ (x : StrictReading). x.elements) (same q) in omega (arith, elements_many at es)) in
+    let o : p ≡ length (param_rows 0 at es) = (let z : p ≡ param_count es = ap (λ (x : StrictReading). x.params) (same q) in omega (arith, all_many 0 at es)) in
     let y : Checks line (record_of d) e p (filled (element_rows at es) e₀) (filled (param_rows 0 at es) p₀) a = rw (← i, ← b, ← c) x in
     follower_is_told line d e p (filled (element_rows at es) e₀) (filled (param_rows 0 at es) p₀) a l h
     (filled_room e (element_rows at es) e₀ n) (filled_room p (param_rows 0 at es) p₀ o)
     (ap pairs (filled_front e (element_rows at es) e₀ n) ∙ pairs_of at es) (filled_front p (param_rows 0 at es) p₀ o) y
 
 -- the place of the timestamp's text in it
-pub text_in : {line : List ℕ} {e₀ p₀ e₁ p₁ : List (List ℕ)} {r : StrictRecord} {e p : ℕ} → StrictReads line e₀ p₀ (Read r e p) e₁ p₁
+pub text_in : {line : List ℕ} {e₀ p₀ e₁ p₁ : List (List ℕ)} {r : StrictRecord} {e p : ℕ} → StrictReads line e₀ p₀ (Ok (record { reading = r; elements = e; params = p })) e₁ p₁
     → r.timestamp_text.start + r.timestamp_text.len ≤ line_limit
 unfolding record_of
 text_in (too_long l q b c) = never _ q
@@ -112,5 +115,5 @@ text_in (underivable l h q b c) = never _ q
 text_in (elements_over d l h m q b c) = never _ q
 text_in (params_over d l h k m q b c) = never _ q
 text_in {line} {e₀} {p₀} {e₁} {p₁} {r} (accepted d l h k m q b c) =
-    let i : r ≡ record_of d = cc in
+    let i : r ≡ record_of d = ap (λ (x : StrictReading). x.reading) (same q) in
     rw i (omega (arith, stamp_in_lem line d h d.timestamp))

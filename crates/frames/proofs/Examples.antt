@@ -1,17 +1,17 @@
 -- Worked examples, computed from the definitions.
+use Rattle.std.specs.Prelude.{Ok}
 use mathlib.Core.Path.{◌≡◌, refl}
 use mathlib.Core.Bool.{true, false}
 use mathlib.Core.List.{[], ◌∷◌, map}
 use Rattle.record.specs.declared.Refusal.TheVariants.{BadSetting, OutputShort, BadCount, FrameTooLong}
 use Rattle.stream.specs.declared.State.TheVariants.{Count, Content, Line, Ended}
-use Rattle.stream.specs.declared.Started.TheVariants.{Ready}
 use Rattle.stream.specs.declared.Event.TheVariants as event
 use Rattle.stream.specs.Machine.{start_of}
 use Rattle.frames.specs.declared.Task.TheVariants.{More, Read, Refuse, End, Cut}
 use Rattle.frames.specs.Tasks.{start_state, kept_len, task_of, last_task}
 
 -- counted streams are the splitter's kind 0, lines its kind 1
-kinds : (Ready (start_state true) ≡ start_of 0) × (Ready (start_state false) ≡ start_of 1)
+kinds : (Ok (start_state true) ≡ start_of 0) × (Ok (start_state false) ≡ start_of 1)
 unfolding start_of
 kinds = (refl, refl)
 

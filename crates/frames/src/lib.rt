@@ -6,8 +6,8 @@
 ghost use Rattle.std.specs.Prelude.{◌≡◌, ◌+◌, ◌≤◌, ◌<◌, length};
 ghost use Rattle.output.specs.Output.{Wrote};
 ghost use Rattle.frames.specs.Words.{count_text};
-ghost use Rattle.frames.specs.Tasks.{kept_len, refused_task, last_task, last_line, last_count, start_state, turn_of, Turns, to_read, is_read, goes_on};
-ghost use Rattle.frames.specs.States.{start_of, with_task, stopped_of, done_of, Goes, Refills, Advances, Keeps};
+ghost use Rattle.frames.specs.Tasks.{kept_len, refused_task, last_task, last_line, start_state, Turns, to_read, is_read, goes_on};
+ghost use Rattle.frames.specs.States.{start_of, stopped_of, done_of, Goes, Refills, Advances, Keeps};
 
 use program::{Asked, Process, Status};
 use record::Refusal;
@@ -21,6 +21,7 @@ pub struct Options {
 }
 
 // What is to be done with what the splitter told, or at the end of the input.
+// A refusal stands as its number, by which the definition `refused_task` tells it and the programs write it.
 #[derive(Clone, Copy)]
 pub enum Task {
     // nothing
@@ -67,51 +68,33 @@ fn kept_len(crlf: bool, frame: &[u8]) -> usize
     ensures value { result ≡ kept_len crlf frame.now }
     ensures upper_bound { result ≤ length frame.now }
 {
-    let n = frame.len();
-    if n == 0 {
-        return 0;
+    if crlf && frame.ends_with(b"\r") {
+        frame.len() - 1
+    } else {
+        frame.len()
     }
-    if crlf & (frame[n - 1] == 13) {
-        return n - 1;
-    }
-    n
 }
 
 // What is to be done where the splitter refuses. A long line has the number of a long line.
 fn refused_task(counted: bool, refusal: Refusal) -> Task
     ensures { result ≡ refused_task counted refusal }
 {
-    let n = record::refusal_number(refusal);
-    if n == 12 {
-        if counted {
-            return Task::Refuse(12);
-        }
-        return Task::Refuse(1);
+    match u32::from(refusal) {
+        12 if counted => Task::Refuse(12),
+        12 => Task::Refuse(1),
+        n => Task::End(n),
     }
-    Task::End(n)
 }
 
 // What is to be done with a last line of `n` bytes that no LF ends.
 fn last_line(n: u32, room: usize) -> Task
     ensures { result ≡ last_line n room }
 {
-    let len = n as usize;
-    if len == 0 {
-        return Task::More;
+    match n as usize {
+        0 => Task::More,
+        len if len <= record::LINE_LIMIT && len <= room => Task::Read(len),
+        _ => Task::Refuse(1),
     }
-    if (len <= record::LINE_LIMIT) & (len <= room) {
-        return Task::Read(len);
-    }
-    Task::Refuse(1)
-}
-
-fn last_count(v: u32) -> Task
-    ensures { result ≡ last_count v }
-{
-    if v == 0 {
-        return Task::More;
-    }
-    Task::Cut(0)
 }
 
 // What is to be done where the input ends, with a line buffer of `room` bytes.
@@ -119,10 +102,10 @@ fn last_task(stream: stream::State, room: usize) -> Task
     ensures { result ≡ last_task stream room }
 {
     match stream {
-        stream::State::Count(v) => return last_count(v),
-        stream::State::Content(_, n) => return Task::Cut(n),
-        stream::State::Line(n) => return last_line(n, room),
-        stream::State::Ended => return Task::More,
+        stream::State::Count(0) | stream::State::Ended => Task::More,
+        stream::State::Count(_) => Task::Cut(0),
+        stream::State::Content(_, n) => Task::Cut(n),
+        stream::State::Line(n) => last_line(n, room),
     }
 }
 
@@ -130,70 +113,39 @@ fn last_task(stream: stream::State, room: usize) -> Task
 fn goes_on(task: Task) -> bool
     ensures { result ≡ goes_on task }
 {
-    match task {
-        Task::More => true,
-        Task::Read(_) => true,
-        Task::Refuse(_) => true,
-        Task::End(_) => false,
-        Task::Cut(_) => false,
-        Task::Failed => false,
-    }
+    matches!(task, Task::More | Task::Read(_) | Task::Refuse(_))
 }
 
 // Whether there is a frame to be read.
 pub fn is_read(s: State) -> bool
     ensures { result ≡ is_read s.task }
 {
-    let task = s.task;
-    match task {
-        Task::More => false,
-        Task::Read(_) => true,
-        Task::Refuse(_) => false,
-        Task::End(_) => false,
-        Task::Cut(_) => false,
-        Task::Failed => false,
-    }
+    matches!(s.task, Task::Read(_))
 }
 
 // How many bytes it has.
 pub fn to_read(s: State) -> usize
     ensures { result ≡ to_read s.task }
 {
-    let task = s.task;
-    match task {
-        Task::More => 0,
+    match s.task {
         Task::Read(n) => n,
-        Task::Refuse(_) => 0,
-        Task::End(_) => 0,
-        Task::Cut(_) => 0,
-        Task::Failed => 0,
+        _ => 0,
     }
 }
 
 // A turn: the splitter on bytes of the stream, up to the end of a frame or to a refusal.
-fn turn(crlf: bool, counted: bool, stream: stream::State, bytes: &[u8], line: &mut [u8]) -> Outcome
-    ensures { Turns crlf counted stream bytes.now line.old result line.new }
+fn turn(s: State, bytes: &[u8], line: &mut [u8]) -> Outcome
+    ensures { Turns s.crlf s.counted s.stream bytes.now line.old result line.new }
 {
-    let fed = stream::feed(stream, bytes, line);
-    let state = fed.state;
-    let taken = fed.taken;
-    let event = fed.event;
-    match event {
-        Event::More => return turned(state, taken, Task::More),
-        Event::Frame(n) => {
-            let kept = kept_len(crlf, &line[0..n]);
-            return turned(state, taken, Task::Read(kept));
-        }
-        Event::Refused(f) => return turned(state, taken, refused_task(counted, f)),
-    }
-}
-
-fn turned(stream: stream::State, taken: usize, task: Task) -> Outcome
-    ensures { result ≡ turn_of stream taken task }
-{
+    let fed = stream::feed(s.stream, bytes, line);
+    let task = match fed.event {
+        Event::More => Task::More,
+        Event::Frame(n) => Task::Read(kept_len(s.crlf, &line[..n])),
+        Event::Refused(f) => refused_task(s.counted, f),
+    };
     Outcome {
-        stream,
-        taken,
+        stream: fed.state,
+        taken: fed.taken,
         task,
     }
 }
@@ -205,9 +157,10 @@ fn start_state(counted: bool) -> stream::State
     ensures { result ≡ start_state counted }
 {
     if counted {
-        return stream::State::Count(0);
+        stream::State::Count(0)
+    } else {
+        stream::State::Line(0)
     }
-    stream::State::Line(0)
 }
 
 pub fn start(options: Options) -> State
@@ -225,36 +178,15 @@ pub fn start(options: Options) -> State
     }
 }
 
-fn with_task(s: State, task: Task) -> State
-    ensures { result ≡ with_task s task }
-{
-    let stream = s.stream;
-    State {
-        task,
-        stream,
-        next: s.next,
-        got: s.got,
-        left: s.left,
-        ok: s.ok,
-        crlf: s.crlf,
-        counted: s.counted,
-    }
-}
-
 // The last task: all is done, or something has failed.
 fn stopped(s: State, task: Task, ok: bool) -> State
     ensures { result ≡ stopped_of s task ok }
 {
-    let stream = s.stream;
     State {
         task,
-        stream,
-        next: s.next,
-        got: s.got,
         left: 0,
         ok,
-        crlf: s.crlf,
-        counted: s.counted,
+        ..s
     }
 }
 
@@ -262,10 +194,7 @@ fn stopped(s: State, task: Task, ok: bool) -> State
 pub fn kept(s: State, ok: bool) -> State
     ensures { Keeps s result }
 {
-    if ok {
-        return s;
-    }
-    stopped(s, Task::More, false)
+    if ok { s } else { stopped(s, Task::More, false) }
 }
 
 // With another task. Some end the program.
@@ -273,9 +202,10 @@ fn done(s: State, task: Task) -> State
     ensures { result ≡ done_of s task }
 {
     if goes_on(task) {
-        return with_task(s, task);
+        State { task, ..s }
+    } else {
+        stopped(s, task, false)
     }
-    stopped(s, task, false)
 }
 
 // The bytes of the chunk up to the end of a frame or to a refusal.
@@ -287,26 +217,15 @@ fn take(line: &mut [u8], chunk: &[u8], s: State) -> State
     ensures got_value { result.got ≡ s.got }
     ensures left_le_left { result.left ≤ s.left }
 {
-    let next = s.next;
-    let got = s.got;
-    let old = s.stream;
-    let t = turn(s.crlf, s.counted, old, &chunk[next..got], line);
-    let stream = t.stream;
-    let taken = t.taken;
-    let after = next + taken;
-    let task = t.task;
+    let t = turn(s, &chunk[s.next..s.got], line);
     done(
         State {
             task: Task::More,
-            stream,
-            next: after,
-            got,
-            left: s.left,
-            ok: s.ok,
-            crlf: s.crlf,
-            counted: s.counted,
+            stream: t.stream,
+            next: s.next + t.taken,
+            ..s
         },
-        task,
+        t.task,
     )
 }
 
@@ -318,22 +237,15 @@ fn refill(process: &mut Process, room: usize, chunk: &mut [u8], s: State) -> Sta
     ensures got_in_bounds { result.got ≤ length chunk.old }
     ensures left_le_left { result.left ≤ s.left }
 {
-    let stream = s.stream;
-    let Some(got) = program::read(process, chunk) else {
-        return done(s, Task::Failed);
-    };
-    if got == 0 {
-        return done(stopped(s, Task::More, s.ok), last_task(stream, room));
-    }
-    State {
-        task: Task::More,
-        stream,
-        next: 0,
-        got,
-        left: s.left,
-        ok: s.ok,
-        crlf: s.crlf,
-        counted: s.counted,
+    match program::read(process, chunk) {
+        None => done(s, Task::Failed),
+        Some(0) => done(stopped(s, Task::More, s.ok), last_task(s.stream, room)),
+        Some(got) => State {
+            task: Task::More,
+            next: 0,
+            got,
+            ..s
+        },
     }
 }
 
@@ -346,23 +258,16 @@ pub fn advance(process: &mut Process, line: &mut [u8], chunk: &mut [u8], s: Stat
     ensures got_in_bounds_2 { result.got ≤ length chunk.old }
     ensures left_lt_left { result.left < s.left }
 {
-    let next = s.next;
-    let got = s.got;
-    let stream = s.stream;
     let t = State {
         task: Task::More,
-        stream,
-        next,
-        got,
         left: s.left - 1,
-        ok: s.ok,
-        crlf: s.crlf,
-        counted: s.counted,
+        ..s
     };
-    if next < got {
-        return take(line, chunk, t);
+    if s.next < s.got {
+        take(line, chunk, t)
+    } else {
+        refill(process, line.len(), chunk, t)
     }
-    refill(process, line.len(), chunk, t)
 }
 
 // ---- what is said
@@ -371,7 +276,7 @@ pub fn advance(process: &mut Process, line: &mut [u8], chunk: &mut [u8], s: Stat
 pub fn complain(process: &Process, name: &[u8], before: &[u8], n: u32, after: &[u8]) {
     program::tell(process, name);
     program::tell(process, before);
-    program::tell_decimal(process, n as u64);
+    program::tell_decimal(process, u64::from(n));
     program::tell(process, after);
 }
 
@@ -423,9 +328,7 @@ pub fn starts(
     if let Some(status) = program::starts(process, a, name, usage, help) {
         return Some(status);
     }
-    let crlf = a.crlf;
-    let counted = a.counted;
-    if crlf & counted {
+    if a.crlf && a.counted {
         return Some(program::misused(
             process,
             name,

@@ -1,4 +1,5 @@
 -- Worked examples: RFC 5424's sections 6.2.3.1, 6.3.5 and 6.5, the strict lines of RULES Cases, and what the reader answers to some of them.
+use Rattle.std.specs.Prelude.{Some, Ok, Err}
 use Prim.Native.Nat.{ℕ, ◌-◌}
 use Prim.Native.String.{String}
 use mathlib.Core.Path.{◌≡◌, refl}
@@ -18,9 +19,6 @@ use Rattle.calendar.specs.Instant.{local_seconds, seconds_of}
 use Rattle.record.specs.Places.{absent, place}
 use Rattle.record.specs.declared.Record.{Record}
 use Rattle.record.specs.declared.Protocol.TheVariants.{Rfc5424}
-use Rattle.record.specs.declared.Level.TheVariants.{Set}
-use Rattle.record.specs.declared.Stamp.TheVariants.{Stamped}
-use Rattle.record.specs.declared.StrictReading.TheVariants.{Read, Refused}
 use Rattle.record.specs.declared.Refusal.TheVariants.{LineTooLong}
 use Rattle.grammar.specs.Line.{Param, Element, Offset, Timestamp, Division, Each, Derives}
 use Rattle.grammar.specs.Parse.{Parsed, choose, closed, only, many_from, ◌next◌, into, repeat, fixed, stop, until_quote, all_left, at_end, pri, version, pri_version, date, clock, secfrac, zone, offset, full, timestamp, names, value, param, element, listed, structured, message, header, parse}
@@ -344,9 +342,9 @@ refused_edges = told (map (λ l. (l, none)) refused) refused_read
 first_record : record_of first ≡ record {
   common = record {
     protocol = Rfc5424 1;
-    facility = Set 4;
-    severity = Set 2;
-    timestamp = Stamped (record { seconds = pos 1065910455; nanos = 3000000; digits = 3; offset = pos 0 });
+    facility = Some 4;
+    severity = Some 2;
+    timestamp = Some (record { seconds = pos 1065910455; nanos = 3000000; digits = 3; offset = pos 0 });
     host = place 31 21;
     app = place 53 2;
     procid = absent;
@@ -359,7 +357,7 @@ first_record : record_of first ≡ record {
 unfolding record_of decimal_from seconds_of local_seconds day_number days_before_year days_of_months year_days month_days leap first october mark
 first_record = refl
 
-second_stamp : (record_of second).common.timestamp ≡ Stamped (record { seconds = pos 1061727255; nanos = 3000; digits = 6; offset = neg_ℤ (pos 420) })
+second_stamp : (record_of second).common.timestamp ≡ Some (record { seconds = pos 1061727255; nanos = 3000; digits = 6; offset = neg_ℤ (pos 420) })
 unfolding record_of decimal_from seconds_of local_seconds day_number days_before_year days_of_months year_days month_days leap second august
 second_stamp = refl
 
@@ -387,8 +385,8 @@ fourth_params = refl
 abbrev record_with : String → Option Timestamp → Record
 record_with p t = (record_of (division p t "-" "-" "-" "-" [] none)).common
 
-levels : (map (λ p. (record_with p none).facility) ("0" ∷ "7" ∷ "8" ∷ "191" ∷ []) ≡ Set 0 ∷ Set 0 ∷ Set 1 ∷ Set 23 ∷ [])
-    × (map (λ p. (record_with p none).severity) ("0" ∷ "7" ∷ "8" ∷ "191" ∷ []) ≡ Set 0 ∷ Set 7 ∷ Set 0 ∷ Set 7 ∷ [])
+levels : (map (λ p. (record_with p none).facility) ("0" ∷ "7" ∷ "8" ∷ "191" ∷ []) ≡ Some 0 ∷ Some 0 ∷ Some 1 ∷ Some 23 ∷ [])
+    × (map (λ p. (record_with p none).severity) ("0" ∷ "7" ∷ "8" ∷ "191" ∷ []) ≡ Some 0 ∷ Some 7 ∷ Some 0 ∷ Some 7 ∷ [])
 unfolding record_of decimal_from
 levels = (refl, refl)
 
@@ -410,7 +408,7 @@ fractions = (refl, refl)
 -- RFC 5424 section 6.2.3.1: Examples 1 and 2 are one instant
 instants : map (λ t. (record_with "1" t).timestamp)
     (clock_at "1985" "04" "12" "23" "20" "50" (some (bytes "52")) Offset.utc ∷ clock_at "1985" "04" "12" "19" "20" "50" (some (bytes "52")) (Offset.west (bytes "04") (bytes "00")) ∷ [])
-    ≡ Stamped (record { seconds = pos 482196050; nanos = 520000000; digits = 2; offset = pos 0 }) ∷ Stamped (record { seconds = pos 482196050; nanos = 520000000; digits = 2; offset = neg_ℤ (pos 240) }) ∷ []
+    ≡ Some (record { seconds = pos 482196050; nanos = 520000000; digits = 2; offset = pos 0 }) ∷ Some (record { seconds = pos 482196050; nanos = 520000000; digits = 2; offset = neg_ℤ (pos 240) }) ∷ []
 unfolding record_of decimal_from seconds_of local_seconds day_number days_before_year days_of_months year_days month_days leap
 instants = refl
 
@@ -422,11 +420,11 @@ abbrev long_division : Division
 long_division = division "1" none "-" "-" "-" "-" [] (some (letters 8175))
 
 -- 8,192 bytes are read, 8,193 are not
-longest : StrictReads (long 8192) [] [] (Read (record_of long_division) 0 0) [] []
+longest : StrictReads (long 8192) [] [] (Ok (record { reading = record_of long_division; elements = 0; params = 0 })) [] []
 unfolding verdict
 longest =
     accepted long_division (leb-true (length (long 8192)) 8192 refl) (derived (long 8192) (parse (long 8192)) (some long_division) refl refl)
     (leb-true 0 0 refl) (leb-true 0 0 refl) refl refl refl
 
-too_long_line : StrictReads (long 8193) [] [] (Refused LineTooLong) [] []
+too_long_line : StrictReads (long 8193) [] [] (Err LineTooLong) [] []
 too_long_line = too_long (leb-true 8193 (length (long 8193)) refl) refl refl refl

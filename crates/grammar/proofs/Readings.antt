@@ -1,5 +1,5 @@
 -- The strict reader's contract leaves nothing open: any two results that it allows are equal.
-use Rattle.std.specs.Prelude.{if◌then◌else◌}
+use Rattle.std.specs.Prelude.{if◌then◌else◌, Result, Ok, Err}
 use Prim.Native.Nat.{ℕ}
 use mathlib.Core.Path.{◌≡◌, refl, sym, ap, ◌∙◌}
 use mathlib.Core.List.{List}
@@ -9,7 +9,6 @@ use borrow.Author.Tests.{le-leb, lt-leb}
 use Rattle.base.specs.Fills.{filled}
 use Rattle.record.specs.Limits.{line_limit}
 use Rattle.record.specs.declared.StrictReading.{StrictReading}
-use Rattle.record.specs.declared.StrictReading.TheVariants.{Read, Refused}
 use Rattle.record.specs.declared.Refusal.{Refusal}
 use Rattle.record.specs.declared.Refusal.TheVariants.{LineTooLong, NoReading, TooManyElements, TooManyParams}
 use Rattle.grammar.specs.Line.{Division, Derives}
@@ -21,18 +20,18 @@ use Rattle.grammar.proofs.Lines.{parse_sound, parse_found}
 
 -- an answer, and what the tables hold then
 pub record Outcome : Type 0 where
-  pub reading : StrictReading
+  pub reading : Result StrictReading Refusal
   pub elements : List (List ℕ)
   pub params : List (List ℕ)
 
 module _ (e₀ p₀ : List (List ℕ)) where
   abbrev refused : Refusal → Outcome
-  refused f = record { reading = Refused f; elements = e₀; params = p₀ }
+  refused f = record { reading = Err f; elements = e₀; params = p₀ }
 
   abbrev read : Division → Outcome
   read d =
       record {
-        reading = Read (record_of d) (length d.elements) (param_count d.elements);
+        reading = Ok (record { reading = record_of d; elements = length d.elements; params = param_count d.elements });
         elements = filled (element_rows (data_at d) d.elements) e₀;
         params = filled (param_rows 0 (data_at d) d.elements) p₀;
       }
@@ -51,7 +50,7 @@ module _ (e₀ p₀ : List (List ℕ)) where
   fails line h failed e = e
   fails line h (found d n) e = absurd (h d (parse_sound line d n e))
 
-  pub strict_outcome : {line : List ℕ} {r : StrictReading} {e₁ p₁ : List (List ℕ)} → StrictReads line e₀ p₀ r e₁ p₁
+  pub strict_outcome : {line : List ℕ} {r : Result StrictReading Refusal} {e₁ p₁ : List (List ℕ)} → StrictReads line e₀ p₀ r e₁ p₁
       → ◌≡◌ {A = Outcome} (record { reading = r; elements = e₁; params = p₁ }) (outcome line)
   unfolding outcome
   strict_outcome {line} (too_long l a b c) = rw (a, b, c, lt-leb (length line) line_limit l)
@@ -80,7 +79,7 @@ module _ (e₀ p₀ : List (List ℕ)) where
       )
 
 -- one line and one state of the tables have one result
-pub strict_determined : {line : List ℕ} {e₀ p₀ : List (List ℕ)} {r r' : StrictReading} {e₁ e₁' p₁ p₁' : List (List ℕ)}
+pub strict_determined : {line : List ℕ} {e₀ p₀ : List (List ℕ)} {r r' : Result StrictReading Refusal} {e₁ e₁' p₁ p₁' : List (List ℕ)}
     → StrictReads line e₀ p₀ r e₁ p₁ → StrictReads line e₀ p₀ r' e₁' p₁'
     → (r ≡ r') × (e₁ ≡ e₁') × (p₁ ≡ p₁')
 strict_determined {line} {e₀} {p₀} h k =

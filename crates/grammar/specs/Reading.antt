@@ -1,5 +1,6 @@
 -- What the strict reader answers to a division: the record, the counts and the rows of both tables; and the contract of a reading.
-use Rattle.std.specs.Prelude.{ℕ, ◌+◌, ◌-◌, ◌*◌, ◌/◌, ◌%◌, ◌^◌, ◌<◌, ◌≤◌, ◌≡◌, Bool, true, false, ◌&&◌, List, [], ◌∷◌, ◌++◌, length, eqb, ℤ, pos, neg_ℤ, if◌then◌else◌}
+use Rattle.std.specs.Prelude.{ℕ, ◌+◌, ◌-◌, ◌*◌, ◌/◌, ◌%◌, ◌^◌, ◌<◌, ◌≤◌, ◌≡◌, Bool, true, false, ◌&&◌, List, [], ◌∷◌, ◌++◌, length, eqb, ℤ, pos, neg_ℤ, if◌then◌else◌, Some, None, Result, Ok, Err}
+use Rattle.std.specs.Prelude as std
 use Rattle.std.proofs.Math.Option.{Option, none, some}
 use Rattle.base.specs.Choose.{is_at}
 use Rattle.base.specs.Fills.{filled}
@@ -10,12 +11,10 @@ use Rattle.record.specs.Places.{absent, place}
 use Rattle.record.specs.declared.Place.{Place}
 use Rattle.record.specs.declared.Span.{Span}
 use Rattle.record.specs.declared.Protocol.TheVariants.{Rfc5424}
-use Rattle.record.specs.declared.Level.TheVariants.{Set}
-use Rattle.record.specs.declared.Stamp.{Stamp}
-use Rattle.record.specs.declared.Stamp.TheVariants.{Unstamped, Stamped}
 use Rattle.record.specs.declared.StrictRecord.{StrictRecord}
 use Rattle.record.specs.declared.StrictReading.{StrictReading}
-use Rattle.record.specs.declared.StrictReading.TheVariants.{Read, Refused}
+use Rattle.record.specs.declared.Timestamp as stamped
+use Rattle.record.specs.declared.Refusal.{Refusal}
 use Rattle.record.specs.declared.Refusal.TheVariants.{LineTooLong, NoReading, TooManyElements, TooManyParams}
 use Rattle.grammar.specs.Line.{Param, Element, Offset, Timestamp, Division, timestamp_then, param_then, element_then, data_then, Derives}
 
@@ -67,10 +66,10 @@ abbrev pub digits_of : Option (List ℕ) → ℕ
 digits_of none = 0
 digits_of (some f) = length f
 
-abbrev pub stamp_of : Option Timestamp → Stamp
-stamp_of none = Unstamped
+abbrev pub stamp_of : Option Timestamp → std.Option stamped.Timestamp
+stamp_of none = None
 stamp_of (some t) =
-    Stamped (record {
+    Some (record {
       seconds = seconds_of (record {
         year = decimal t.year;
         month = decimal t.month;
@@ -102,8 +101,8 @@ record_of d =
     record {
       common = record {
         protocol = Rfc5424 (decimal d.version);
-        facility = Set (decimal d.prival / 8);
-        severity = Set (decimal d.prival % 8);
+        facility = Some (decimal d.prival / 8);
+        severity = Some (decimal d.prival % 8);
         timestamp = stamp_of d.timestamp;
         host = place_of (hostname_at d) d.hostname;
         app = place_of (app_name_at d) d.app_name;
@@ -140,16 +139,16 @@ param_rows k at (e ∷ es) = rows_of_params k (at + length e.id + 1) e.params ++
 
 -- ---- the contract: a reading of a line into tables that held e₀ and p₀ and hold e₁ and p₁
 
-pub data StrictReads (line : List ℕ) (e₀ p₀ : List (List ℕ)) (r : StrictReading) (e₁ p₁ : List (List ℕ)) : Type 0 where
-  too_long : line_limit < length line → r ≡ Refused LineTooLong → e₁ ≡ e₀ → p₁ ≡ p₀ → StrictReads line e₀ p₀ r e₁ p₁
+pub data StrictReads (line : List ℕ) (e₀ p₀ : List (List ℕ)) (r : Result StrictReading Refusal) (e₁ p₁ : List (List ℕ)) : Type 0 where
+  too_long : line_limit < length line → r ≡ Err LineTooLong → e₁ ≡ e₀ → p₁ ≡ p₀ → StrictReads line e₀ p₀ r e₁ p₁
   underivable : length line ≤ line_limit → ((d : Division) → Derives line d → ⊥)
-      → r ≡ Refused NoReading → e₁ ≡ e₀ → p₁ ≡ p₀ → StrictReads line e₀ p₀ r e₁ p₁
+      → r ≡ Err NoReading → e₁ ≡ e₀ → p₁ ≡ p₀ → StrictReads line e₀ p₀ r e₁ p₁
   elements_over : (d : Division) → length line ≤ line_limit → Derives line d → length e₀ < length d.elements
-      → r ≡ Refused TooManyElements → e₁ ≡ e₀ → p₁ ≡ p₀ → StrictReads line e₀ p₀ r e₁ p₁
+      → r ≡ Err TooManyElements → e₁ ≡ e₀ → p₁ ≡ p₀ → StrictReads line e₀ p₀ r e₁ p₁
   params_over : (d : Division) → length line ≤ line_limit → Derives line d → length d.elements ≤ length e₀ → length p₀ < param_count d.elements
-      → r ≡ Refused TooManyParams → e₁ ≡ e₀ → p₁ ≡ p₀ → StrictReads line e₀ p₀ r e₁ p₁
+      → r ≡ Err TooManyParams → e₁ ≡ e₀ → p₁ ≡ p₀ → StrictReads line e₀ p₀ r e₁ p₁
   accepted : (d : Division) → length line ≤ line_limit → Derives line d → length d.elements ≤ length e₀ → param_count d.elements ≤ length p₀
-      → r ≡ Read (record_of d) (length d.elements) (param_count d.elements)
+      → r ≡ Ok (record { reading = record_of d; elements = length d.elements; params = param_count d.elements })
       → e₁ ≡ filled (element_rows (data_at d) d.elements) e₀
       → p₁ ≡ filled (param_rows 0 (data_at d) d.elements) p₀
       → StrictReads line e₀ p₀ r e₁ p₁

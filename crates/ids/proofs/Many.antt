@@ -1,5 +1,5 @@
 -- Ids by blocks: elements with their ids alone, which the strict reader reads where the ids differ.
-use Rattle.std.specs.Prelude.{if◌then◌else◌}
+use Rattle.std.specs.Prelude.{if◌then◌else◌, Option, is_some}
 use Prim.Native.Nat.{ℕ, zero, suc, ◌+◌, ◌-◌, ◌≤◌, ◌<◌}
 use mathlib.Core.Path.{◌≡◌, refl, sym, ap, ◌∙◌, subst}
 use mathlib.Core.Bool.{Bool, true, false, not, ◌&&◌, ◌||◌}
@@ -11,7 +11,6 @@ use lib.Seq.{take-suc, take_at, drop-drop, get_or-drop, length-take-le}
 use borrow.Author.Tests.{not-true, not-false}
 use mir.Syntax.{w64}
 use mir.Val as val
-use Rattle.base.specs.Choose.{within}
 use Rattle.base.specs.Texts.{same_text, is_in, all_different}
 use Rattle.base.proofs.Tests.{clash, both, by_test}
 use Rattle.record.specs.Limits.{line_limit}
@@ -24,12 +23,10 @@ use Rattle.grammar.specs.Parse.{Parsed, failed, found, only, structured}
 use Rattle.grammar.proofs.Data.{listed_reads}
 use Rattle.strict_data.specs.Counts.{counts_of}
 use Rattle.strict_data.specs.declared.Counts.{Counts}
-use Rattle.strict_data.specs.declared.Counts.TheVariants.{NoData, IsData}
 use Rattle.writes.proofs.Fits.{class_sound}
 use Rattle.writes.specs.Fits.{class_fits}
 use Rattle.ids.specs.declared.Block.{Block}
-use Rattle.ids.specs.declared.Met.{Met}
-use Rattle.ids.specs.Ids.{id_in, ids_in, ids_fit, bare_text, Gathers, Tells, Meets}
+use Rattle.ids.specs.Ids.{id_in, ids_in, ids_fit, bare_text, Gathers, Tells, Joins}
 
 -- ---- lists of ids
 
@@ -94,31 +91,19 @@ structured_is : (es : List Element) → Each ElementOk es → structured (data_t
 unfolding structured only
 structured_is es h = rw (listed_reads.complete es [] h refl)
 
-abbrev is_data : Counts → Bool
-is_data NoData = false
-is_data (IsData n e p) = true
-
-counted_is : (s : List ℕ) (ids : List (List ℕ)) → s ≡ bare_text ids → 1 ≤ length ids → Each (Repeat 1 32 sd_name_byte) ids → is_data (counts_of (structured s)) ≡ all_different ids
+counted_is : (s : List ℕ) (ids : List (List ℕ)) → s ≡ bare_text ids → 1 ≤ length ids → Each (Repeat 1 32 sd_name_byte) ids → is_some (counts_of (structured s)) ≡ all_different ids
 counted_is s ids e l h =
     let es = map bare ids in
-    ap (λ (t : List ℕ). is_data (counts_of (structured t))) (e ∙ bare_text_lem ids l)
-    ∙ ap (λ (x : Parsed (List Element)). is_data (counts_of x)) (structured_is es (bare_ok ids h))
-    ∙ by_test (λ b. is_data (counts_of (if b then found es (length (data_then es [])) else failed)) ≡ b) (all_different (ids_of es)) (λ _. refl) (λ _. refl)
+    ap (λ (t : List ℕ). is_some (counts_of (structured t))) (e ∙ bare_text_lem ids l)
+    ∙ ap (λ (x : Parsed (List Element)). is_some (counts_of x)) (structured_is es (bare_ok ids h))
+    ∙ by_test (λ b. is_some (counts_of (if b then found es (length (data_then es [])) else failed)) ≡ b) (all_different (ids_of es)) (λ _. refl) (λ _. refl)
     ∙ ap all_different (bare_ids ids)
 
-module _ (line : List ℕ) (end : ℕ) (c : Counts) (e : c ≡ counts_of (structured (take (end - 0) (drop 0 line)))) where
-  told : (r : Bool) → is_data c ≡ r → Tells (take end line) r
-  told r q =
+module _ (line : List ℕ) (end : ℕ) (c : Option Counts) (e : c ≡ counts_of (structured (take (end - 0) (drop 0 line)))) where
+  pub bare_tells : (r : Bool) → r ≡ is_some c → Tells (take end line) r
+  bare_tells r q =
       let z : end - 0 ≡ end = omega arith in
-      record { tells = λ ids s l h. sym q ∙ ap is_data e ∙ rw z (counted_is (take end line) ids s l h) }
-
-  pub bare_no : c ≡ NoData → Tells (take end line) false
-  bare_no q = told false (ap is_data q)
-
-  pub bare_yes : (n m p : ℕ) → c ≡ IsData n m p → Tells (take end line) true
-  bare_yes n m p q = told true (ap is_data q)
-
-pub ruleset bare_laws = (bare_no, bare_yes)
+      record { tells = λ ids s l h. q ∙ ap is_some e ∙ rw z (counted_is (take end line) ids s l h) }
 
 -- ---- a block
 
@@ -388,7 +373,7 @@ module _ (text : List ℕ) (rows : List (List ℕ)) (a : ℕ) (line : List ℕ) 
           pub meet_less : s.next < length rows → length rows - s.next < length rows - b
           meet_less l = let m : b < length rows = omega (arith, g.forward) in omega (arith, g.some m (omega (arith, w.half)))
 
-          pub meet_all : length rows ≤ s.next → Meets text rows a (record { next = c; differ = true })
+          pub meet_all : length rows ≤ s.next → Joins text rows a c
           unfolding ids_in
           meet_all l =
               let v = both (all_different first) (apart first other) yes_both.0 in
@@ -399,8 +384,8 @@ module _ (text : List ℕ) (rows : List (List ℕ)) (a : ℕ) (line : List ℕ) 
                 differ = left_on ∙ rw (z, apart_none first, v.0);
               }
 
-        pub meet_not : not r ≡ true → Meets text rows a (record { next = c; differ = false })
-        meet_not q = record { forward = w.forward; inside = omega (arith, w.onward, w.inside); differ = none }
+        pub meet_not : not r ≡ true → all_different (from text rows a) ≡ false
+        meet_not q = none
           where
             later : all_different (from text rows c) ≡ true → all_different other ≡ true
             later h =
@@ -429,14 +414,10 @@ module _ (text : List ℕ) (rows : List (List ℕ)) (a : ℕ) (w : all_different
   unfolding ids_in
   many_end h = sym (w ∙ ap (λ (r : List (List ℕ)). all_different (ids_in text r)) (drop_of_length-le rows {i = a} h))
 
-  module _ (m : Met) (g : Meets text rows a m) where
-    pub many_not : not m.differ ≡ true → false ≡ all_different (ids_in text rows)
-    many_not q = sym (w ∙ g.differ ∙ rw (not-true m.differ q))
+  pub many_not : all_different (ids_in text (drop a rows)) ≡ false → false ≡ all_different (ids_in text rows)
+  many_not q = sym (w ∙ q)
 
-    pub many_on : not m.differ ≡ false → all_different (ids_in text rows) ≡ all_different (ids_in text (drop m.next rows))
-    many_on q = w ∙ g.differ ∙ rw (not-false m.differ q)
+  pub many_on : (next : ℕ) → Joins text rows a next → all_different (ids_in text rows) ≡ all_different (ids_in text (drop next rows))
+  many_on next g = w ∙ g.differ
 
-    pub many_less : length rows - m.next < length rows - a
-    many_less = omega (arith, g.forward, g.inside)
-
-pub ruleset many_laws = (many_start, many_end, many_not, many_on, many_less)
+pub ruleset many_laws = (many_end, many_not, many_on)

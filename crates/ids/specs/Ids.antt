@@ -1,12 +1,11 @@
 -- For private contracts alone: the ids that rows name in a text, and how far they are compared.
-use Rattle.std.specs.Prelude.{ℕ, ◌+◌, ◌-◌, ◌≤◌, ◌<◌, ◌≡◌, Bool, true, ◌&&◌, List, [], ◌∷◌, ◌++◌, length, get_or, take, drop}
+use Rattle.std.specs.Prelude.{ℕ, ◌+◌, ◌-◌, ◌≤◌, ◌<◌, ◌≡◌, Bool, true, false, ◌&&◌, Option, Some, None, List, [], ◌∷◌, ◌++◌, length, get_or, take, drop}
 use Rattle.base.specs.Texts.{text_at, all_different}
 use Rattle.output.specs.Output.{Wrote}
 use Rattle.grammar.specs.Abnf.{sd_name_byte, Repeat}
 use Rattle.grammar.specs.Line.{Each}
 use Rattle.writes.specs.Fits.{class_fits}
 use Rattle.ids.specs.declared.Block.{Block}
-use Rattle.ids.specs.declared.Met.{Met}
 
 abbrev pub id_in : List ℕ → List ℕ → List ℕ
 id_in text row = text_at text (get_or row 0 0) (get_or row 1 0)
@@ -38,8 +37,13 @@ pub record Gathers (text : List ℕ) (rows : List (List ℕ)) (from at most : �
 pub record Tells (line : List ℕ) (r : Bool) : Type 0 where
   pub tells : (ids : List (List ℕ)) → line ≡ bare_text ids → 1 ≤ length ids → Each (Repeat 1 32 sd_name_byte) ids → r ≡ all_different ids
 
--- all ids from a on differ exactly where the block's do, from each other and from all behind, and those behind
-pub record Meets (text : List ℕ) (rows : List (List ℕ)) (a : ℕ) (m : Met) : Type 0 where
-  pub forward : a < m.next
-  pub inside : m.next ≤ length rows
-  pub differ : all_different (ids_in text (drop a rows)) ≡ (m.differ && all_different (ids_in text (drop m.next rows)))
+-- all ids from a on differ exactly where those behind the block do
+pub record Joins (text : List ℕ) (rows : List (List ℕ)) (a next : ℕ) : Type 0 where
+  pub forward : a < next
+  pub inside : next ≤ length rows
+  pub differ : all_different (ids_in text (drop a rows)) ≡ all_different (ids_in text (drop next rows))
+
+-- the ids of the block at a differ from each other and from all behind, and `next` is behind it; or they do not
+abbrev pub Meets : List ℕ → List (List ℕ) → ℕ → Option ℕ → Type 0
+Meets text rows a None = all_different (ids_in text (drop a rows)) ≡ false
+Meets text rows a (Some next) = Joins text rows a next

@@ -9,9 +9,8 @@ ghost use Rattle.output.specs.Fits.{Fits};
 ghost use Rattle.output.specs.Output.{Wrote};
 ghost use Rattle.ids.specs.Ids.{id_in, ids_in, ids_fit, Gathers, Tells, Meets};
 
-use strict_data::Counts;
-
 // The id of element `k`.
+#[tactic(auto, using(crate::proofs::Few::id_laws))]
 pub fn id_at<'a>(text: &'a [u8], rows: &'a [[usize; 2]], k: usize) -> &'a [u8]
     requires rows_value { elements_suit text.now rows.now ≡ true }
     requires k_in_bounds { k < length rows.now }
@@ -24,31 +23,29 @@ pub fn id_at<'a>(text: &'a [u8], rows: &'a [[usize; 2]], k: usize) -> &'a [u8]
 }
 
 // Whether an element behind `k` has its id.
+#[tactic(auto, using(crate::proofs::Few::behind_laws))]
 fn is_behind<'a>(text: &'a [u8], rows: &'a [[usize; 2]], k: usize) -> bool
     requires rows_value { elements_suit text.now rows.now ≡ true }
     requires k_in_bounds { k < length rows.now }
     ensures { result ≡ is_in (id_in text.now (get_or rows.now k [])) (ids_in text.now (drop (k + 1) rows.now)) }
 {
-    let mut j = k + 1;
-    while j < rows.len() {
+    for j in k + 1..rows.len() {
         if base::same_text(id_at(text, rows, k), id_at(text, rows, j)) {
             return true;
         }
-        j += 1;
     }
     false
 }
 
+#[tactic(auto, using(crate::proofs::Few::few_laws))]
 fn few_differ<'a>(text: &'a [u8], rows: &'a [[usize; 2]]) -> bool
     requires { elements_suit text.now rows.now ≡ true }
     ensures { result ≡ all_different (ids_in text.now rows.now) }
 {
-    let mut k = 0;
-    while k < rows.len() {
+    for k in 0..rows.len() {
         if is_behind(text, rows, k) {
             return false;
         }
-        k += 1;
     }
     true
 }
@@ -87,16 +84,17 @@ fn gather<'a>(
     ensures { Gathers text.now rows.now from at most out.old result out.new }
 {
     let mut end = at;
-    let mut i = from;
-    while i < rows.len() {
+    for i in from..rows.len() {
         let id = id_at(text, rows, i);
         if most - end < id.len() + 2 {
             return Block { next: i, end };
         }
         end = put_bare(out, end, id);
-        i += 1;
     }
-    Block { next: i, end }
+    Block {
+        next: rows.len(),
+        end,
+    }
 }
 
 // Whether the ids of the elements in the first `end` bytes differ.
@@ -105,22 +103,12 @@ fn bare_differ(line: &[u8], end: usize) -> bool
     requires end_le_line_limit { end ≤ line_limit }
     ensures { Tells (take end line.now) result }
 {
-    let counts = strict_data::count_data(&line[0..end]);
-    match counts {
-        Counts::NoData => false,
-        Counts::IsData { .. } => true,
-    }
+    strict_data::count_data(&line[..end]).is_some()
 }
 
-// The element behind a block, and whether the block's ids differ from each other and from all behind them.
-#[derive(Clone, Copy)]
-struct Met {
-    next: usize,
-    differ: bool,
-}
-
-// The block from `a` on is half of what a line holds, so that each other block joins it in one.
-fn meet<'a>(text: &'a [u8], rows: &'a [[usize; 2]], a: usize, line: &mut [u8]) -> Met
+// The element behind the block from `a` on, if the block's ids differ from each other and from all behind them. It is half of what a line holds, so that each other
+// block joins it in one.
+fn meet<'a>(text: &'a [u8], rows: &'a [[usize; 2]], a: usize, line: &mut [u8]) -> Option<usize>
     requires rows_value { elements_suit text.now rows.now ≡ true }
     requires rows_value_2 { ids_fit text.now rows.now ≡ true }
     requires a_in_bounds { a < length rows.now }
@@ -132,21 +120,16 @@ fn meet<'a>(text: &'a [u8], rows: &'a [[usize; 2]], a: usize, line: &mut [u8]) -
     loop {
         let both = gather(line, first.end, 8192, text, rows, b);
         if !bare_differ(line, both.end) {
-            return Met {
-                next: first.next,
-                differ: false,
-            };
+            return None;
         }
         b = both.next;
         if rows.len() <= b {
-            return Met {
-                next: first.next,
-                differ: true,
-            };
+            return Some(first.next);
         }
     }
 }
 
+#[tactic(auto, using(crate::proofs::Many::many_laws))]
 fn many_differ<'a>(text: &'a [u8], rows: &'a [[usize; 2]]) -> bool
     requires rows_value { elements_suit text.now rows.now ≡ true }
     requires rows_value_2 { ids_fit text.now rows.now ≡ true }
@@ -155,11 +138,10 @@ fn many_differ<'a>(text: &'a [u8], rows: &'a [[usize; 2]]) -> bool
     let mut line = [0u8; 8192];
     let mut a = 0;
     while a < rows.len() {
-        let m = meet(text, rows, a, &mut line);
-        if !m.differ {
+        let Some(next) = meet(text, rows, a, &mut line) else {
             return false;
-        }
-        a = m.next;
+        };
+        a = next;
     }
     true
 }
@@ -172,7 +154,8 @@ pub fn ids_differ<'a>(text: &'a [u8], rows: &'a [[usize; 2]]) -> bool
     ensures { result ≡ all_different (ids_in text.now rows.now) }
 {
     if rows.len() <= 8 {
-        return few_differ(text, rows);
+        few_differ(text, rows)
+    } else {
+        many_differ(text, rows)
     }
-    many_differ(text, rows)
 }

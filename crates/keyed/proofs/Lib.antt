@@ -1,4 +1,4 @@
-pub mod Texts
+pub mod Pieces
 pub mod Notes
 pub mod Elements
 pub mod Odd

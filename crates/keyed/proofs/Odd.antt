@@ -5,6 +5,7 @@ use mathlib.Core.Bool.{Bool, not}
 use mathlib.Core.List.{List, [], ◌∷◌, ◌++◌, map, append_assoc}
 use native.Mathlib.Omega.{arith}
 use native.Mathlib.Numerals.{add-one}
+use Rattle.std.proofs.Common.{get_or-take}
 use lib.Dec.{eqb}
 use lib.ListN.{length, get_or, take, drop, replicate, length-append, length-map, length-replicate, take-append-drop}
 use lib.Seq.{drop-cons, drop_at, take_at, length-take-le}
@@ -15,9 +16,9 @@ use Rattle.pairs.specs.Odd.Least.{none, some}
 use Rattle.pairs.specs.declared.Odd.{Odd}
 use Rattle.pairs.proofs.Counts.{tally_alike}
 use Rattle.keyed.specs.Keys.{key_text}
-use Rattle.keyed.specs.Notes.{joined, Keyed, Roomed, Reaches}
+use Rattle.keyed.specs.Notes.{joined, Keyed, Roomed, Notes, Listed}
 use Rattle.keyed.specs.Odd.{keys_of, FirstOdd, rows_of, Enough, Bounded}
-use Rattle.keyed.specs.declared.Cursor.{Cursor}
+use Rattle.keyed.specs.declared.Texts.{Texts}
 use Rattle.keyed.proofs.Notes.{joined_append, joined_one}
 
 -- ---- the text between two ends
@@ -98,70 +99,84 @@ keyed_none : (text ends : List ℕ) → get_or ends 0 0 ≡ 0 → Keyed [] text 
 unfolding joined
 keyed_none text ends e = record { front = refl; inside = omega arith; each = λ k l. let z : k ≡ 0 = omega arith in rw z e }
 
-module _ (s₁ : List ℕ) (rows₁ : List (List ℕ)) (s₂ : List ℕ) (rows₂ : List (List ℕ)) (text ends : List ℕ) (a : Enough rows₁ rows₂ text ends) where
-  pub room₁ : Roomed rows₁ text ends 0 0
-  room₁ = record { fits = omega (arith, a.fits); small = a.small; many = omega (arith, a.many) }
-
-  module _ (c : Cursor) (text' ends' : List ℕ) (u : Reaches s₁ rows₁ text ends 0 0 c text' ends') where
-    pub room₂ : Roomed rows₂ text' ends' c.count c.at
-    room₂ = record {
-      fits = omega (arith, a.fits, u.notes.grown, u.notes.text_kept);
-      small = omega (arith, a.small, u.notes.text_kept);
-      many = omega (arith, a.many, u.count, u.notes.ends_kept);
-    }
-
-    module _ (d : Cursor) (text'' ends'' : List ℕ) (v : Reaches s₂ rows₂ text' ends' c.count c.at d text'' ends'') where
-      abbrev ts : List (List ℕ)
-      ts = keys_of s₁ rows₁ s₂ rows₂
-
-      m_is : c.count ≡ length rows₁
-      m_is = u.count ∙ omega arith
-
-      n_is : d.count ≡ length rows₁ + length rows₂
-      n_is = omega (arith, v.count, m_is)
-
-      len : length ts ≡ length rows₁ + length rows₂
-      len = length-append (map (key_text s₁) rows₁) (map (key_text s₂) rows₂) ∙ ap₂ ◌+◌ (length-map rows₁ (key_text s₁)) (length-map rows₂ (key_text s₂))
-
-      keyed : Keyed ts text'' ends'' d.at
-      keyed = v.notes.adds (map (key_text s₁) rows₁) (length-map rows₁ (key_text s₁) ∙ sym m_is) (u.notes.adds [] refl (keyed_none text ends a.clear))
-
-      pub both_halved : Halved text'' ends'' c.count d.count
-      both_halved = record {
-        keys = subst (Keys text'' ends'') (len ∙ sym n_is) (keys_are ts text'' ends'' d.at keyed (omega (arith, len, a.many, u.notes.ends_kept, v.notes.ends_kept)));
-        first = omega (arith, v.count);
-        few = omega (arith, n_is, a.few);
-      }
-
-      pub both_few : d.count ≤ 3276
-      both_few = omega (arith, n_is, a.few)
-
-      pub both_odd : (r : Odd) → Least (is_odd (key_of text'' ends'') c.count d.count) (element_at text'' ends'') d.count r → FirstOdd s₁ rows₁ s₂ rows₂ r
-      unfolding element_at
-      both_odd r w =
-          let same : (k : ℕ) → k < length rows₁ + length rows₂ → key_of text'' ends'' k ≡ get_or ts k [] = λ k l. key_is ts text'' ends'' d.at keyed k (omega (arith, len)) in
-          let w' : Least (is_odd (key_of text'' ends'') (length rows₁) (length rows₁ + length rows₂)) (element_at text'' ends'') (length rows₁ + length rows₂) r =
-          subst (λ (n : ℕ). Least (is_odd (key_of text'' ends'') (length rows₁) n) (element_at text'' ends'') n r) n_is
-          (subst (λ (m : ℕ). Least (is_odd (key_of text'' ends'') m d.count) (element_at text'' ends'') d.count r) m_is w) in
-          record {
-            is = least_change (is_odd (key_of text'' ends'') (length rows₁) (length rows₁ + length rows₂)) (is_odd (λ k. get_or ts k []) (length rows₁) (length rows₁ + length rows₂))
-                (element_at text'' ends'') (λ k. element_of (get_or ts k [])) (length rows₁ + length rows₂) r
-                (odd_alike (key_of text'' ends'') (λ k. get_or ts k []) (length rows₁) (length rows₁ + length rows₂) (omega arith) same)
-                (λ k l. ap element_of (same k l)) w';
-          }
-
 -- tables of zeros
 zeros : (k q : ℕ) → ◌≡◌ {A = ℕ} (get_or (replicate k 0) q 0) 0
 zeros zero q = refl
 zeros (suc k) zero = refl
 zeros (suc k) (suc q) = zeros k q
 
+module _ (s₁ : List ℕ) (rows₁ : List (List ℕ)) (s₂ : List ℕ) (rows₂ : List (List ℕ)) (size most : ℕ) (a : Enough rows₁ rows₂ size most) (small : size < 65536) (few : most ≤ 3277)
+    (t : Texts) (et : t.text.now ≡ replicate size 0) (ee : t.ends.now ≡ replicate most 0) (ec : t.count ≡ 0) (ea : t.at ≡ 0) where
+  lt : length t.text.now ≡ size
+  lt = ap length et ∙ length-replicate size 0
+
+  le : length t.ends.now ≡ most
+  le = ap length ee ∙ length-replicate most 0
+
+  pub room₁ : Roomed rows₁ t
+  room₁ = record { fits = omega (arith, lt, a.fits); small = omega (arith, lt); many = omega (arith, le, a.many) }
+
+  module _ (t' : Texts) (u : Notes s₁ rows₁ t t') where
+    pub room₂ : Roomed rows₂ t'
+    room₂ = record {
+      fits = omega (arith, lt, a.fits, u.grown, u.text_kept);
+      small = omega (arith, lt, u.text_kept);
+      many = omega (arith, le, a.many, u.counted, u.ends_kept);
+    }
+
+    module _ (t'' : Texts) (v : Notes s₂ rows₂ t' t'') where
+      abbrev ts : List (List ℕ)
+      ts = keys_of s₁ rows₁ s₂ rows₂
+
+      m_is : t'.count ≡ length rows₁
+      m_is = omega (arith, u.counted)
+
+      n_is : t''.count ≡ length rows₁ + length rows₂
+      n_is = omega (arith, v.counted, m_is)
+
+      len : length ts ≡ length rows₁ + length rows₂
+      len = length-append (map (key_text s₁) rows₁) (map (key_text s₂) rows₂) ∙ ap₂ ◌+◌ (length-map rows₁ (key_text s₁)) (length-map rows₂ (key_text s₂))
+
+      clear : Keyed [] t.text.now t.ends.now t.at
+      clear = rw (ea, ee) (keyed_none t.text.now (replicate most 0) (zeros most 0))
+
+      keyed : Keyed ts t''.text.now t''.ends.now t''.at
+      keyed = v.adds (map (key_text s₁) rows₁) (length-map rows₁ (key_text s₁) ∙ sym m_is) (u.adds [] (sym ec) clear)
+
+      pub both_halved : Halved t''.text.now t''.ends.now t'.count t''.count
+      both_halved = record {
+        keys = subst (Keys t''.text.now t''.ends.now) (len ∙ sym n_is) (keys_are ts t''.text.now t''.ends.now t''.at keyed (omega (arith, len, le, a.many, u.ends_kept, v.ends_kept)));
+        first = omega (arith, v.counted);
+        few = omega (arith, n_is, a.many);
+      }
+
+      pub both_few : t''.count ≤ 3276
+      both_few = omega (arith, n_is, a.many)
+
+      pub both_odd : (r : Odd) → Least (is_odd (key_of t''.text.now t''.ends.now) t'.count t''.count) (element_at t''.text.now t''.ends.now) t''.count r → FirstOdd s₁ rows₁ s₂ rows₂ r
+      unfolding element_at
+      both_odd r w =
+          let key = key_of t''.text.now t''.ends.now in
+          let element = element_at t''.text.now t''.ends.now in
+          let same : (k : ℕ) → k < length rows₁ + length rows₂ → key_of t''.text.now t''.ends.now k ≡ get_or ts k [] = λ k l. key_is ts t''.text.now t''.ends.now t''.at keyed k (omega (arith, len)) in
+          let w' : Least (is_odd (key_of t''.text.now t''.ends.now) (length rows₁) (length rows₁ + length rows₂)) (element_at t''.text.now t''.ends.now) (length rows₁ + length rows₂) r =
+          subst (λ (n : ℕ). Least (is_odd key (length rows₁) n) element n r) n_is
+          (subst (λ (m : ℕ). Least (is_odd key m t''.count) element t''.count r) m_is w) in
+          record {
+            is = least_change (is_odd key (length rows₁) (length rows₁ + length rows₂)) (is_odd (λ k. get_or ts k []) (length rows₁) (length rows₁ + length rows₂))
+                element (λ k. element_of (get_or ts k [])) (length rows₁ + length rows₂) r
+                (odd_alike key (λ k. get_or ts k []) (length rows₁) (length rows₁ + length rows₂) (omega arith) same)
+                (λ k l. ap element_of (same k l)) w';
+          }
+
+-- ---- the tables
+
+-- of the first n ids
+pub listed_front : (s : List ℕ) (elements : List (List ℕ)) (n : ℕ) → Listed s elements n → Listed s (take n elements) (length (take n elements))
+listed_front s elements n a =
+    let l : length (take n elements) ≡ n = length-take-le n elements a.given in
+    record { given = omega arith; inside = λ i h. rw (get_or-take n elements i [] (omega arith)) (a.inside i (omega arith)) }
+
 pub enough_made : (s₁ : List ℕ) (elements₁ : List (List ℕ)) (n₁ : ℕ) (s₂ : List ℕ) (elements₂ : List (List ℕ)) (n₂ bytes size most : ℕ) → Bounded s₁ elements₁ n₁ s₂ elements₂ n₂ bytes
-    → 8 * bytes < 7 * (size + 1) → size < 65536 → bytes < 5 * most → most ≤ 3277 → Enough (rows_of s₁ elements₁ n₁) (rows_of s₂ elements₂ n₂) (replicate size 0) (replicate most 0)
-enough_made s₁ elements₁ n₁ s₂ elements₂ n₂ bytes size most b f t m l = record {
-  fits = simp length-replicate (omega (arith, b.sizes));
-  small = simp length-replicate t;
-  many = simp length-replicate (omega (arith, b.counts));
-  few = omega (arith, b.counts);
-  clear = zeros most 0;
-}
+    → 8 * bytes < 7 * (size + 1) → bytes < 5 * most → Enough (rows_of s₁ elements₁ n₁) (rows_of s₂ elements₂ n₂) size most
+enough_made s₁ elements₁ n₁ s₂ elements₂ n₂ bytes size most b f m = record { fits = omega (arith, b.sizes); many = omega (arith, b.counts) }

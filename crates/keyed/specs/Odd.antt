@@ -1,5 +1,5 @@
 -- For private contracts alone: the pair of two lines that is odd, by the texts of their rows.
-use Rattle.std.specs.Prelude.{ℕ, ◌+◌, ◌*◌, ◌≤◌, ◌<◌, ◌≡◌, List, [], ◌++◌, map, length, get_or, take}
+use Rattle.std.specs.Prelude.{ℕ, ◌+◌, ◌*◌, ◌≤◌, ◌<◌, List, [], ◌++◌, map, length, get_or, take}
 use Rattle.message.specs.Rooms.{param_size, total}
 use Rattle.pairs.specs.Odd.{is_odd, element_of, Least}
 use Rattle.pairs.specs.declared.Odd.{Odd}
@@ -19,13 +19,10 @@ pub record FirstOdd (s₁ : List ℕ) (rows₁ : List (List ℕ)) (s₂ : List �
 abbrev pub rows_of : List ℕ → List (List ℕ) → ℕ → List (List ℕ)
 rows_of s elements n = rows_from s 0 (take n elements)
 
--- tables for the texts of both lines
-pub record Enough (rows₁ rows₂ : List (List ℕ)) (text ends : List ℕ) : Type 0 where
-  pub fits : total param_size rows₁ + total param_size rows₂ ≤ length text
-  pub small : length text < 65536
-  pub many : length rows₁ + length rows₂ < length ends
-  pub few : length rows₁ + length rows₂ ≤ 3276
-  pub clear : get_or ends 0 0 ≡ 0
+-- what the rows of both lines take fits tables for `size` bytes and for fewer texts than `most`
+pub record Enough (rows₁ rows₂ : List (List ℕ)) (size most : ℕ) : Type 0 where
+  pub fits : total param_size rows₁ + total param_size rows₂ ≤ size
+  pub many : length rows₁ + length rows₂ < most
 
 -- two lines: their ids are in them, and what their rows take is bounded by `bytes`, the bytes of both
 pub record Bounded (s₁ : List ℕ) (elements₁ : List (List ℕ)) (n₁ : ℕ) (s₂ : List ℕ) (elements₂ : List (List ℕ)) (n₂ bytes : ℕ) : Type 0 where

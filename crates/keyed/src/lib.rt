@@ -2,15 +2,14 @@
 // walked over in the lines, from the places of the elements' ids.
 #![tactic(auto)]
 
-ghost use Rattle.std.specs.Prelude.{◌≡◌, true, [], ◌∷◌, ◌+◌, ◌≤◌, ◌<◌, length, get_or, take};
-ghost use Rattle.parsers.specs.Steps.{blanks_from};
+ghost use Rattle.std.specs.Prelude.{◌≡◌, true, [], ◌∷◌, ◌+◌, ◌≤◌, ◌<◌, length};
 ghost use Rattle.record.specs.Params.{row_of};
 ghost use Rattle.output.specs.Fits.{Fits};
 ghost use Rattle.output.specs.Output.{Wrote};
 ghost use Rattle.lookup.specs.Unescape.{unescaped};
 ghost use Rattle.keyed.specs.Odd.{FirstOdd, rows_of, Enough, Bounded};
 ghost use Rattle.keyed.specs.Keys.{short, head_text, tail_text, key_text, Begun};
-ghost use Rattle.keyed.specs.Notes.{Inside, Roomed, Notes, Steps, rows_at, rows_from, Reaches, Listed};
+ghost use Rattle.keyed.specs.Notes.{Inside, Roomed, Notes, Steps, rows_at, rows_from, Listed};
 
 use pairs::Odd;
 use record::Param;
@@ -37,16 +36,13 @@ fn put_plain(out: &mut [u8], at: usize, v: &[u8]) -> usize
     requires { Fits out.old at (unescaped true v.now) }
     ensures { Begun v.now out.old at result out.new }
 {
-    let mut i = 0;
-    while i < v.len() {
-        let b = v[i];
-        if b == b'\\' {
+    for (i, b) in v.iter().enumerate() {
+        if *b == b'\\' {
             return i;
         }
-        out[at + i] = b;
-        i += 1;
+        out[at + i] = *b;
     }
-    i
+    v.len()
 }
 
 // A value unescaped. Most have no backslash.
@@ -72,205 +68,117 @@ fn put_key(out: &mut [u8], at: usize, s: &[u8], p: Param) -> usize
     requires fits { Fits out.old at (key_text s.now (row_of p)) }
     ensures { Wrote out.old at (key_text s.now (row_of p)) result out.new }
 {
-    let name = p.name_start;
-    let value = p.value_start;
-    let name_end = name + p.name_len;
-    let value_end = value + p.value_len;
+    let name = &s[p.name_start..p.name_start + p.name_len];
+    let value = &s[p.value_start..p.value_start + p.value_len];
     let next = put_head(out, at, p.element, p.name_len);
-    put_tail(out, next, &s[name..name_end], &s[value..value_end])
+    put_tail(out, next, name, value)
 }
 
-// Notes a pair's text as number `k`, from `at` on: where it ends.
-fn note(s: &[u8], p: Param, text: &mut [u8], ends: &mut [u16], k: usize, at: usize) -> usize
-    requires inside { Inside s.now p }
-    requires roomed { Roomed (row_of p ∷ []) text.old ends.old k at }
-    ensures { Notes s.now (row_of p ∷ []) text.old ends.old k at text.new ends.new result }
-{
-    let next = put_key(text, at, s, p);
-    ends[k + 1] = next as u16;
-    next
-}
-
-// What is found at a position: a parameter, where its text ends in the notes, and the position after it.
+// A line, and the places of its elements' ids in it.
 #[derive(Clone, Copy)]
-struct Step {
-    found: bool,
-    at: usize,
-    next: usize,
+struct Line<'a> {
+    text: &'a [u8],
+    ids: &'a [[usize; 2]],
+    ghost inside: { Listed text.now ids.now (length ids.now) },
 }
 
-// Notes the parameter of element `e` at `start`.
-fn note_one(
-    s: &[u8],
-    e: usize,
-    start: usize,
-    text: &mut [u8],
-    ends: &mut [u16],
-    k: usize,
+// Texts of pairs, one after the other: `count` of them, up to `at`, and where each ends.
+#[derive(Drop)]
+struct Texts<'t> {
+    text: &'t mut [u8],
+    ends: &'t mut [u16],
+    count: usize,
     at: usize,
-) -> Step
-    requires start_in_bounds { start ≤ length s.now }
-    requires roomed { Roomed (rows_at s.now e start) text.old ends.old k at }
-    ensures { Steps s.now e start text.old ends.old k at result text.new ends.new }
-{
-    let structured_data::Param::IsParam {
-        name,
-        value,
-        value_len,
-        len,
-    } = structured_data::param_at(base::past(s, start))
-    else {
-        return Step {
-            found: false,
-            at,
-            next: start,
+}
+
+impl<'t> Texts<'t> {
+    // Notes a pair's text.
+    fn note(&mut self, s: &[u8], p: Param)
+        requires inside { Inside s.now p }
+        requires roomed { Roomed (row_of p ∷ []) self.old }
+        ensures { Notes s.now (row_of p ∷ []) self.old self.new }
+    {
+        let next = put_key(self.text, self.at, s, p);
+        self.ends[self.count + 1] = next as u16;
+        self.count += 1;
+        self.at = next;
+    }
+
+    // Notes the parameter of element `e` at `start`, if there is one: the position after it.
+    fn note_one(&mut self, s: &[u8], e: usize, start: usize) -> Option<usize>
+        requires start_in_bounds { start ≤ length s.now }
+        requires roomed { Roomed (rows_at s.now e start) self.old }
+        ensures { Steps s.now e start self.old result self.new }
+    {
+        let p = structured_data::param_at(base::past(s, start))?;
+        let row = Param {
+            element: e,
+            name_start: start,
+            name_len: p.name,
+            value_start: start + p.value,
+            value_len: p.value_len,
         };
-    };
-    let row = Param {
-        element: e,
-        name_start: start,
-        name_len: name,
-        value_start: start + value,
-        value_len,
-    };
-    let end = note(s, row, text, ends, k, at);
-    Step {
-        found: true,
-        at: end,
-        next: start + len,
+        self.note(s, row);
+        Some(start + p.len)
     }
-}
 
-// How many texts are noted, and where the last one ends.
-#[derive(Clone, Copy)]
-pub struct Cursor {
-    pub count: usize,
-    pub at: usize,
-}
-
-// Notes the parameters of element `e`, which start at `from`.
-fn note_params(
-    s: &[u8],
-    e: usize,
-    from: usize,
-    text: &mut [u8],
-    ends: &mut [u16],
-    k: usize,
-    at: usize,
-) -> Cursor
-    requires from_in_bounds { from ≤ length s.now }
-    requires roomed { Roomed (rows_at s.now e from) text.old ends.old k at }
-    ensures { Reaches s.now (rows_at s.now e from) text.old ends.old k at result text.new ends.new }
-{
-    let mut count = k;
-    let mut end = at;
-    let mut start = from;
-    loop {
-        let step = note_one(s, e, start, text, ends, count, end);
-        if !step.found {
-            return Cursor { count, at: end };
+    // Notes the parameters of element `e`, which start at `from`.
+    fn note_params(&mut self, s: &[u8], e: usize, from: usize)
+        requires from_in_bounds { from ≤ length s.now }
+        requires roomed { Roomed (rows_at s.now e from) self.old }
+        ensures { Notes s.now (rows_at s.now e from) self.old self.new }
+    {
+        let mut start = from;
+        while let Some(next) = self.note_one(s, e, start) {
+            if !base::is_at(s, next, b' ') {
+                return;
+            }
+            start = next + 1;
         }
-        count += 1;
-        end = step.at;
-        if !base::is_at(s, step.next, b' ') {
-            return Cursor { count, at: end };
+    }
+
+    // Notes the parameters of all elements. Those of one start behind its id, and the blanks there.
+    fn note_elements(&mut self, line: Line)
+        requires roomed { Roomed (rows_from line.text.now 0 line.ids.now) self.old }
+        ensures { Notes line.entry.text.now (rows_from line.entry.text.now 0 line.entry.ids.now) self.old self.new }
+    {
+        for (i, id) in line.ids.iter().enumerate() {
+            let from = parsers::blanks_from(line.text, id[0] + id[1]);
+            self.note_params(line.text, i, from);
         }
-        start = step.next + 1;
     }
 }
 
-// Where the parameters of element `i` start: behind its id, and the blanks there.
-fn params_start(s: &[u8], elements: &[[usize; 2]], i: usize) -> usize
-    requires i_in_bounds { i < length elements.now }
-    requires i_in_bounds_2 { get_or (get_or elements.now i []) 0 0 + get_or (get_or elements.now i []) 1 0 ≤ length s.now }
-    ensures { result ≡ blanks_from s.now (get_or (get_or elements.now i []) 0 0 + get_or (get_or elements.now i []) 1 0) }
+// Of the pairs that do not occur as often in both lines, the first one of the least element, the first line's before the second's, in tables for `SIZE` bytes and for
+// fewer texts than `ENDS`. They are on the stack and are cleared, so that short lines pay for short ones.
+fn odd_of<const SIZE: usize, const ENDS: usize>(a: Line, b: Line) -> Odd
+    requires small { SIZE < 65536 }
+    requires few { ENDS ≤ 3277 }
+    requires enough { Enough (rows_from a.text.now 0 a.ids.now) (rows_from b.text.now 0 b.ids.now) SIZE ENDS }
+    ensures { FirstOdd a.entry.text.now (rows_from a.entry.text.now 0 a.entry.ids.now) b.entry.text.now (rows_from b.entry.text.now 0 b.entry.ids.now) result }
 {
-    let row = elements[i];
-    parsers::blanks_from(s, row[0] + row[1])
-}
-
-// Notes the parameters of the first `n` elements.
-fn note_elements(
-    s: &[u8],
-    elements: &[[usize; 2]],
-    n: usize,
-    text: &mut [u8],
-    ends: &mut [u16],
-    k: usize,
-    at: usize,
-) -> Cursor
-    requires listed { Listed s.now elements.now n }
-    requires roomed { Roomed (rows_from s.now 0 (take n elements.now)) text.old ends.old k at }
-    ensures { Reaches s.now (rows_from s.now 0 (take n elements.now)) text.old ends.old k at result text.new ends.new }
-{
-    let mut i = 0;
-    let mut count = k;
-    let mut end = at;
-    while i < n {
-        let from = params_start(s, elements, i);
-        let c = note_params(s, i, from, text, ends, count, end);
-        i += 1;
-        count = c.count;
-        end = c.at;
-    }
-    Cursor { count, at: end }
-}
-
-// Of the pairs that do not occur as often in both lines, the first one of the least element, the first line's before the second's. `text` and `ends` are room for all.
-fn noted_odd(
-    s1: &[u8],
-    elements1: &[[usize; 2]],
-    n1: usize,
-    s2: &[u8],
-    elements2: &[[usize; 2]],
-    n2: usize,
-    text: &mut [u8],
-    ends: &mut [u16],
-) -> Odd
-    requires listed { Listed s1.now elements1.now n1 }
-    requires listed_2 { Listed s2.now elements2.now n2 }
-    requires enough { Enough (rows_of s1.now elements1.now n1) (rows_of s2.now elements2.now n2) text.old ends.old }
-    ensures { FirstOdd s1.now (rows_of s1.now elements1.now n1) s2.now (rows_of s2.now elements2.now n2) result }
-{
-    let first = note_elements(s1, elements1, n1, text, ends, 0, 0);
-    let both = note_elements(s2, elements2, n2, text, ends, first.count, first.at);
-    pairs::first_odd(text, ends, first.count, both.count)
-}
-
-// The tables are on the stack and are cleared, so that short lines pay for short ones. A line takes at least five bytes for a parameter, and seven for eight of its text.
-fn short_odd(
-    s1: &[u8],
-    elements1: &[[usize; 2]],
-    n1: usize,
-    s2: &[u8],
-    elements2: &[[usize; 2]],
-    n2: usize,
-) -> Odd
-    requires { Bounded s1.now elements1.now n1 s2.now elements2.now n2 840 }
-    ensures { FirstOdd s1.now (rows_of s1.now elements1.now n1) s2.now (rows_of s2.now elements2.now n2) result }
-{
-    let mut text = [0u8; 960];
-    let mut ends = [0u16; 169];
-    noted_odd(s1, elements1, n1, s2, elements2, n2, &mut text, &mut ends)
-}
-
-fn long_odd(
-    s1: &[u8],
-    elements1: &[[usize; 2]],
-    n1: usize,
-    s2: &[u8],
-    elements2: &[[usize; 2]],
-    n2: usize,
-) -> Odd
-    requires { Bounded s1.now elements1.now n1 s2.now elements2.now n2 16384 }
-    ensures { FirstOdd s1.now (rows_of s1.now elements1.now n1) s2.now (rows_of s2.now elements2.now n2) result }
-{
-    let mut text = [0u8; 18725];
-    let mut ends = [0u16; 3277];
-    noted_odd(s1, elements1, n1, s2, elements2, n2, &mut text, &mut ends)
+    let mut text = [0u8; SIZE];
+    let mut ends = [0u16; ENDS];
+    let mut texts = Texts {
+        text: &mut text,
+        ends: &mut ends,
+        count: 0,
+        at: 0,
+    };
+    texts.note_elements(a);
+    let first = texts.count;
+    texts.note_elements(b);
+    let Texts {
+        text,
+        ends,
+        count,
+        ..
+    } = texts;
+    pairs::first_odd(text, ends, first, count)
 }
 
 // Of the pairs that do not occur as often in both lines, the first one of the least element, the first line's before the second's. Its number counts the pairs of both.
+// A line takes at least five bytes for a parameter, and seven for eight of its text.
 pub fn first_odd(
     s1: &[u8],
     elements1: &[[usize; 2]],
@@ -283,8 +191,17 @@ pub fn first_odd(
     requires bounded { Bounded s1.now elements1.now n1 s2.now elements2.now n2 (length s1.now + length s2.now) }
     ensures { FirstOdd s1.now (rows_of s1.now elements1.now n1) s2.now (rows_of s2.now elements2.now n2) result }
 {
+    let a = Line {
+        text: s1,
+        ids: &elements1[..n1],
+    };
+    let b = Line {
+        text: s2,
+        ids: &elements2[..n2],
+    };
     if s1.len() + s2.len() <= 840 {
-        return short_odd(s1, elements1, n1, s2, elements2, n2);
+        odd_of::<960, 169>(a, b)
+    } else {
+        odd_of::<18725, 3277>(a, b)
     }
-    long_odd(s1, elements1, n1, s2, elements2, n2)
 }

@@ -1,5 +1,6 @@
 -- What was laid out comes back: the bytes of a record whose numbers fit their types hold a record, that one.
-use Prim.Native.Nat.{ℕ, zero, suc, ◌+◌, ◌-◌, ◌*◌, ◌/◌, ◌^◌, ◌<◌}
+use Rattle.std.specs.Prelude.{Option, Some, None}
+use Prim.Native.Nat.{ℕ, zero, suc, ◌+◌, ◌-◌, ◌*◌, ◌/◌, ◌^◌, ◌<◌, ◌≤◌}
 use mathlib.Core.Path.{◌≡◌, refl, sym, ap, ◌∙◌}
 use mathlib.Core.Bool.{Bool, true, false}
 use mathlib.Core.List.{List, [], ◌∷◌, ◌++◌, append_assoc}
@@ -15,17 +16,13 @@ use borrow.Author.Tests.{lt-ltb, le-ltb, le-leb}
 use Rattle.base.proofs.Casts.{wider}
 use Rattle.record.specs.declared.Protocol.{Protocol}
 use Rattle.record.specs.declared.Protocol.TheVariants.{Rfc3164, Rfc5424}
-use Rattle.record.specs.declared.Level.{Level}
-use Rattle.record.specs.declared.Level.TheVariants.{Unset, Set}
-use Rattle.record.specs.declared.Stamp.{Stamp}
-use Rattle.record.specs.declared.Stamp.TheVariants.{Unstamped, Stamped}
 use Rattle.record.specs.declared.Place.{Place}
 use Rattle.record.specs.declared.Record.{Record}
 use Rattle.layout.specs.Layout.{protocol_word, version_word, facility_word, severity_word, timestamp_word, seconds_word, nanos_word, digits_word, offset_word, host_word, app_word, procid_word, msgid_word, message_word, elements_word, params_word, word_count, record_size, little, words_bytes, bits, mark, protocol_words, level_words, stamp_words, record_words, record_bytes}
 use Rattle.layout.specs.Incoming.{number, word_at, signed, marked, narrow, stamped, front_held, marks_held, holds_record, protocol_at, level_at, stamp_at, place_at, record_at, element_count_at, param_count_at}
 use Rattle.layout.proofs.Words.{length_little, words_length}
 use Rattle.layout.proofs.Fields.{record_length}
-use Rattle.layout.proofs.Bits.{signed_pos, signed_neg}
+use Rattle.record.specs.declared.Timestamp.{Timestamp}
 
 -- ---- words
 
@@ -69,46 +66,46 @@ abbrev version : Protocol → ℕ
 version Rfc3164 = 0
 version (Rfc5424 v) = v
 
-abbrev level_mark : Level → ℕ
-level_mark Unset = 0
-level_mark (Set n) = 1
+abbrev level_mark : Option ℕ → ℕ
+level_mark None = 0
+level_mark (Some n) = 1
 
-abbrev level : Level → ℕ
-level Unset = 0
-level (Set n) = n
+abbrev level : Option ℕ → ℕ
+level None = 0
+level (Some n) = n
 
-abbrev stamp_mark : Stamp → ℕ
-stamp_mark Unstamped = 0
-stamp_mark (Stamped t) = 1
+abbrev stamp_mark : Option Timestamp → ℕ
+stamp_mark None = 0
+stamp_mark (Some t) = 1
 
-abbrev seconds : Stamp → ℕ
-seconds Unstamped = 0
-seconds (Stamped t) = bits t.seconds
+abbrev seconds : Option Timestamp → ℕ
+seconds None = 0
+seconds (Some t) = bits t.seconds
 
-abbrev nanos : Stamp → ℕ
-nanos Unstamped = 0
-nanos (Stamped t) = t.nanos
+abbrev nanos : Option Timestamp → ℕ
+nanos None = 0
+nanos (Some t) = t.nanos
 
-abbrev digits : Stamp → ℕ
-digits Unstamped = 0
-digits (Stamped t) = t.digits
+abbrev digits : Option Timestamp → ℕ
+digits None = 0
+digits (Some t) = t.digits
 
-abbrev offset : Stamp → ℕ
-offset Unstamped = 0
-offset (Stamped t) = bits t.offset
+abbrev offset : Option Timestamp → ℕ
+offset None = 0
+offset (Some t) = bits t.offset
 
 -- the numbers fit their types
 abbrev pub ProtocolIn : Protocol → Type 0
 ProtocolIn Rfc3164 = Unit {0}
 ProtocolIn (Rfc5424 v) = v < 4294967296
 
-abbrev pub LevelIn : Level → Type 0
-LevelIn Unset = Unit {0}
-LevelIn (Set n) = n < 256
+abbrev pub LevelIn : Option ℕ → Type 0
+LevelIn None = Unit {0}
+LevelIn (Some n) = n < 256
 
-abbrev pub StampIn : Stamp → Type 0
-StampIn Unstamped = Unit {0}
-StampIn (Stamped t) = SFits w64 t.seconds × (t.nanos < 4294967296) × (t.digits < 4294967296) × SFits w32 t.offset
+abbrev pub StampIn : Option Timestamp → Type 0
+StampIn None = Unit {0}
+StampIn (Some t) = SFits w64 t.seconds × (t.nanos < 4294967296) × (t.digits < 4294967296) × SFits w32 t.offset
 
 abbrev PlaceIn : ℕ → ℕ → Type 0
 PlaceIn start len = (start < 18446744073709551616) × (len < 18446744073709551616)
@@ -137,20 +134,26 @@ protocol_back : (p : Protocol) → ProtocolIn p → ProtocolBack p
 protocol_back Rfc3164 h = record { words = refl; mark_fits = omega arith; fits = omega arith; held = refl; back = refl }
 protocol_back (Rfc5424 v) h = record { words = refl; mark_fits = omega arith; fits = omega arith; held = rw (lt-ltb v 4294967296 h); back = refl }
 
-record LevelBack (l : Level) : Type 0 where
+record LevelBack (l : Option ℕ) : Type 0 where
   words : level_words l ≡ level_mark l ∷ level l ∷ []
   mark_fits : level_mark l < 18446744073709551616
   fits : level l < 18446744073709551616
   held : marked 256 (level_mark l) (level l) ≡ true
   back : level_at (level_mark l) (level l) ≡ l
 
-level_back : (l : Level) → LevelIn l → LevelBack l
-level_back Unset h = record { words = refl; mark_fits = omega arith; fits = omega arith; held = refl; back = refl }
-level_back (Set n) h = record { words = refl; mark_fits = omega arith; fits = omega arith; held = rw (lt-ltb n 256 h); back = refl }
+level_back : (l : Option ℕ) → LevelIn l → LevelBack l
+level_back None h = record { words = refl; mark_fits = omega arith; fits = omega arith; held = refl; back = refl }
+level_back (Some n) h = record { words = refl; mark_fits = omega arith; fits = omega arith; held = rw (lt-ltb n 256 h); back = refl }
 
 bits_fit : (z : ℤ) → SFits w64 z → bits z < 18446744073709551616
 bits_fit (pos n) h = omega (arith, h.sfits)
 bits_fit (negsuc n) h = omega arith
+
+signed_pos : (n : ℕ) → n < 9223372036854775808 → signed n ≡ pos n
+signed_pos n h = rw (lt-ltb n 9223372036854775808 h)
+
+signed_neg : (n : ℕ) → 9223372036854775808 ≤ n → signed n ≡ negsuc (18446744073709551615 - n)
+signed_neg n h = rw (le-ltb n 9223372036854775808 h)
 
 bits_back : (z : ℤ) → SFits w64 z → signed (bits z) ≡ z
 bits_back (pos n) h = signed_pos n (omega (arith, h.sfits))
@@ -163,7 +166,7 @@ bits_narrow (pos n) h = rw (lt-ltb n 2147483648 (omega (arith, h.sfits)))
 bits_narrow (negsuc n) h =
     rw (le-ltb (18446744073709551615 - n) 2147483648 (omega (arith, h.sfits)), lt-ltb 18446744071562067967 (18446744073709551615 - n) (omega (arith, h.sfits)))
 
-record StampBack (s : Stamp) : Type 0 where
+record StampBack (s : Option Timestamp) : Type 0 where
   words : stamp_words s ≡ stamp_mark s ∷ seconds s ∷ nanos s ∷ digits s ∷ offset s ∷ []
   mark_fits : stamp_mark s < 18446744073709551616
   seconds_fit : seconds s < 18446744073709551616
@@ -173,10 +176,10 @@ record StampBack (s : Stamp) : Type 0 where
   held : stamped (stamp_mark s) (seconds s) (nanos s) (digits s) (offset s) ≡ true
   back : stamp_at (stamp_mark s) (seconds s) (nanos s) (digits s) (offset s) ≡ s
 
-stamp_back : (s : Stamp) → StampIn s → StampBack s
-stamp_back Unstamped h =
+stamp_back : (s : Option Timestamp) → StampIn s → StampBack s
+stamp_back None h =
     record { words = refl; mark_fits = omega arith; seconds_fit = omega arith; nanos_fit = omega arith; digits_fit_lem = omega arith; offset_fits = omega arith; held = refl; back = refl }
-stamp_back (Stamped t) (a, b, d, c) =
+stamp_back (Some t) (a, b, d, c) =
     record {
       words = refl;
       mark_fits = omega arith;

@@ -1,4 +1,5 @@
 -- Worked examples, computed from the definitions: the layout of docs/INTERFACE.md, and bytes that hold no record.
+use Rattle.std.specs.Prelude.{Some}
 use Prim.Native.Nat.{ℕ, ◌*◌}
 use mathlib.Core.Path.{◌≡◌, refl}
 use mathlib.Core.Bool.{Bool, true, false}
@@ -9,8 +10,6 @@ use Rattle.record.specs.Places.{absent, place}
 use Rattle.record.specs.Records.{empty_record, empty_strict}
 use Rattle.record.specs.declared.Record.{Record}
 use Rattle.record.specs.declared.Protocol.TheVariants.{Rfc5424}
-use Rattle.record.specs.declared.Level.TheVariants.{Set}
-use Rattle.record.specs.declared.Stamp.TheVariants.{Stamped}
 use Rattle.layout.specs.Layout.{seconds_word, digits_word, message_word, elements_word, params_word, record_size, strict_size, little, words_bytes, bits, record_words, strict_words, record_bytes, strict_bytes}
 use Rattle.layout.specs.Incoming.{number, word_at, signed, front_held, marks_held, holds_record, record_at}
 
@@ -25,9 +24,9 @@ abbrev sample : Record
 sample =
     record {
       protocol = Rfc5424 1;
-      facility = Set 4;
-      severity = Set 2;
-      timestamp = Stamped (record { seconds = negsuc 0; nanos = 500000000; digits = 3; offset = negsuc 419 });
+      facility = Some 4;
+      severity = Some 2;
+      timestamp = Some (record { seconds = negsuc 0; nanos = 500000000; digits = 3; offset = negsuc 419 });
       host = place 34 22;
       app = absent;
       procid = place 0 0;

@@ -1,11 +1,17 @@
 -- Words written one after the other, and a word by its eight bytes.
-use Prim.Native.Nat.{ℕ, zero, suc, ◌+◌, ◌*◌, ◌/◌, ◌%◌, ◌≤◌, ◌<◌}
+use Prim.Native.Nat.{ℕ, zero, suc, ◌+◌, ◌-◌, ◌*◌, ◌/◌, ◌≤◌, ◌<◌}
 use mathlib.Core.Path.{◌≡◌, refl, sym, ap, ◌∙◌}
-use mathlib.Core.List.{List, [], ◌∷◌, ◌++◌, append_assoc}
+use mathlib.Core.List.{List, [], ◌∷◌, ◌++◌, append_assoc, append-nil}
 use native.Mathlib.Omega.{arith}
-use lib.ListN.{length, set, length-append}
-use Rattle.output.proofs.Pieces.{Starts, first_fits, next_fits, last_fits, two_are, three_are}
-use Rattle.output.proofs.Writes.{Owes, owes_all, owes_more, owes_none}
+use lib.ListN.{length, length-append}
+use lib.ListN.{get_or, drop}
+use lib.Seq.{drop-drop}
+use mir.Syntax.{w64}
+use borrow.Rule.Slice.PartMut.{put_mid}
+use Rattle.std.specs.Int.{to_le_bytes}
+use Rattle.base.proofs.Parts.{step}
+use Rattle.output.specs.Output.{written, Wrote}
+use Rattle.output.proofs.Pieces.{Starts, starts_front, Midway, midway_all, midway_fits, midway_on, midway_last, midway_end}
 use Rattle.layout.specs.Layout.{little, words_bytes, Room, Puts}
 
 pub length_little : (k n : ℕ) → length (little k n) ≡ k
@@ -26,64 +32,59 @@ words_length (w ∷ ws) = length-append (little 8 w) (words_bytes ws) ∙ omega 
 starts_words : {x t : List ℕ} → Starts x t → Starts (words_bytes x) (words_bytes t)
 starts_words {x} s = record { others = words_bytes s.others; is = sym (words_append x s.others) ∙ ap words_bytes s.is }
 
--- where the words of the whole fit, so do those of each piece when its turn comes, and the writes are one
-module _ {t o : List ℕ} {at : ℕ} {x : List ℕ} (f : Room o at t) where
-  pub words_first : Starts x t → Room o at x
-  words_first s = record { fits = first_fits f.fits (starts_words s) }
+-- ---- words that are put from the first on
 
-  module _ {n : ℕ} {p y : List ℕ} (w : Puts o at x n p) where
-    pub words_next : Starts (x ++ y) t → Room p n y
-    words_next s = record { fits = next_fits f.fits w.wrote (rw (words_append x y) at (starts_words s)) }
+-- `p` has them up to position `a`, and `t` are still to come
+pub record Putting (o : List ℕ) (at : ℕ) (words p : List ℕ) (a : ℕ) (t : List ℕ) : Type 0 where
+  pub midway : Midway o at (words_bytes words) p a (words_bytes t)
 
-    pub words_two : {m : ℕ} {q : List ℕ} → Puts p n y m q → x ++ y ≡ t → Puts o at t m q
-    words_two v e = record { wrote = two_are f.fits w.wrote v.wrote (sym (words_append x y) ∙ ap words_bytes e) }
+pub putting_all : (o : List ℕ) (at : ℕ) (words t : List ℕ) → words ≡ t → Putting o at words o at t
+putting_all o at words t e = rw (← e) (record { midway = midway_all o at (words_bytes words) })
 
-    module _ {m : ℕ} {q : List ℕ} (v : Puts p n y m q) where
-      pub words_last : {z : List ℕ} → Starts (x ++ y ++ z) t → Room q m z
-      words_last {z} s = record { fits = last_fits f.fits w.wrote v.wrote (rw (words_append (x ++ y) z, words_append x y) at (starts_words s)) }
+module _ {o : List ℕ} {at : ℕ} {words p : List ℕ} {a : ℕ} {t : List ℕ} (f : Room o at words) (w : Putting o at words p a t) where
+  pub putting_room : {x : List ℕ} → Starts x t → Room p a x
+  putting_room s = record { fits = midway_fits f.fits w.midway (starts_words s) }
 
-      pub words_three : {z : List ℕ} {k : ℕ} {r : List ℕ} → Puts q m z k r → x ++ y ++ z ≡ t → Puts o at t k r
-      words_three {z} u e =
-          record {
-            wrote = three_are f.fits w.wrote v.wrote u.wrote
-                (ap (λ (l : List ℕ). l ++ words_bytes z) (sym (words_append x y)) ∙ sym (words_append (x ++ y) z) ∙ ap words_bytes e);
-          }
+  pub putting_on : {x : List ℕ} (y : List ℕ) {n : ℕ} {q : List ℕ} → Puts p a x n q → x ++ y ≡ t → Putting o at words q n y
+  putting_on {x} y v e = record { midway = midway_on f.fits w.midway v.wrote (sym (words_append x y) ∙ ap words_bytes e) }
 
-pub ruleset word_pieces = (words_first, words_next, words_last)
+  pub putting_last : {n : ℕ} {q : List ℕ} → Puts p a t n q → Puts o at words n q
+  putting_last v = record { wrote = midway_last f.fits w.midway v.wrote }
 
-pub ruleset words_whole = (words_two, words_three)
+pub putting_end : (o : List ℕ) (at : ℕ) (words p : List ℕ) (a : ℕ) (t : List ℕ) → Putting o at words p a t → t ≡ [] → Puts o at words a p
+unfolding words_bytes
+putting_end o at words p a t w e = record { wrote = midway_end o at (words_bytes words) p a (words_bytes t) w.midway (ap words_bytes e) }
 
--- words by another name
-module _ (s t o : List ℕ) (at : ℕ) where
-  pub named_room : Room o at t → s ≡ t → Room o at s
-  named_room f e = rw e f
+-- ---- the same by pieces
 
-  pub named_puts : (n : ℕ) (p : List ℕ) → Puts o at s n p → s ≡ t → Puts o at t n p
-  named_puts n p w e = rw (← e) w
+abbrev joined : List (List ℕ) → List ℕ
+joined [] = []
+joined (x ∷ xs) = x ++ joined xs
 
-pub ruleset named = (named_room, named_puts)
+-- the pieces that are still to come
+pub record Pieces (o words p : List ℕ) (a : ℕ) (xs : List (List ℕ)) : Type 0 where
+  pub room : Room o 0 words
+  pub putting : Putting o 0 words p a (joined xs)
+
+pub pieces_all : (o words : List ℕ) (xs : List (List ℕ)) → Room o 0 words → words ≡ joined xs → Pieces o words o 0 xs
+pieces_all o words xs f e = record { room = f; putting = putting_all o 0 words (joined xs) e }
+
+module _ {o words p : List ℕ} {a : ℕ} {x y : List ℕ} where
+  pub piece_room : {xs : List (List ℕ)} → Pieces o words p a (x ∷ xs) → y ≡ x → Room p a y
+  piece_room {xs} w e = rw e (putting_room w.room w.putting (starts_front x (joined xs)))
+
+  module _ {n : ℕ} {q : List ℕ} where
+    pub piece_on : {xs : List (List ℕ)} → Pieces o words p a (x ∷ xs) → y ≡ x → Puts p a y n q → Pieces o words q n xs
+    piece_on {xs} w e v = record { room = w.room; putting = putting_on w.room w.putting (joined xs) (rw e at v) refl }
+
+    pub piece_last : Pieces o words p a (x ∷ []) → y ≡ x → Puts p a y n q → Puts o 0 words n q
+    piece_last w e v = putting_last w.room w.putting (rw append-nil (rw e at v))
 
 -- ---- a word
 
-pub word_room : (o : List ℕ) (at n : ℕ) → Room o at (n ∷ []) → at + 8 ≤ length o
-word_room o at n f = omega (arith, f.fits.fits, words_length (n ∷ []))
-
--- the bytes as the code computes them
-eight : ℕ → List ℕ
-eight n =
-    (n % 256)
-    ∷ (n / 256 % 256)
-    ∷ (n / 65536 % 256)
-    ∷ (n / 16777216 % 256)
-    ∷ (n / 4294967296 % 256)
-    ∷ (n / 1099511627776 % 256)
-    ∷ (n / 281474976710656 % 256)
-    ∷ (n / 72057594037927936 % 256)
-    ∷ []
-
-word_is : (n : ℕ) → eight n ≡ words_bytes (n ∷ [])
-unfolding eight little words_bytes
-word_is n =
+word_bytes_lem : (n : ℕ) → to_le_bytes w64 n ≡ words_bytes (n ∷ [])
+unfolding little words_bytes
+word_bytes_lem n =
     let a : n / 65536 ≡ n / 256 / 256 = omega arith in
     let b : n / 16777216 ≡ n / 65536 / 256 = omega arith in
     let c : n / 4294967296 ≡ n / 16777216 / 256 = omega arith in
@@ -92,27 +93,17 @@ word_is n =
     let f : n / 72057594037927936 ≡ n / 281474976710656 / 256 = omega arith in
     rw (f, e, d, c, b, a)
 
--- one byte more
-stored : (o : List ℕ) (at : ℕ) (text p : List ℕ) (i b : ℕ) (t : List ℕ) → Owes o at text p (at + i) (b ∷ t) → at + i < length o → Owes o at text (set p (at + i) b) (at + suc i) t
-stored o at text p i b t w h =
-    let e : at + i + 1 ≡ at + suc i = omega arith in
-    rw (← e) (owes_more o at text p (at + i) b t w (omega (arith, w.same)))
+module _ {o : List ℕ} {at : ℕ} {words p : List ℕ} {a : ℕ} {i : ℕ} (f : Room o at words) (w : Putting o at words p a (drop i words)) (h : i < length words) where
+  pub next_room : a + 8 ≤ length p
+  next_room =
+      let r : Room p a (get_or words i 0 ∷ []) = putting_room f w (record { others = drop (i + 1) words; is = sym (step words i h) }) in
+      omega (arith, r.fits.fits, words_length (get_or words i 0 ∷ []))
 
--- eight stores
-module _ (o : List ℕ) (at n : ℕ) (f : Room o at (n ∷ [])) where
-  pub word_wrote : Puts o at (n ∷ []) (at + 8)
-      (set (set (set (set (set (set (set (set o at (n % 256)) (at + 1) (n / 256 % 256)) (at + 2) (n / 65536 % 256)) (at + 3) (n / 16777216 % 256)) (at + 4) (n / 4294967296 % 256)) (at + 5) (n / 1099511627776 % 256)) (at + 6) (n / 281474976710656 % 256)) (at + 7) (n / 72057594037927936 % 256))
-  unfolding eight
-  word_wrote =
-      let z : at + 0 ≡ at = omega arith in
-      let l : at + 8 ≤ length o = word_room o at n f in
-      let all : Owes o at (eight n) o (at + 0) (eight n) = rw z (owes_all o at (eight n)) in
-      let a = stored o at (eight n) _ 0 _ _ all (omega arith) in
-      let b = stored o at (eight n) _ 1 _ _ a (omega arith) in
-      let c = stored o at (eight n) _ 2 _ _ b (omega arith) in
-      let d = stored o at (eight n) _ 3 _ _ c (omega arith) in
-      let e = stored o at (eight n) _ 4 _ _ d (omega arith) in
-      let g = stored o at (eight n) _ 5 _ _ e (omega arith) in
-      let h = stored o at (eight n) _ 6 _ _ g (omega arith) in
-      let k = stored o at (eight n) _ 7 _ _ h (omega arith) in
-      record { wrote = rw (← word_is n) (owes_none o at (eight n) _ (at + 8) (at + 8) (rw z at k) refl) }
+  pub next_put : (bytes : List ℕ) → bytes ≡ to_le_bytes w64 (get_or words i 0) → Putting o at words (put_mid a (a + 8 - a) p bytes) (a + 8) (drop (i + 1) words)
+  unfolding written
+  next_put bytes e =
+      let b : bytes ≡ words_bytes (get_or words i 0 ∷ []) = e ∙ word_bytes_lem (get_or words i 0) in
+      let l : length (words_bytes (get_or words i 0 ∷ [])) ≡ 8 = words_length (get_or words i 0 ∷ []) in
+      let k : a + 8 - a ≡ 8 = omega arith in
+      let v : Wrote p a (words_bytes (get_or words i 0 ∷ [])) (a + 8) (put_mid a (a + 8 - a) p bytes) = record { behind = omega arith; holds = rw (b, l, k, drop-drop 8 a p) } in
+      putting_on f w _ (record { wrote = v }) (sym (step words i h))

@@ -1,16 +1,13 @@
 -- A record that comes in: whether bytes hold one, and which.
-use Rattle.std.specs.Prelude.{ℕ, ◌+◌, ◌-◌, ◌*◌, ◌^◌, ◌<◌, ◌≡◌, Bool, ◌&&◌, ◌||◌, List, [], ◌∷◌, eqb, leb, ltb, ℤ, pos, negsuc, length, if◌then◌else◌}
+use Rattle.std.specs.Prelude.{ℕ, ◌+◌, ◌-◌, ◌*◌, Bool, ◌&&◌, ◌||◌, List, [], ◌∷◌, eqb, leb, ltb, ℤ, pos, negsuc, length, if◌then◌else◌, Option, Some, None}
 use Rattle.base.specs.Texts.{text_at}
 use Rattle.layout.specs.Layout.{protocol_word, version_word, facility_word, severity_word, timestamp_word, seconds_word, nanos_word, digits_word, offset_word, host_word, app_word, procid_word, msgid_word, message_word, elements_word, params_word, record_size}
 use Rattle.record.specs.declared.Protocol.{Protocol}
 use Rattle.record.specs.declared.Protocol.TheVariants.{Rfc3164, Rfc5424}
-use Rattle.record.specs.declared.Level.{Level}
-use Rattle.record.specs.declared.Level.TheVariants.{Unset, Set}
-use Rattle.record.specs.declared.Stamp.{Stamp}
-use Rattle.record.specs.declared.Stamp.TheVariants.{Unstamped, Stamped}
 use Rattle.record.specs.declared.Place.{Place}
 use Rattle.record.specs.declared.Span.{Span}
 use Rattle.record.specs.declared.Record.{Record}
+use Rattle.record.specs.declared.Timestamp.{Timestamp}
 
 -- the number of bytes, the least first
 unfoldable pub number : List ℕ → ℕ
@@ -56,11 +53,11 @@ holds_record bytes = leb record_size (length bytes) && front_held bytes && marks
 abbrev pub protocol_at : ℕ → ℕ → Protocol
 protocol_at m version = if eqb m 0 then Rfc3164 else Rfc5424 version
 
-abbrev pub level_at : ℕ → ℕ → Level
-level_at m n = if eqb m 0 then Unset else Set n
+abbrev pub level_at : ℕ → ℕ → Option ℕ
+level_at m n = if eqb m 0 then None else Some n
 
-abbrev pub stamp_at : ℕ → ℕ → ℕ → ℕ → ℕ → Stamp
-stamp_at m s n d o = if eqb m 0 then Unstamped else Stamped (record { seconds = signed s; nanos = n; digits = d; offset = signed o })
+abbrev pub stamp_at : ℕ → ℕ → ℕ → ℕ → ℕ → Option Timestamp
+stamp_at m s n d o = if eqb m 0 then None else Some (record { seconds = signed s; nanos = n; digits = d; offset = signed o })
 
 -- the place whose mark is word `i`
 abbrev pub place_at : List ℕ → ℕ → Place
@@ -89,8 +86,3 @@ element_count_at bytes = word_at bytes elements_word
 
 abbrev pub param_count_at : List ℕ → ℕ
 param_count_at bytes = word_at bytes params_word
-
--- `n` is the number of the `k` bytes from `at` on (for private contracts alone)
-pub record Holds (bytes : List ℕ) (at k n : ℕ) : Type 0 where
-  pub is : n ≡ number (text_at bytes at k)
-  pub below : n < 256 ^ k

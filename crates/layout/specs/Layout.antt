@@ -1,17 +1,14 @@
 -- The record, byte by byte, as docs/INTERFACE.md lays it out: words of 8 bytes, little-endian.
-use Rattle.std.specs.Prelude.{ℕ, zero, suc, ◌+◌, ◌-◌, ◌*◌, ◌/◌, ◌%◌, Bool, true, false, List, [], ◌∷◌, ◌++◌, ℤ, pos, negsuc}
+use Rattle.std.specs.Prelude.{ℕ, zero, suc, ◌+◌, ◌-◌, ◌*◌, ◌/◌, ◌%◌, Bool, true, false, List, [], ◌∷◌, ◌++◌, ℤ, pos, negsuc, Option, Some, None}
 use Rattle.output.specs.Fits.{Fits}
 use Rattle.output.specs.Output.{Wrote}
 use Rattle.record.specs.declared.Protocol.{Protocol}
 use Rattle.record.specs.declared.Protocol.TheVariants.{Rfc3164, Rfc5424}
-use Rattle.record.specs.declared.Level.{Level}
-use Rattle.record.specs.declared.Level.TheVariants.{Unset, Set}
-use Rattle.record.specs.declared.Stamp.{Stamp}
-use Rattle.record.specs.declared.Stamp.TheVariants.{Unstamped, Stamped}
 use Rattle.record.specs.declared.Place.{Place}
 use Rattle.record.specs.declared.Span.{Span}
 use Rattle.record.specs.declared.Record.{Record}
 use Rattle.record.specs.declared.StrictRecord.{StrictRecord}
+use Rattle.record.specs.declared.Timestamp.{Timestamp}
 
 -- the number of each field's first word: a field ends where the next one starts
 abbrev pub protocol_word : ℕ
@@ -100,13 +97,13 @@ abbrev pub protocol_words : Protocol → List ℕ
 protocol_words Rfc3164 = 0 ∷ 0 ∷ []
 protocol_words (Rfc5424 version) = 1 ∷ version ∷ []
 
-abbrev pub level_words : Level → List ℕ
-level_words Unset = 0 ∷ 0 ∷ []
-level_words (Set n) = 1 ∷ n ∷ []
+abbrev pub level_words : Option ℕ → List ℕ
+level_words None = 0 ∷ 0 ∷ []
+level_words (Some n) = 1 ∷ n ∷ []
 
-abbrev pub stamp_words : Stamp → List ℕ
-stamp_words Unstamped = 0 ∷ 0 ∷ 0 ∷ 0 ∷ 0 ∷ []
-stamp_words (Stamped t) = 1 ∷ bits t.seconds ∷ t.nanos ∷ t.digits ∷ bits t.offset ∷ []
+abbrev pub stamp_words : Option Timestamp → List ℕ
+stamp_words None = 0 ∷ 0 ∷ 0 ∷ 0 ∷ 0 ∷ []
+stamp_words (Some t) = 1 ∷ bits t.seconds ∷ t.nanos ∷ t.digits ∷ bits t.offset ∷ []
 
 abbrev pub place_words : Place → List ℕ
 place_words p = mark p.present ∷ p.start ∷ p.len ∷ []

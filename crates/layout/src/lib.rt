@@ -1,12 +1,12 @@
 // The record byte by byte, as docs/INTERFACE.md lays it out: into memory that was lent, and from memory that comes in.
 #![tactic(auto)]
 
-ghost use Rattle.std.specs.Prelude.{◌≡◌, true, [], ◌∷◌, ◌++◌, ◌+◌, ◌*◌, ◌≤◌, ◌<◌, length};
+ghost use Rattle.std.specs.Prelude.{◌≡◌, true, ◌+◌, ◌≤◌, ◌<◌, length};
 ghost use Rattle.base.specs.Fills.{filled};
-ghost use Rattle.layout.specs.Layout.{protocol_word, version_word, facility_word, severity_word, timestamp_word, seconds_word, nanos_word, digits_word, offset_word, message_word, word_count, record_size, strict_size, bits, mark, protocol_words, level_words, stamp_words, place_words, front_words, name_words, end_words, record_words, record_bytes, strict_bytes, Room, Puts};
-ghost use Rattle.layout.specs.Incoming.{word_at, signed, marked, narrow, stamped, front_held, marks_held, holds_record, protocol_at, level_at, stamp_at, place_at, span_at, record_at, element_count_at, param_count_at, Holds};
+ghost use Rattle.layout.specs.Layout.{protocol_word, version_word, timestamp_word, seconds_word, nanos_word, digits_word, offset_word, message_word, word_count, record_size, strict_size, protocol_words, level_words, stamp_words, place_words, record_words, record_bytes, strict_bytes, Room, Puts};
+ghost use Rattle.layout.specs.Incoming.{word_at, signed, marked, narrow, stamped, front_held, marks_held, holds_record, protocol_at, level_at, stamp_at, place_at, span_at, record_at, element_count_at, param_count_at};
 
-use record::{Level, Place, Protocol, Record, Span, Stamp, StrictRecord, Timestamp};
+use record::{Place, Protocol, Record, Span, StrictRecord, Timestamp};
 
 // The number of each field's first word: a field ends where the next one starts.
 pub const PROTOCOL_WORD: usize = 0;
@@ -54,186 +54,85 @@ pub const STRICT_SIZE: usize = STRICT_WORD_COUNT * 8;
 
 // ---- into memory that was lent. Each answers the position after what it wrote.
 
-// Eight stores, which the compiler makes one.
-fn put_word(out: &mut [u8], at: usize, n: u64) -> usize
-    requires { Room out.old at (n ∷ []) }
-    ensures { Puts out.old at (n ∷ []) result out.new }
+// Words, one after the other. A word's eight bytes are one store.
+fn put_words<const N: usize>(out: &mut [u8], at: usize, words: [u64; N]) -> usize
+    requires { Room out.old at words }
+    ensures { Puts out.old at words.entry result out.new }
 {
-    out[at] = (n % 256) as u8;
-    out[at + 1] = (n / 256 % 256) as u8;
-    out[at + 2] = (n / 65536 % 256) as u8;
-    out[at + 3] = (n / 16777216 % 256) as u8;
-    out[at + 4] = (n / 4294967296 % 256) as u8;
-    out[at + 5] = (n / 1099511627776 % 256) as u8;
-    out[at + 6] = (n / 281474976710656 % 256) as u8;
-    out[at + 7] = (n / 72057594037927936 % 256) as u8;
-    at + 8
-}
-
-fn put_two(out: &mut [u8], at: usize, a: u64, b: u64) -> usize
-    requires { Room out.old at (a ∷ b ∷ []) }
-    ensures { Puts out.old at (a ∷ b ∷ []) result out.new }
-{
-    let next = put_word(out, at, a);
-    put_word(out, next, b)
-}
-
-fn put_three(out: &mut [u8], at: usize, a: u64, b: u64, c: u64) -> usize
-    requires { Room out.old at (a ∷ b ∷ c ∷ []) }
-    ensures { Puts out.old at (a ∷ b ∷ c ∷ []) result out.new }
-{
-    let next = put_two(out, at, a, b);
-    put_word(out, next, c)
-}
-
-fn put_four(out: &mut [u8], at: usize, a: u64, b: u64, c: u64, d: u64) -> usize
-    requires { Room out.old at (a ∷ b ∷ c ∷ d ∷ []) }
-    ensures { Puts out.old at (a ∷ b ∷ c ∷ d ∷ []) result out.new }
-{
-    let next = put_two(out, at, a, b);
-    put_two(out, next, c, d)
-}
-
-fn put_five(out: &mut [u8], at: usize, a: u64, b: u64, c: u64, d: u64, e: u64) -> usize
-    requires { Room out.old at (a ∷ b ∷ c ∷ d ∷ e ∷ []) }
-    ensures { Puts out.old at (a ∷ b ∷ c ∷ d ∷ e ∷ []) result out.new }
-{
-    let next = put_two(out, at, a, b);
-    put_three(out, next, c, d, e)
-}
-
-fn mark_of(b: bool) -> u64
-    ensures { result ≡ mark b }
-{
-    if b {
-        return 1;
+    let mut next = at;
+    for word in words {
+        out[next..next + 8].copy_from_slice(&word.to_le_bytes());
+        next += 8;
     }
-    0
+    next
 }
 
-fn to_bits(z: i64) -> u64
-    ensures { result ≡ bits z }
-{
-    let d = base::split(z);
-    if d.down == 0 {
-        return d.up;
-    }
-    18446744073709551615 - (d.down - 1)
-}
-
-fn put_protocol(out: &mut [u8], at: usize, protocol: Protocol) -> usize
-    requires { Room out.old at (protocol_words protocol) }
-    ensures { Puts out.old at (protocol_words protocol) result out.new }
+fn protocol_words(protocol: Protocol) -> [u64; 2]
+    ensures { result ≡ protocol_words protocol }
 {
     match protocol {
-        Protocol::Rfc3164 => put_two(out, at, 0, 0),
-        Protocol::Rfc5424(version) => put_two(out, at, 1, version as u64),
+        Protocol::Rfc3164 => [0, 0],
+        Protocol::Rfc5424(version) => [1, u64::from(version)],
     }
 }
 
-fn put_level(out: &mut [u8], at: usize, level: Level) -> usize
-    requires { Room out.old at (level_words level) }
-    ensures { Puts out.old at (level_words level) result out.new }
+fn level_words(level: Option<u8>) -> [u64; 2]
+    ensures { result ≡ level_words level }
 {
     match level {
-        Level::Unset => put_two(out, at, 0, 0),
-        Level::Set(n) => put_two(out, at, 1, n as u64),
+        None => [0, 0],
+        Some(n) => [1, u64::from(n)],
     }
 }
 
-fn put_stamp(out: &mut [u8], at: usize, stamp: Stamp) -> usize
-    requires { Room out.old at (stamp_words stamp) }
-    ensures { Puts out.old at (stamp_words stamp) result out.new }
+fn stamp_words(stamp: Option<Timestamp>) -> [u64; 5]
+    ensures { result ≡ stamp_words stamp }
 {
     match stamp {
-        Stamp::Unstamped => put_five(out, at, 0, 0, 0, 0, 0),
-        Stamp::Stamped(t) => put_five(
-            out,
-            at,
+        None => [0; 5],
+        Some(t) => [
             1,
-            to_bits(t.seconds),
-            t.nanos as u64,
-            t.digits as u64,
-            to_bits(base::widen(t.offset)),
-        ),
+            t.seconds.cast_unsigned(),
+            u64::from(t.nanos),
+            u64::from(t.digits),
+            i64::from(t.offset).cast_unsigned(),
+        ],
     }
 }
 
-fn put_place(out: &mut [u8], at: usize, place: Place) -> usize
-    requires { Room out.old at (place_words place) }
-    ensures { Puts out.old at (place_words place) result out.new }
+fn place_words(place: Place) -> [u64; 3]
+    ensures { result ≡ place_words place }
 {
-    put_three(
-        out,
-        at,
-        mark_of(place.present),
+    [
+        u64::from(place.present),
         place.start as u64,
         place.len as u64,
-    )
+    ]
 }
 
-fn put_levels(out: &mut [u8], at: usize, r: Record) -> usize
-    requires { Room out.old at (protocol_words r.protocol ++ level_words r.facility ++ level_words r.severity) }
-    ensures { Puts out.old at (protocol_words r.protocol ++ level_words r.facility ++ level_words r.severity) result out.new }
-{
-    let protocol = r.protocol;
-    let facility = r.facility;
-    let severity = r.severity;
-    let a = put_protocol(out, at, protocol);
-    let b = put_level(out, a, facility);
-    put_level(out, b, severity)
-}
-
-fn put_front(out: &mut [u8], at: usize, r: Record) -> usize
-    requires { Room out.old at (front_words r) }
-    ensures { Puts out.old at (front_words r) result out.new }
-{
-    let timestamp = r.timestamp;
-    let next = put_levels(out, at, r);
-    put_stamp(out, next, timestamp)
-}
-
-fn put_places(out: &mut [u8], at: usize, a: Place, b: Place) -> usize
-    requires { Room out.old at (place_words a ++ place_words b) }
-    ensures { Puts out.old at (place_words a ++ place_words b) result out.new }
-{
-    let next = put_place(out, at, a);
-    put_place(out, next, b)
-}
-
-fn put_names(out: &mut [u8], at: usize, r: Record) -> usize
-    requires { Room out.old at (name_words r) }
-    ensures { Puts out.old at (name_words r) result out.new }
-{
-    let host = r.host;
-    let app = r.app;
-    let procid = r.procid;
-    let msgid = r.msgid;
-    let next = put_places(out, at, host, app);
-    put_places(out, next, procid, msgid)
-}
-
-fn put_end(out: &mut [u8], at: usize, r: Record, e: usize, p: usize) -> usize
-    requires { Room out.old at (end_words r e p) }
-    ensures { Puts out.old at (end_words r e p) result out.new }
-{
-    put_four(
-        out,
-        at,
-        r.message.start as u64,
-        r.message.len as u64,
-        e as u64,
-        p as u64,
-    )
-}
-
-fn put_fields(out: &mut [u8], r: Record, e: usize, p: usize) -> usize
+// The fields that both readers have. A name is where the words of that field start.
+fn put_common(out: &mut [u8], r: &Record, e: usize, p: usize) -> usize
     requires { record_size ≤ length out.old }
-    ensures { Puts out.old 0 (record_words r e p) result out.new }
+    ensures { Puts out.old 0 (record_words r.now e p) result out.new }
 {
-    let a = put_front(out, 0, r);
-    let b = put_names(out, a, r);
-    put_end(out, b, r, e, p)
+    let facility = put_words(out, 0, protocol_words(r.protocol));
+    let severity = put_words(out, facility, level_words(r.facility));
+    let timestamp = put_words(out, severity, level_words(r.severity));
+    let host = put_words(out, timestamp, stamp_words(r.timestamp));
+    let app = put_words(out, host, place_words(r.host));
+    let procid = put_words(out, app, place_words(r.app));
+    let msgid = put_words(out, procid, place_words(r.procid));
+    let message = put_words(out, msgid, place_words(r.msgid));
+    put_words(
+        out,
+        message,
+        [
+            r.message.start as u64,
+            r.message.len as u64,
+            e as u64,
+            p as u64,
+        ],
+    )
 }
 
 // The record of a loose reader, at the front of the memory.
@@ -241,52 +140,20 @@ pub fn put_record(out: &mut [u8], r: Record, e: usize, p: usize)
     requires { record_size ≤ length out.old }
     ensures { out.new ≡ filled (record_bytes r e p) out.old }
 {
-    put_fields(out, r, e, p);
+    put_common(out, &r, e, p);
 }
 
-// The record of the strict reader, at the front of the memory. The common fields are put here too and not by put_fields, so that no record is
-// copied for a call.
+// The record of the strict reader, at the front of the memory.
 pub fn put_strict(out: &mut [u8], r: StrictRecord, e: usize, p: usize)
     requires { strict_size ≤ length out.old }
     ensures { out.new ≡ filled (strict_bytes r e p) out.old }
 {
-    let common = r.common;
-    let text = r.timestamp_text;
-    let a = put_front(out, 0, common);
-    let b = put_names(out, a, common);
-    let c = put_end(out, b, common, e, p);
-    let d = put_place(out, c, text);
-    put_word(out, d, mark_of(r.has_message));
+    let text = put_common(out, &r.common, e, p);
+    let mark = put_words(out, text, place_words(r.timestamp_text));
+    put_words(out, mark, [u64::from(r.has_message)]);
 }
 
 // ---- from memory that comes in
-
-fn wide(b: u8) -> u64
-    ensures { (result ≡ b) × (result < 256) }
-{
-    b as u64
-}
-
-fn byte_at(s: &[u8], at: usize) -> u64
-    requires { at + 1 ≤ length s.now }
-    ensures { Holds s.now at 1 result }
-{
-    wide(s[at])
-}
-
-fn pair_at(s: &[u8], at: usize) -> u64
-    requires { at + 2 ≤ length s.now }
-    ensures { Holds s.now at 2 result }
-{
-    byte_at(s, at) + byte_at(s, at + 1) * 256
-}
-
-fn half_at(s: &[u8], at: usize) -> u64
-    requires { at + 4 ≤ length s.now }
-    ensures { Holds s.now at 4 result }
-{
-    pair_at(s, at) + pair_at(s, at + 2) * 65536
-}
 
 // Word `i` of the record, from its eight bytes.
 pub fn word_at(s: &[u8], i: usize) -> u64
@@ -294,102 +161,7 @@ pub fn word_at(s: &[u8], i: usize) -> u64
     requires i_lt_word_count { i < word_count }
     ensures { result ≡ word_at s.now i }
 {
-    let at = i * 8;
-    half_at(s, at) + half_at(s, at + 4) * 4294967296
-}
-
-fn is_marked(limit: u64, m: u64, n: u64) -> bool
-    ensures { result ≡ marked limit m n }
-{
-    ((m == 0) & (n == 0)) | ((m == 1) & (n < limit))
-}
-
-fn is_stamped(m: u64, s: u64, n: u64, d: u64, o: u64) -> bool
-    ensures { result ≡ stamped m s n d o }
-{
-    ((m == 0) & (s == 0) & (n == 0) & (d == 0) & (o == 0))
-        | ((m == 1)
-            & (n < 4294967296)
-            & (d < 4294967296)
-            & ((o < 2147483648) | (18446744071562067967 < o)))
-}
-
-fn front_held(s: &[u8]) -> bool
-    requires { record_size ≤ length s.now }
-    ensures { result ≡ front_held s.now }
-{
-    is_marked(
-        4294967296,
-        word_at(s, PROTOCOL_WORD),
-        word_at(s, VERSION_WORD),
-    ) & is_marked(
-        256,
-        word_at(s, FACILITY_WORD),
-        word_at(s, FACILITY_WORD + 1),
-    ) & is_marked(
-        256,
-        word_at(s, SEVERITY_WORD),
-        word_at(s, SEVERITY_WORD + 1),
-    ) & is_stamped(
-        word_at(s, TIMESTAMP_WORD),
-        word_at(s, SECONDS_WORD),
-        word_at(s, NANOS_WORD),
-        word_at(s, DIGITS_WORD),
-        word_at(s, OFFSET_WORD),
-    )
-}
-
-fn marks_held(s: &[u8]) -> bool
-    requires { record_size ≤ length s.now }
-    ensures { result ≡ marks_held s.now }
-{
-    (word_at(s, HOST_WORD) < 2)
-        & (word_at(s, APP_WORD) < 2)
-        & (word_at(s, PROCID_WORD) < 2)
-        & (word_at(s, MSGID_WORD) < 2)
-}
-
-// Whether the bytes hold a record.
-pub fn holds_record(s: &[u8]) -> bool
-    ensures { result ≡ holds_record s.now }
-{
-    if s.len() < RECORD_SIZE {
-        return false;
-    }
-    front_held(s) & marks_held(s)
-}
-
-fn from_bits(n: u64) -> i64
-    ensures { result ≡ signed n }
-{
-    if n < 9223372036854775808 {
-        return base::join(n, 0);
-    }
-    base::negative(18446744073709551615 - n)
-}
-
-fn protocol_at(s: &[u8]) -> Protocol
-    requires record_size_in_bounds { record_size ≤ length s.now }
-    requires version_word_value { marked 4294967296 (word_at s.now protocol_word) (word_at s.now version_word) ≡ true }
-    ensures { result ≡ protocol_at (word_at s.now protocol_word) (word_at s.now version_word) }
-{
-    if word_at(s, PROTOCOL_WORD) == 0 {
-        return Protocol::Rfc3164;
-    }
-    Protocol::Rfc5424(word_at(s, VERSION_WORD) as u32)
-}
-
-// The level whose mark is word `i`.
-fn level_at(s: &[u8], i: usize) -> Level
-    requires record_size_in_bounds { record_size ≤ length s.now }
-    requires i_bound { i + 1 < word_count }
-    requires i_value { marked 256 (word_at s.now i) (word_at s.now (i + 1)) ≡ true }
-    ensures { result ≡ level_at (word_at s.now i) (word_at s.now (i + 1)) }
-{
-    if word_at(s, i) == 0 {
-        return Level::Unset;
-    }
-    Level::Set(word_at(s, i + 1) as u8)
+    u64::from_le_bytes(*s[i * 8..].first_chunk().unwrap())
 }
 
 // An offset from its word, two's complement.
@@ -397,86 +169,161 @@ pub fn offset_of(n: u64) -> i32
     requires { narrow n ≡ true }
     ensures { result ≡ signed n }
 {
-    base::narrow(from_bits(n))
+    n.cast_signed() as i32
 }
 
-fn time_of(s: u64, n: u64, d: u64, o: u64) -> Stamp
-    requires n_bound { n < 4294967296 }
-    requires d_bound { d < 4294967296 }
-    requires o_value { narrow o ≡ true }
-    ensures { result ≡ stamp_at 1 s n d o }
-{
-    Stamp::Stamped(Timestamp {
-        seconds: from_bits(s),
-        nanos: n as u32,
-        digits: d as u32,
-        offset: offset_of(o),
-    })
+// Memory that is long enough for a record.
+#[derive(Drop)]
+struct Memory<'a> {
+    bytes: &'a [u8],
+    ghost long: { record_size ≤ length bytes.now },
 }
 
-fn stamp_at(s: &[u8]) -> Stamp
-    requires record_size_in_bounds { record_size ≤ length s.now }
-    requires offset_word_value { stamped (word_at s.now timestamp_word) (word_at s.now seconds_word) (word_at s.now nanos_word) (word_at s.now digits_word) (word_at s.now offset_word) ≡ true }
-    ensures { result ≡ stamp_at (word_at s.now timestamp_word) (word_at s.now seconds_word) (word_at s.now nanos_word) (word_at s.now digits_word) (word_at s.now offset_word) }
-{
-    if word_at(s, TIMESTAMP_WORD) == 0 {
-        return Stamp::Unstamped;
+impl Memory<'_> {
+    fn word(&self, i: usize) -> u64
+        requires { i < word_count }
+        ensures { result ≡ word_at self.now.bytes.now i }
+    {
+        word_at(self.bytes, i)
     }
-    time_of(
-        word_at(s, SECONDS_WORD),
-        word_at(s, NANOS_WORD),
-        word_at(s, DIGITS_WORD),
-        word_at(s, OFFSET_WORD),
-    )
-}
 
-// The place whose mark is word `i`.
-fn place_at(s: &[u8], i: usize) -> Place
-    requires record_size_in_bounds { record_size ≤ length s.now }
-    requires i_bound { i + 2 < word_count }
-    ensures { result ≡ place_at s.now i }
-{
-    Place {
-        present: word_at(s, i) == 1,
-        start: word_at(s, i + 1) as usize,
-        len: word_at(s, i + 2) as usize,
+    // Whether word `i` is a mark of 0 with nothing behind it, or of 1 with a number below `limit`.
+    fn is_marked(&self, i: usize, limit: u64) -> bool
+        requires { i + 1 < word_count }
+        ensures { result ≡ marked limit (word_at self.now.bytes.now i) (word_at self.now.bytes.now (i + 1)) }
+    {
+        let n = self.word(i + 1);
+        match self.word(i) {
+            0 => n == 0,
+            1 => n < limit,
+            _ => false,
+        }
+    }
+
+    fn is_stamped(&self) -> bool
+        ensures { result ≡ stamped (word_at self.now.bytes.now timestamp_word) (word_at self.now.bytes.now seconds_word) (word_at self.now.bytes.now nanos_word) (word_at self.now.bytes.now digits_word) (word_at self.now.bytes.now offset_word) }
+    {
+        let seconds = self.word(SECONDS_WORD);
+        let nanos = self.word(NANOS_WORD);
+        let digits = self.word(DIGITS_WORD);
+        let offset = self.word(OFFSET_WORD);
+        match self.word(TIMESTAMP_WORD) {
+            0 => seconds == 0 && nanos == 0 && digits == 0 && offset == 0,
+            1 => u32::try_from(nanos).is_ok()
+                && u32::try_from(digits).is_ok()
+                && i32::try_from(offset.cast_signed()).is_ok(),
+            _ => false,
+        }
+    }
+
+    #[tactic(auto, unfolding(crate::specs::Incoming::front_held))]
+    fn front_held(&self) -> bool
+        ensures { result ≡ front_held self.now.bytes.now }
+    {
+        self.is_marked(PROTOCOL_WORD, 1 << 32)
+            && self.is_marked(FACILITY_WORD, 256)
+            && self.is_marked(SEVERITY_WORD, 256)
+            && self.is_stamped()
+    }
+
+    #[tactic(auto, unfolding(crate::specs::Incoming::marks_held))]
+    fn marks_held(&self) -> bool
+        ensures { result ≡ marks_held self.now.bytes.now }
+    {
+        self.word(HOST_WORD) < 2
+            && self.word(APP_WORD) < 2
+            && self.word(PROCID_WORD) < 2
+            && self.word(MSGID_WORD) < 2
+    }
+
+    fn protocol(&self) -> Protocol
+        requires { marked 4294967296 (word_at self.now.bytes.now protocol_word) (word_at self.now.bytes.now version_word) ≡ true }
+        ensures { result ≡ protocol_at (word_at self.now.bytes.now protocol_word) (word_at self.now.bytes.now version_word) }
+    {
+        match self.word(PROTOCOL_WORD) {
+            0 => Protocol::Rfc3164,
+            _ => Protocol::Rfc5424(self.word(VERSION_WORD) as u32),
+        }
+    }
+
+    // The level whose mark is word `i`.
+    fn level(&self, i: usize) -> Option<u8>
+        requires i_bound { i + 1 < word_count }
+        requires i_value { marked 256 (word_at self.now.bytes.now i) (word_at self.now.bytes.now (i + 1)) ≡ true }
+        ensures { result ≡ level_at (word_at self.now.bytes.now i) (word_at self.now.bytes.now (i + 1)) }
+    {
+        match self.word(i) {
+            0 => None,
+            _ => Some(self.word(i + 1) as u8),
+        }
+    }
+
+    fn stamp(&self) -> Option<Timestamp>
+        requires { stamped (word_at self.now.bytes.now timestamp_word) (word_at self.now.bytes.now seconds_word) (word_at self.now.bytes.now nanos_word) (word_at self.now.bytes.now digits_word) (word_at self.now.bytes.now offset_word) ≡ true }
+        ensures { result ≡ stamp_at (word_at self.now.bytes.now timestamp_word) (word_at self.now.bytes.now seconds_word) (word_at self.now.bytes.now nanos_word) (word_at self.now.bytes.now digits_word) (word_at self.now.bytes.now offset_word) }
+    {
+        match self.word(TIMESTAMP_WORD) {
+            0 => None,
+            _ => Some(Timestamp {
+                seconds: self.word(SECONDS_WORD).cast_signed(),
+                nanos: self.word(NANOS_WORD) as u32,
+                digits: self.word(DIGITS_WORD) as u32,
+                offset: offset_of(self.word(OFFSET_WORD)),
+            }),
+        }
+    }
+
+    // The place whose mark is word `i`.
+    fn place(&self, i: usize) -> Place
+        requires { i + 2 < word_count }
+        ensures { result ≡ place_at self.now.bytes.now i }
+    {
+        Place {
+            present: self.word(i) == 1,
+            start: self.word(i + 1) as usize,
+            len: self.word(i + 2) as usize,
+        }
+    }
+
+    fn message(&self) -> Span
+        ensures { result ≡ span_at self.now.bytes.now message_word }
+    {
+        Span {
+            start: self.word(MESSAGE_WORD) as usize,
+            len: self.word(MESSAGE_WORD + 1) as usize,
+        }
     }
 }
 
-fn message_at(s: &[u8]) -> Span
-    requires { record_size ≤ length s.now }
-    ensures { result ≡ span_at s.now message_word }
+// Whether the bytes hold a record.
+#[tactic(auto, unfolding(crate::specs::Incoming::holds_record))]
+pub fn holds_record(s: &[u8]) -> bool
+    ensures { result ≡ holds_record s.now }
 {
-    Span {
-        start: word_at(s, MESSAGE_WORD) as usize,
-        len: word_at(s, MESSAGE_WORD + 1) as usize,
+    if s.len() < RECORD_SIZE {
+        return false;
     }
+    let memory = Memory { bytes: s };
+    memory.front_held() && memory.marks_held()
 }
 
 // The record that bytes hold.
+#[tactic(auto, unfolding(crate::specs::Incoming::record_at))]
 pub fn record_at(s: &[u8]) -> Record
     requires { holds_record s.now ≡ true }
     ensures { result ≡ record_at s.now }
 {
-    let protocol = protocol_at(s);
-    let facility = level_at(s, FACILITY_WORD);
-    let severity = level_at(s, SEVERITY_WORD);
-    let timestamp = stamp_at(s);
-    let host = place_at(s, HOST_WORD);
-    let app = place_at(s, APP_WORD);
-    let procid = place_at(s, PROCID_WORD);
-    let msgid = place_at(s, MSGID_WORD);
-    let message = message_at(s);
+    let memory = Memory { bytes: s };
     Record {
-        protocol,
-        facility,
-        severity,
-        timestamp,
-        host,
-        app,
-        procid,
-        msgid,
-        message,
+        protocol: memory.protocol(),
+        facility: memory.level(FACILITY_WORD),
+        severity: memory.level(SEVERITY_WORD),
+        timestamp: memory.stamp(),
+        host: memory.place(HOST_WORD),
+        app: memory.place(APP_WORD),
+        procid: memory.place(PROCID_WORD),
+        msgid: memory.place(MSGID_WORD),
+        message: memory.message(),
     }
 }
 

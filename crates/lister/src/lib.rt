@@ -8,7 +8,7 @@ ghost use Rattle.frames.specs.States.{Keeps};
 
 use frames::{Options, State, Task};
 use program::{Process, Status, Takes};
-use record::StrictReading;
+use record::{Refusal, StrictReading};
 
 // What is told of a line that has no reading: how far it is right, and that in words too.
 #[derive(Clone, Copy)]
@@ -21,22 +21,16 @@ pub struct Telling {
 fn write_refusal(process: &Process, number: u32) -> bool {
     let mut text = *b"refuse .............";
     let n = frames::put_count(&mut text, 7, number, b'\n');
-    frames::write(process, b"list", &text[0..n])
+    frames::write(process, b"list", &text[..n])
 }
 
-// `refuse` with 4, and how many bytes of the line are right.
-fn write_place(process: &Process, reach: u32) -> bool {
-    let mut text = *b"refuse 4 .............";
-    let n = frames::put_count(&mut text, 9, reach, b'\n');
-    frames::write(process, b"list", &text[0..n])
-}
-
-// `accept` and the counts.
-fn write_counts(process: &Process, elements: u32, params: u32) -> bool {
-    let mut text = *b"accept .........................";
-    let next = frames::put_count(&mut text, 7, elements, b' ');
-    let n = frames::put_count(&mut text, next, params, b'\n');
-    frames::write(process, b"list", &text[0..n])
+// A word and two numbers: `accept` and the counts, or `refuse` with 4 and how many bytes of the line are right.
+fn write_two(process: &Process, word: &[u8; 6], first: u32, second: u32) -> bool {
+    let mut text = [b' '; 32];
+    text[..6].copy_from_slice(word);
+    let next = frames::put_count(&mut text, 7, first, b' ');
+    let n = frames::put_count(&mut text, next, second, b'\n');
+    frames::write(process, b"list", &text[..n])
 }
 
 // A count as it is written. (The tables have 64 and 256 entries, and a line 8,192 bytes: no count reaches the remainder.)
@@ -75,8 +69,7 @@ fn advance(process: &mut Process, line: &mut [u8], chunk: &mut [u8], s: State) -
     ensures left_lt_left { result.left < s.left }
 {
     let t = frames::advance(process, line, chunk, s);
-    let task = t.task;
-    frames::kept(t, said(process, task))
+    frames::kept(t, said(process, t.task))
 }
 
 // Where a line that has no reading breaks, as it is asked for.
@@ -85,35 +78,31 @@ fn write_break(process: &Process, line: &[u8], telling: Telling) -> bool {
     if line.len() < n {
         return false;
     }
-    let ok = write_place(process, shown(n));
-    let point = telling.point;
-    if ok & point {
-        return pointing::point(process, &line[0..n], &line[n..]);
-    }
-    ok
+    write_two(process, b"refuse", 4, shown(n))
+        && (!telling.point || pointing::point(process, &line[..n], &line[n..]))
 }
 
 // A refusal of the strict reader.
-fn refused(process: &Process, line: &[u8], number: u32, telling: Telling) -> bool {
-    let place = telling.place;
-    if (number == 4) & place {
-        return write_break(process, line, telling);
+fn refused(process: &Process, line: &[u8], refusal: Refusal, telling: Telling) -> bool {
+    match refusal {
+        Refusal::NoReading if telling.place => write_break(process, line, telling),
+        _ => write_refusal(process, u32::from(refusal)),
     }
-    write_refusal(process, number)
 }
 
 // What the strict reader answers to a frame is written. Where it cannot be, all is done.
-fn answered(process: &Process, frame: &[u8], s: State, r: StrictReading, telling: Telling) -> State
+fn answered(
+    process: &Process,
+    frame: &[u8],
+    s: State,
+    r: Result<StrictReading, Refusal>,
+    telling: Telling,
+) -> State
     ensures { Keeps s result }
 {
     let ok = match r {
-        StrictReading::Read(_, e, p) => write_counts(process, shown(e), shown(p)),
-        StrictReading::Refused(refusal) => refused(
-            process,
-            frame,
-            record::refusal_number(refusal),
-            telling,
-        ),
+        Ok(r) => write_two(process, b"accept", shown(r.elements), shown(r.params)),
+        Err(refusal) => refused(process, frame, refusal, telling),
     };
     frames::kept(s, ok)
 }
@@ -134,8 +123,8 @@ pub fn run(
         s = advance(process, line, chunk, s);
         if frames::is_read(s) {
             let used = frames::to_read(s);
-            let r = strict::read(&line[0..used], elements, &mut params);
-            s = answered(process, &line[0..used], s, r, telling);
+            let r = strict::read(&line[..used], elements, &mut params);
+            s = answered(process, &line[..used], s, r, telling);
         }
     }
     s.ok

@@ -1,4 +1,5 @@
 // The listing again, run with `--counted` on a stream of counted frames that a bad count ends.
+// The stored input of each listing program is its own, and so is its `main`: what they share is `lister::list`.
 #![tactic(auto)]
 
 use program::Process;

@@ -1,4 +1,5 @@
 // The listing again, run with `--crlf` on an input whose last line ends at LF.
+// The stored input of each listing program is its own, and so is its `main`: what they share is `lister::list`.
 #![tactic(auto)]
 
 use program::Process;

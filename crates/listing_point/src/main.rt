@@ -1,4 +1,5 @@
 // The listing again, run with `--point` on lines that break in each of their parts.
+// The stored input of each listing program is its own, and so is its `main`: what they share is `lister::list`.
 #![tactic(auto)]
 
 use program::Process;

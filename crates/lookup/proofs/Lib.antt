@@ -1,5 +1,4 @@
 pub mod Pairs
-pub mod Compared
 pub mod Unescaping
 pub mod Finding
 pub mod ByCharacters

@@ -9,7 +9,6 @@ use lib.Dec.{eqb}
 use lib.ListN.{length, get_or, drop, length-append}
 use mir.Syntax.{w64}
 use mir.Val as val
-use borrow.Author.Tests.{eq-eqb, ne_eqb, not-true, not-false}
 use Rattle.base.proofs.Tests.{by_test}
 use Rattle.base.proofs.Parts.{step, ended}
 use Rattle.output.specs.Fits.{Fits}
@@ -38,27 +37,6 @@ byte_adds : (loose taken : Bool) (b : ℕ) (t : List ℕ)
 unfolding unescaped_from
 byte_adds loose true b t = pair_front (is_escaped b) (loose && eqb b 110) b (unescaped_from loose false t)
 byte_adds loose false b t = plain_front (eqb b 92) b loose t
-
--- what `turn` answers
-module _ (loose taken : Bool) (b : ℕ) where
-  module _ (h : not taken ≡ true) where
-    pub turn_opens : b ≡ 92 → [] ≡ adds loose taken b
-    turn_opens e = rw (not-true taken h, eq-eqb b 92 e)
-
-    pub turn_plain : (b ≡ 92 → ⊥) → b ∷ [] ≡ adds loose taken b
-    turn_plain n = rw (not-true taken h, ne_eqb b 92 n)
-
-  module _ (h : not taken ≡ false) where
-    pub turn_escaped : is_escaped b ≡ true → b ∷ [] ≡ adds loose taken b
-    turn_escaped e = rw (not-false taken h, e)
-
-    pub turn_newline : is_escaped b ≡ false → (loose && eqb b 110) ≡ true → 10 ∷ [] ≡ adds loose taken b
-    turn_newline e n = rw (not-false taken h, e, n)
-
-    pub turn_stays : is_escaped b ≡ false → (loose && eqb b 110) ≡ false → 92 ∷ b ∷ [] ≡ adds loose taken b
-    turn_stays e n = rw (not-false taken h, e, n)
-
-pub ruleset turn_laws = (turn_opens, turn_plain, turn_escaped, turn_newline, turn_stays)
 
 -- the writes of what `turn` answered
 module _ (added : Added) where
@@ -106,23 +84,6 @@ from_le loose taken (b ∷ v) =
 -- what lookup gives is never longer than the value
 pub unescaped_le : (loose : Bool) (v : List ℕ) → length (unescaped loose v) ≤ length v
 unescaped_le loose v = omega (arith, from_le loose false v)
-
--- what `tail` answers
-tail_is : (loose taken : Bool) → unescaped_from loose taken [] ≡ (if taken && not loose then 92 ∷ [] else [])
-unfolding unescaped_from
-tail_is true true = refl
-tail_is true false = refl
-tail_is false true = refl
-tail_is false false = refl
-
-module _ (loose taken : Bool) where
-  pub tail_kept : (taken && not loose) ≡ true → 92 ∷ [] ≡ unescaped_from loose taken []
-  tail_kept e = rw (tail_is loose taken, e)
-
-  pub tail_gone : (taken && not loose) ≡ false → [] ≡ unescaped_from loose taken []
-  tail_gone e = rw (tail_is loose taken, e)
-
-pub ruleset tail_laws = (tail_kept, tail_gone)
 
 -- the walk: what comes next, and the rest after it
 module _ (v : List ℕ) (loose taken : Bool) (i : ℕ) (b : Added) where

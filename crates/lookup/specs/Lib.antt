@@ -1,5 +1,4 @@
 pub mod Unescape
 pub mod Lookup
 pub mod Steps
-pub mod Searches
 pub mod Characters

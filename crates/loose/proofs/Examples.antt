@@ -1,4 +1,5 @@
 -- The lines of RULES Cases for the loose reader, and each refusal in its order, computed from the definitions.
+use Rattle.std.specs.Prelude.{Option, Some, None, Result, Ok, Err}
 use Prim.Native.Nat.{ℕ}
 use mathlib.Core.Path.{◌≡◌, refl}
 use mathlib.Core.List.{List, [], ◌∷◌, map}
@@ -15,8 +16,6 @@ use Rattle.calendar.specs.Instant.{local_seconds, seconds_of, span_from, year_of
 use Rattle.record.specs.Places.{absent, place}
 use Rattle.record.specs.Records.{message_alone}
 use Rattle.record.specs.declared.Protocol.TheVariants.{Rfc3164, Rfc5424}
-use Rattle.record.specs.declared.Level.TheVariants.{Unset, Set}
-use Rattle.record.specs.declared.Stamp.TheVariants.{Unstamped, Stamped}
 use Rattle.pri.specs.Pri.{pri_at}
 use Rattle.parsers.specs.Parsers.{plain_at, host_at, tag_len, tag_at}
 use Rattle.parsers.specs.Steps.{some_blanks_from, byte_from, number_from, plain_from, host_from, tag_from}
@@ -34,15 +33,15 @@ use Rattle.rfc3164.specs.Rfc3164.{spaced_host, spaced_tag, tag_end, header_from,
 use Rattle.rfc5424.specs.Rfc5424.{blank_host, blank_plain, start_from, four_from, body_from as body_from5424, rfc5424}
 use Rattle.record.specs.declared.Place.{Place}
 use Rattle.record.specs.declared.Protocol.{Protocol}
-use Rattle.record.specs.declared.Level.{Level}
-use Rattle.record.specs.declared.Stamp.{Stamp}
 use Rattle.record.specs.declared.Reading.{Reading}
-use Rattle.record.specs.declared.Reading.TheVariants.{Whole, Refused}
+use Rattle.record.specs.declared.Reading.TheVariants.{Whole}
 use Rattle.record.specs.declared.Refusal.TheVariants.{LineTooLong, BadSetting, NotUtf8, TooManyElements, TooManyParams}
 use Rattle.loose.specs.Loose.{by_variant, outcome_of, answered}
+use Rattle.record.specs.declared.Timestamp.{Timestamp}
+use Rattle.record.specs.declared.Refusal.{Refusal}
 
 -- what is read, where the structured data stands and ends, and its rows
-abbrev reading : Protocol → Level → Level → Stamp → Place → Place → Place → Place → ℕ → ℕ → ℕ → List (List ℕ) → List (List ℕ) → ℕ → Outcome
+abbrev reading : Protocol → Option ℕ → Option ℕ → Option Timestamp → Place → Place → Place → Place → ℕ → ℕ → ℕ → List (List ℕ) → List (List ℕ) → ℕ → Outcome
 reading protocol facility severity stamp host app procid msgid start len at elements params next =
     is_reading
     (record {
@@ -60,15 +59,15 @@ reading protocol facility severity stamp host app procid msgid start len at elem
     (record { elements = elements; params = params; next = next })
 
 -- at +60
-abbrev stamped : ℕ → Stamp
-stamped seconds = Stamped (record { seconds = pos seconds; nanos = 0; digits = 0; offset = pos 60 })
+abbrev stamped : ℕ → Option Timestamp
+stamped seconds = Some (record { seconds = pos seconds; nanos = 0; digits = 0; offset = pos 60 })
 
 -- a line by a variant, in 2023 at +60
 abbrev read : ℕ × List ℕ → Outcome
 read c = outcome_of c.1 c.0 2023 (pos 60)
 
 -- the answer with tables of `e` and `p` entries
-abbrev answer : ℕ → ℕ → ℤ → ℕ → ℕ → List ℕ → Reading
+abbrev answer : ℕ → ℕ → ℤ → ℕ → ℕ → List ℕ → Result Reading Refusal
 answer variant year offset e p line = answered line variant year offset e p
 
 abbrev two : List ℕ
@@ -92,39 +91,39 @@ cases : (map read
     ∷ (2, bytes "<13>Feb 5 10:01:02 h t: m")
     ∷ (0, bytes "")
     ∷ [])
-    ≡ reading Rfc3164 (Set 1) (Set 5) (stamped 1675587662) (place 20 5) (place 26 6) (place 33 2) absent 38 6 38 [] [] 38
-    ∷ reading Rfc3164 (Set 1) (Set 5) (stamped 1675587662) (place 22 5) (place 28 6) (place 35 2) absent 40 6 40 [] [] 40
-    ∷ reading Rfc3164 (Set 23) (Set 7) (stamped 1675587662) (place 20 1) (place 22 1) absent absent 25 3 25 [] [] 25
-    ∷ reading Rfc3164 Unset (Set 0) (stamped 1675587662) (place 20 1) (place 22 1) absent absent 25 5 25 [] [] 25
+    ≡ reading Rfc3164 (Some 1) (Some 5) (stamped 1675587662) (place 20 5) (place 26 6) (place 33 2) absent 38 6 38 [] [] 38
+    ∷ reading Rfc3164 (Some 1) (Some 5) (stamped 1675587662) (place 22 5) (place 28 6) (place 35 2) absent 40 6 40 [] [] 40
+    ∷ reading Rfc3164 (Some 23) (Some 7) (stamped 1675587662) (place 20 1) (place 22 1) absent absent 25 3 25 [] [] 25
+    ∷ reading Rfc3164 None (Some 0) (stamped 1675587662) (place 20 1) (place 22 1) absent absent 25 5 25 [] [] 25
     ∷ no_reading
-    ∷ reading Rfc3164 Unset Unset (stamped 1675587662) absent absent absent absent 23 1 23 [] [] 23
-    ∷ reading Rfc3164 Unset Unset (stamped 1675591262) (place 20 1) (place 22 1) absent absent 25 1 25 [] [] 25
-    ∷ reading (Rfc5424 1) (Set 1) (Set 5) Unstamped (place 8 1) (place 10 1) (place 12 1) (place 14 1) 25 5 16 [] [] 25
-    ∷ reading (Rfc5424 1) (Set 1) (Set 5) Unstamped (place 8 1) (place 10 1) (place 12 1) (place 14 1) 28 0 16 ((17 ∷ 2 ∷ []) ∷ []) ((0 ∷ 20 ∷ 1 ∷ 23 ∷ 3 ∷ []) ∷ []) 28
+    ∷ reading Rfc3164 None None (stamped 1675587662) absent absent absent absent 23 1 23 [] [] 23
+    ∷ reading Rfc3164 None None (stamped 1675591262) (place 20 1) (place 22 1) absent absent 25 1 25 [] [] 25
+    ∷ reading (Rfc5424 1) (Some 1) (Some 5) None (place 8 1) (place 10 1) (place 12 1) (place 14 1) 25 5 16 [] [] 25
+    ∷ reading (Rfc5424 1) (Some 1) (Some 5) None (place 8 1) (place 10 1) (place 12 1) (place 14 1) 28 0 16 ((17 ∷ 2 ∷ []) ∷ []) ((0 ∷ 20 ∷ 1 ∷ 23 ∷ 3 ∷ []) ∷ []) 28
     ∷ no_reading
-    ∷ reading (Rfc5424 1) (Set 1) (Set 5) (stamped 1709197262) (place 32 1) (place 34 1) (place 36 1) (place 38 1) 42 1 40 [] [] 41
+    ∷ reading (Rfc5424 1) (Some 1) (Some 5) (stamped 1709197262) (place 32 1) (place 34 1) (place 36 1) (place 38 1) 42 1 40 [] [] 41
     ∷ no_reading
     ∷ no_reading
-    ∷ reading (Rfc5424 1) (Set 1) (Set 5) Unstamped (place 8 1) (place 10 1) (place 12 1) (place 14 1) 18 1 16 [] [] 17
+    ∷ reading (Rfc5424 1) (Some 1) (Some 5) None (place 8 1) (place 10 1) (place 12 1) (place 14 1) 18 1 16 [] [] 17
     ∷ no_reading
     ∷ no_reading
     ∷ [])
     × (map (answer 0 2023 (pos 60) 0 0) (bytes "" ∷ (0xC3 ∷ 0x28 ∷ []) ∷ bytes " hello " ∷ two ∷ [])
-    ≡ Whole (message_alone 0) ∷ Refused NotUtf8 ∷ Whole (message_alone 7) ∷ Refused TooManyElements ∷ [])
+    ≡ Ok (Whole (message_alone 0)) ∷ Err NotUtf8 ∷ Ok (Whole (message_alone 7)) ∷ Err TooManyElements ∷ [])
     × (answer 3 2023 (pos 60) 2 1 two ∷ answer 2 10000 (pos 60) 2 1 two ∷ answer 2 2023 (pos 1440) 2 1 two ∷ answer 2 2023 (negsuc 1439) 2 1 two
     ∷ answer 2 9999 (negsuc 1438) 1 0 two ∷ answer 2 0 (pos 1439) 2 0 two ∷ answer 3 2023 (pos 60) 2 1 (0xFF ∷ []) ∷ []
-    ≡ Refused BadSetting ∷ Refused BadSetting ∷ Refused BadSetting ∷ Refused BadSetting
-    ∷ Refused TooManyElements ∷ Refused TooManyParams ∷ Refused BadSetting ∷ [])
-    × (map (λ n. answer 3 2023 (pos 60) 0 0 (replicate n 97)) (8192 ∷ 8193 ∷ []) ≡ Refused BadSetting ∷ Refused LineTooLong ∷ [])
+    ≡ Err BadSetting ∷ Err BadSetting ∷ Err BadSetting ∷ Err BadSetting
+    ∷ Err TooManyElements ∷ Err TooManyParams ∷ Err BadSetting ∷ [])
+    × (map (λ n. answer 3 2023 (pos 60) 0 0 (replicate n 97)) (8192 ∷ 8193 ∷ []) ≡ Err BadSetting ∷ Err LineTooLong ∷ [])
 unfolding outcome_of by_variant utf8_from trimmed text_end white_from white_len code_point is_white char_len well_formed lead_of run field_len decimal_from number_at fixed_at fraction_at leap month_days valid_date valid_time valid year_days days_before_year days_of_months day_number local_seconds seconds_of span_from year_of month_of clock_of shown pri_at plain_at host_at tag_len tag_at some_blanks_from byte_from number_from plain_from host_from tag_from named_from month_number month_from clock_from fixed_from either_from date_from time_from nanos_from minutes_from zone_from end_from full_from rfc3339_from day_from without_year with_year rfc3164_from quoted_len param_at id_len more_params params_from element_from item_from elements_from data_from split_at split_of host_and_tag spaced_host spaced_tag tag_end header_from body_from rfc3164 blank_host blank_plain start_from four_from body_from5424 rfc5424
 cases = (refl, refl, refl, refl)
 
 -- a line that is the message, written out
 whole_line : message_alone 7 ≡ record {
   protocol = Rfc3164;
-  facility = Unset;
-  severity = Unset;
-  timestamp = Unstamped;
+  facility = None;
+  severity = None;
+  timestamp = None;
   host = absent;
   app = absent;
   procid = absent;

@@ -1,4 +1,5 @@
 -- The readings: what was judged, and the tables.
+use Rattle.std.specs.Prelude.{Result, Ok}
 use Prim.Native.Nat.{ℕ, ◌-◌, ◌≤◌}
 use mathlib.Core.Path.{◌≡◌, refl, sym, ◌∙◌}
 use mathlib.Core.Bool.{Bool, true, false}
@@ -23,10 +24,11 @@ use Rattle.loose.specs.declared.Data.{Data}
 use Rattle.loose.specs.declared.Judged.{Judged}
 use Rattle.loose.specs.declared.Judged.TheVariants.{Settled, Fitting}
 use Rattle.loose.proofs.Judging.{passed}
+use Rattle.record.specs.declared.Refusal.{Refusal}
 
 -- what was judged, and what is asked of it
 module _ (j : Judged) where
-  module _ (x : Reading) (z : j ≡ Settled x) where
+  module _ (x : Result Reading Refusal) (z : j ≡ Settled x) where
     pub fitting_settled : false ≡ is_fitting j
     fitting_settled = rw z
 
@@ -49,7 +51,7 @@ module _ (j : Judged) where
     pub data_read : record { end = end; at = at; ids = n; params = m } ≡ data_of j
     data_read = rw z
 
-    pub reading_read : Read r n m ≡ reading_of j
+    pub reading_read : Ok (Read r n m) ≡ reading_of j
     reading_read = rw z
 
 pub ruleset asked_laws = (fitting_settled, rules_settled, data_settled, reading_settled, fitting_read, rules_read, data_read, reading_read)
@@ -59,28 +61,28 @@ module _ (line : List ℕ) (variant year : ℕ) (o : ℤ) (f : SFits w32 o) (e p
   here : Judges line variant year o e p j
   here = rw (to_z-of_z w32 o f) at c
 
-  settles : (x : Reading) → j ≡ Settled x → Settles line variant year o e p x
+  settles : (x : Result Reading Refusal) → j ≡ Settled x → Settles line variant year o e p x
   settles x z = rw z at here.is
 
   module _ (rules : Rules) (r : Record) (end at n m : ℕ) (z : j ≡ Fitting rules end r at n m) where
     fits : Fits line variant year o e p rules r end at n m
     fits = rw z at here.is
 
-    answer_read : Read r n m ≡ answered line variant year o e p
+    answer_read : Ok (Read r n m) ≡ answered line variant year o e p
     answer_read =
         let d = fits.drafts in
         passed line variant year o fits.passes e p _
         (rw (d.is, ← d.elements_are, le-ltb e n fits.elements_fit_lem, ← d.params_are, le-ltb p m fits.params_fit_lem))
 
 pub answer_is : (line : List ℕ) (variant year : ℕ) (o : ℤ) → SFits w32 o → (e p : ℕ) (j : Judged) → Judges line variant year (to_z w32 (of_z w32 o)) e p j
-    → (x : Reading) → x ≡ reading_of j → x ≡ answered line variant year o e p
+    → (x : Result Reading Refusal) → x ≡ reading_of j → x ≡ answered line variant year o e p
 answer_is line variant year o f e p (Settled a) c x h = h ∙ (settles line variant year o f e p (Settled a) c a refl).answer
 answer_is line variant year o f e p (Fitting rules end r at n m) c x h = h ∙ answer_read line variant year o f e p (Fitting rules end r at n m) c rules r end at n m refl
 
 -- and of the tables
 module _ (line : List ℕ) (variant year : ℕ) (o : ℤ) (f : SFits w32 o) (e₀ p₀ : List (List ℕ)) (j : Judged)
     (c : Judges line variant year (to_z w32 (of_z w32 o)) (length e₀) (length p₀) j) where
-  reads_settled : (x : Reading) → j ≡ Settled x → Reads line variant year o e₀ p₀ x e₀ p₀
+  reads_settled : (x : Result Reading Refusal) → j ≡ Settled x → Reads line variant year o e₀ p₀ x e₀ p₀
   reads_settled x z =
       let s = settles line variant year o f (length e₀) (length p₀) j c x z in
       record { answer = s.answer; elements = s.keeps _ e₀; params = s.keeps _ p₀ }
@@ -100,7 +102,7 @@ module _ (line : List ℕ) (variant year : ℕ) (o : ℤ) (f : SFits w32 o) (e�
         let d = fitting.drafts in
         rw part_whole (record { elements_are = d.elements_are; params_are = d.params_are; elements_fit_lem = fitting.elements_fit_lem; params_fit_lem = fitting.params_fit_lem })
 
-    reads_fitting : (e₁ p₁ : List (List ℕ)) → Fills rules (take (end - 0) line) at e₀ p₀ e₁ p₁ → Reads line variant year o e₀ p₀ (Read r n m) e₁ p₁
+    reads_fitting : (e₁ p₁ : List (List ℕ)) → Fills rules (take (end - 0) line) at e₀ p₀ e₁ p₁ → Reads line variant year o e₀ p₀ (Ok (Read r n m)) e₁ p₁
     reads_fitting e₁ p₁ g =
         let d = fitting.drafts in
         let k : Fills rules (take end line) at e₀ p₀ e₁ p₁ = rw part_whole at g in
@@ -111,7 +113,7 @@ module _ (line : List ℕ) (variant year : ℕ) (o : ℤ) (f : SFits w32 o) (e�
         }
 
 -- What is asked of a judgement is right for the tables: as they are where the answer is settled, and filled where it is read.
-pub record Served (line : List ℕ) (variant year : ℕ) (o : ℤ) (e₀ p₀ : List (List ℕ)) (reads : Bool) (rules : Rules) (d : Data) (x : Reading) : Type 0 where
+pub record Served (line : List ℕ) (variant year : ℕ) (o : ℤ) (e₀ p₀ : List (List ℕ)) (reads : Bool) (rules : Rules) (d : Data) (x : Result Reading Refusal) : Type 0 where
   pub as_they_are : reads ≡ false → Reads line variant year o e₀ p₀ x e₀ p₀
   pub inside : reads ≡ true → d.end ≤ length line
   pub room : reads ≡ true → Room rules (take (d.end - 0) line) d.at d.ids d.params e₀ p₀

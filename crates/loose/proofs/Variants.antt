@@ -1,4 +1,5 @@
 -- The reading that the variant asks for, and its rows.
+use Rattle.std.specs.Prelude.{Option, Some, None}
 use Prim.Native.Nat.{ℕ}
 use mathlib.Core.Path.{◌≡◌, sym, ◌∙◌}
 use mathlib.Core.List.{List}
@@ -16,7 +17,6 @@ use Rattle.draft.specs.Outcome.{Outcome}
 use Rattle.draft.specs.Outcome.Outcome.{no_reading, is_reading}
 use Rattle.draft.specs.Drafts.{draft_of}
 use Rattle.draft.specs.declared.Draft.{Draft}
-use Rattle.draft.specs.declared.Draft.TheVariants.{NoDraft, IsDraft}
 use Rattle.draft.proofs.Outcomes.{no_draft, RowsIn}
 use Rattle.rfc3164.specs.Rfc3164.{rfc3164}
 use Rattle.rfc3164.proofs.Lines as by-3164
@@ -25,7 +25,7 @@ use Rattle.rfc5424.proofs.Lines as by-5424
 use Rattle.loose.specs.Loose.{or_else, by_variant}
 
 module _ (s : List ℕ) (start variant year : ℕ) (o : ℤ) (f : SFits w32 o) where
-  module _ (d : Draft) (h : d ≡ draft_of (rfc3164 year (to_z w32 (of_z w32 o)) s start)) where
+  module _ (d : Option Draft) (h : d ≡ draft_of (rfc3164 year (to_z w32 (of_z w32 o)) s start)) where
     here : d ≡ draft_of (rfc3164 year o s start)
     here = rw (to_z-of_z w32 o f) at h
 
@@ -33,12 +33,12 @@ module _ (s : List ℕ) (start variant year : ℕ) (o : ℤ) (f : SFits w32 o) w
     unfolding by_variant
     variant_3164 z = rw z here
 
-    pub variant_second : variant ≡ 0 → (g : Draft) → g ≡ draft_of (rfc5424 s start) → g ≡ NoDraft → d ≡ draft_of (by_variant variant year o s start)
+    pub variant_second : variant ≡ 0 → (g : Option Draft) → g ≡ draft_of (rfc5424 s start) → g ≡ None → d ≡ draft_of (by_variant variant year o s start)
     unfolding by_variant
     variant_second z g e q = rw (z, no_draft (rfc5424 s start) (sym q ∙ e)) here
 
-  module _ (z : variant ≡ 1 → ⊥) (g : Draft) (e : g ≡ draft_of (rfc5424 s start)) where
-    pub variant_first : (rules : Rules) (r : Record) (at n m : ℕ) → g ≡ IsDraft rules r at n m → g ≡ draft_of (by_variant variant year o s start)
+  module _ (z : variant ≡ 1 → ⊥) (g : Option Draft) (e : g ≡ draft_of (rfc5424 s start)) where
+    pub variant_first : (rules : Rules) (r : Record) (at n m : ℕ) → g ≡ Some (record { rules = rules; read = r; at = at; elements = n; params = m }) → g ≡ draft_of (by_variant variant year o s start)
     unfolding by_variant
     variant_first rules r at n m q =
         rw (ne_eqb variant 1 z)

@@ -1,5 +1,5 @@
 -- What the reader knows of a line before a table is touched. (For private contracts alone.)
-use Rattle.std.specs.Prelude.{ℕ, ◌-◌, ◌≤◌, ◌≡◌, List, Bool, true, false, length, take, ℤ}
+use Rattle.std.specs.Prelude.{ℕ, ◌-◌, ◌≤◌, ◌≡◌, List, Bool, true, false, length, take, ℤ, Result, Ok}
 use Rattle.utf8.specs.Lead.{is_utf8}
 use Rattle.record.specs.Limits.{line_limit}
 use Rattle.record.specs.declared.Record.{Record}
@@ -15,6 +15,7 @@ use Rattle.loose.specs.Loose.{outcome_of, settings_ok, answered, table_after}
 use Rattle.loose.specs.declared.Judged.{Judged}
 use Rattle.loose.specs.declared.Judged.TheVariants.{Settled, Fitting}
 use Rattle.loose.specs.declared.Data.{Data}
+use Rattle.record.specs.declared.Refusal.{Refusal}
 
 -- a reading of the text `s` whose rows are those of its structured data by the rules
 pub record Drafts (s : List ℕ) (o : Outcome) (rules : Rules) (r : Record) (at e p : ℕ) : Type 0 where
@@ -37,7 +38,7 @@ pub record Fits (line : List ℕ) (variant year : ℕ) (offset : ℤ) (e p : ℕ
   pub params_fit_lem : m ≤ p
 
 -- an answer that leaves the tables as they are
-pub record Settles (line : List ℕ) (variant year : ℕ) (offset : ℤ) (e p : ℕ) (x : Reading) : Type 0 where
+pub record Settles (line : List ℕ) (variant year : ℕ) (offset : ℤ) (e p : ℕ) (x : Result Reading Refusal) : Type 0 where
   pub answer : x ≡ answered line variant year offset e p
   pub keeps : (rows old : List (List ℕ)) → old ≡ table_after x rows old
 
@@ -61,9 +62,9 @@ abbrev pub data_of : Judged → Data
 data_of (Settled x) = record { end = 0; at = 0; ids = 0; params = 0 }
 data_of (Fitting rules end r at n m) = record { end = end; at = at; ids = n; params = m }
 
-abbrev pub reading_of : Judged → Reading
+abbrev pub reading_of : Judged → Result Reading Refusal
 reading_of (Settled x) = x
-reading_of (Fitting rules end r at n m) = Read r n m
+reading_of (Fitting rules end r at n m) = Ok (Read r n m)
 
 -- where the line is read, tables with room for its rows
 pub record Fillable (line : List ℕ) (j : Judged) (e₀ p₀ : List (List ℕ)) : Type 0 where

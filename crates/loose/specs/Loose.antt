@@ -1,5 +1,5 @@
 -- lib.rs: the loose reader. Refusals 1, 2, 3, 5 and 6 in order, the record, the counts and the tables.
-use Rattle.std.specs.Prelude.{ℕ, ◌≡◌, List, Bool, not, ◌&&◌, leb, ltb, eqb, length, take, ℤ, if◌then◌else◌}
+use Rattle.std.specs.Prelude.{ℕ, ◌≡◌, List, Bool, not, ◌&&◌, leb, ltb, eqb, length, take, ℤ, if◌then◌else◌, Result, Ok, Err}
 use Rattle.base.specs.Fills.{filled}
 use Rattle.utf8.specs.Lead.{is_utf8}
 use Rattle.white.specs.Trim.{trimmed}
@@ -7,13 +7,14 @@ use Rattle.calendar.specs.Calendar.{last_year, valid_offset}
 use Rattle.record.specs.Limits.{line_limit}
 use Rattle.record.specs.Records.{message_alone}
 use Rattle.record.specs.declared.Reading.{Reading}
-use Rattle.record.specs.declared.Reading.TheVariants.{Read, Whole, Refused}
+use Rattle.record.specs.declared.Reading.TheVariants.{Read, Whole}
 use Rattle.record.specs.declared.Refusal.TheVariants.{LineTooLong, BadSetting, NotUtf8, TooManyElements, TooManyParams}
 use Rattle.structured_data.specs.Data.{Rows, end_at}
 use Rattle.draft.specs.Outcome.{Outcome}
 use Rattle.draft.specs.Outcome.Outcome.{no_reading, is_reading}
 use Rattle.rfc3164.specs.Rfc3164.{rfc3164}
 use Rattle.rfc5424.specs.Rfc5424.{rfc5424}
+use Rattle.record.specs.declared.Refusal.{Refusal}
 
 -- the first that is a reading
 abbrev pub or_else : Outcome → Outcome → Outcome
@@ -36,33 +37,33 @@ abbrev pub settings_ok : ℕ → ℕ → ℤ → Bool
 settings_ok variant year offset = leb variant 2 && leb year last_year && valid_offset offset
 
 -- A line with no reading becomes the message whole and untrimmed, protocol RFC 3164, nothing else set. A reading is refused with 5 and 6 by tables of `e` and `p` entries.
-abbrev pub judged : List ℕ → Outcome → ℕ → ℕ → Reading
-judged line no_reading e p = Whole (message_alone (length line))
+abbrev pub judged : List ℕ → Outcome → ℕ → ℕ → Result Reading Refusal
+judged line no_reading e p = Ok (Whole (message_alone (length line)))
 judged line (is_reading r at rows) e p =
-    if ltb e (length rows.elements) then Refused TooManyElements
-    else if ltb p (length rows.params) then Refused TooManyParams
-    else Read r (length rows.elements) (length rows.params)
+    if ltb e (length rows.elements) then Err TooManyElements
+    else if ltb p (length rows.params) then Err TooManyParams
+    else Ok (Read r (length rows.elements) (length rows.params))
 
 -- refusals 1, 2 and 3, and then what the outcome gives
-abbrev pub answered : List ℕ → ℕ → ℕ → ℤ → ℕ → ℕ → Reading
+abbrev pub answered : List ℕ → ℕ → ℕ → ℤ → ℕ → ℕ → Result Reading Refusal
 answered line variant year offset e p =
-    if ltb line_limit (length line) then Refused LineTooLong
-    else if not (settings_ok variant year offset) then Refused BadSetting
-    else if not (is_utf8 line) then Refused NotUtf8
+    if ltb line_limit (length line) then Err LineTooLong
+    else if not (settings_ok variant year offset) then Err BadSetting
+    else if not (is_utf8 line) then Err NotUtf8
     else judged line (outcome_of line variant year offset) e p
 
 -- the tables after a call: the rows in front where the line is read; unchanged where it is the message, and on a refusal
-abbrev pub table_after : Reading → List (List ℕ) → List (List ℕ) → List (List ℕ)
-table_after (Read r e p) rows old = filled rows old
-table_after (Whole r) rows old = old
-table_after (Refused f) rows old = old
+abbrev pub table_after : Result Reading Refusal → List (List ℕ) → List (List ℕ) → List (List ℕ)
+table_after (Ok (Read r e p)) rows old = filled rows old
+table_after (Ok (Whole r)) rows old = old
+table_after (Err f) rows old = old
 
 abbrev pub rows_of : Outcome → Rows
 rows_of no_reading = end_at 0
 rows_of (is_reading r at rows) = rows
 
 -- loose reading into tables that held e₀ and p₀ and hold e₁ and p₁
-pub record Reads (line : List ℕ) (variant year : ℕ) (offset : ℤ) (e₀ p₀ : List (List ℕ)) (r : Reading) (e₁ p₁ : List (List ℕ)) : Type 0 where
+pub record Reads (line : List ℕ) (variant year : ℕ) (offset : ℤ) (e₀ p₀ : List (List ℕ)) (r : Result Reading Refusal) (e₁ p₁ : List (List ℕ)) : Type 0 where
   pub answer : r ≡ answered line variant year offset (length e₀) (length p₀)
   pub elements : e₁ ≡ table_after r (rows_of (outcome_of line variant year offset)).elements e₀
   pub params : p₁ ≡ table_after r (rows_of (outcome_of line variant year offset)).params p₀

@@ -15,7 +15,7 @@ use structured_data::Rules;
 // stands before the record, so that the records of both lie at one place and are copied whole.
 #[derive(Clone, Copy)]
 pub enum Judged {
-    Settled(Reading),
+    Settled(Result<Reading, Refusal>),
     Fitting {
         rules: Rules,
         end: usize,
@@ -33,7 +33,7 @@ fn settings_ok(variant: u32, year: u32, offset: i32) -> bool
 }
 
 // Variant 0 tries RFC 5424, then RFC 3164; 1 is RFC 3164, 2 RFC 5424.
-fn by_variant(s: &[u8], start: usize, variant: u32, year: u32, offset: i32) -> Draft
+fn by_variant(s: &[u8], start: usize, variant: u32, year: u32, offset: i32) -> Option<Draft>
     requires { start ≤ length s.now }
     ensures { result ≡ draft_of (by_variant variant year offset s.now start) }
 {
@@ -41,7 +41,7 @@ fn by_variant(s: &[u8], start: usize, variant: u32, year: u32, offset: i32) -> D
         return rfc3164::rfc3164(s, start, year, offset);
     }
     let draft = rfc5424::rfc5424(s, start);
-    let Draft::NoDraft = draft else {
+    let None = draft else {
         return draft;
     };
     if variant == 0 {
@@ -57,21 +57,23 @@ fn judge_text(line: &[u8], variant: u32, year: u32, offset: i32, e: usize, p: us
 {
     let ends = white::trim(line);
     let end = ends.end;
-    let Draft::IsDraft {
-        rules,
-        read,
-        at,
-        elements,
-        params,
-    } = by_variant(&line[0..end], ends.start, variant, year, offset)
+    let Some(
+        Draft {
+            rules,
+            read,
+            at,
+            elements,
+            params,
+        },
+    ) = by_variant(&line[0..end], ends.start, variant, year, offset)
     else {
-        return Judged::Settled(Reading::Whole(record::message_alone(line.len())));
+        return Judged::Settled(Ok(Reading::Whole(record::message_alone(line.len()))));
     };
     if e < elements {
-        return Judged::Settled(Reading::Refused(Refusal::TooManyElements));
+        return Judged::Settled(Err(Refusal::TooManyElements));
     }
     if p < params {
-        return Judged::Settled(Reading::Refused(Refusal::TooManyParams));
+        return Judged::Settled(Err(Refusal::TooManyParams));
     }
     Judged::Fitting {
         rules,
@@ -88,13 +90,13 @@ pub fn judge(line: &[u8], variant: u32, year: u32, offset: i32, e: usize, p: usi
     ensures { Judges line.now variant year offset e p result }
 {
     if record::LINE_LIMIT < line.len() {
-        return Judged::Settled(Reading::Refused(Refusal::LineTooLong));
+        return Judged::Settled(Err(Refusal::LineTooLong));
     }
     if !settings_ok(variant, year, offset) {
-        return Judged::Settled(Reading::Refused(Refusal::BadSetting));
+        return Judged::Settled(Err(Refusal::BadSetting));
     }
     if !utf8::is_utf8(line) {
-        return Judged::Settled(Reading::Refused(Refusal::NotUtf8));
+        return Judged::Settled(Err(Refusal::NotUtf8));
     }
     judge_text(line, variant, year, offset, e, p)
 }
@@ -167,7 +169,7 @@ fn rules_of(judged: Judged) -> Rules
     }
 }
 
-pub fn reading_of(judged: Judged) -> Reading
+pub fn reading_of(judged: Judged) -> Result<Reading, Refusal>
     ensures { result ≡ reading_of judged }
 {
     match judged {
@@ -179,12 +181,19 @@ pub fn reading_of(judged: Judged) -> Reading
             at: _,
             elements,
             params,
-        } => Reading::Read(read, elements, params),
+        } => Ok(Reading::Read(read, elements, params)),
     }
 }
 
 // What is answered to tables of `e` and `p` entries, with no table at hand.
-pub fn answer(line: &[u8], variant: u32, year: u32, offset: i32, e: usize, p: usize) -> Reading
+pub fn answer(
+    line: &[u8],
+    variant: u32,
+    year: u32,
+    offset: i32,
+    e: usize,
+    p: usize,
+) -> Result<Reading, Refusal>
     ensures { result ≡ answered line.now variant year offset e p }
 {
     reading_of(judge(line, variant, year, offset, e, p))
@@ -214,7 +223,7 @@ pub fn read(
     offset: i32,
     elements: &mut [[usize; 2]],
     params: &mut [Param],
-) -> Reading
+) -> Result<Reading, Refusal>
     ensures { Reads line.now variant year offset elements.old (rows params.old) result elements.new (rows params.new) }
 {
     let e = elements.len();

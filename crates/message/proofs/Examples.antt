@@ -1,4 +1,5 @@
 -- Worked examples, computed from the definitions.
+use Rattle.std.specs.Prelude.{Some, None, Ok, Err}
 use Prim.Native.Nat.{ℕ}
 use mathlib.Core.Path.{◌≡◌, refl}
 use mathlib.Core.List.{List, [], ◌∷◌, map}
@@ -10,11 +11,8 @@ use Rattle.calendar.specs.Instant.{span_from, year_of, month_of, clock_of, shown
 use Rattle.record.specs.Places.{absent, place}
 use Rattle.record.specs.Records.{empty_record}
 use Rattle.record.specs.declared.Protocol.TheVariants.{Rfc3164, Rfc5424}
-use Rattle.record.specs.declared.Level.TheVariants.{Set}
-use Rattle.record.specs.declared.Stamp.TheVariants.{Unstamped, Stamped}
 use Rattle.record.specs.declared.Record.{Record}
 use Rattle.record.specs.declared.Refusal.TheVariants.{LineTooLong, Unsuitable, OutputShort}
-use Rattle.record.specs.declared.Written.TheVariants.{Done, Refused}
 use Rattle.suits.specs.Suits.{record_suits, elements_suit, params_suit, tables_suit, suits}
 use Rattle.output.specs.Numerals.{fixed, width_from}
 use Rattle.message_stamp.specs.Stamps.{date_text, time_text, clock_text, fraction_text, offset_text}
@@ -29,9 +27,9 @@ tap : Record
 tap =
     record {
       protocol = Rfc3164;
-      facility = Set 1;
-      severity = Set 5;
-      timestamp = Stamped (record { seconds = pos 1675587662; nanos = 0; digits = 0; offset = pos 60 });
+      facility = Some 1;
+      severity = Some 5;
+      timestamp = Some (record { seconds = pos 1675587662; nanos = 0; digits = 0; offset = pos 60 });
       host = place 20 5;
       app = place 26 6;
       procid = place 33 2;
@@ -54,9 +52,9 @@ event : Record
 event =
     record {
       protocol = Rfc5424 1;
-      facility = Set 4;
-      severity = Set 2;
-      timestamp = Unstamped;
+      facility = Some 4;
+      severity = Some 2;
+      timestamp = None;
       host = place 8 5;
       app = place 14 6;
       procid = place 21 2;
@@ -85,12 +83,12 @@ unfolding printed head_text pri_text field_text elements_text fixed width_from
 empty_printed = refl
 
 -- an output of exactly that length is long enough, and one of a byte less is not
-answers : (answered line tap 0 0 [] [] text 55 ≡ Done 55) × (answered line tap 0 0 [] [] text 54 ≡ Refused OutputShort) × (answered line tap 1 0 [] [] text 55 ≡ Refused Unsuitable)
+answers : (answered line tap 0 0 [] [] text 55 ≡ Ok 55) × (answered line tap 0 0 [] [] text 54 ≡ Err OutputShort) × (answered line tap 1 0 [] [] text 55 ≡ Err Unsuitable)
 unfolding line tap text suits record_suits tables_suit elements_suit params_suit leap month_days year_days days_before_year days_of_months span_from year_of month_of clock_of shown
 answers = (refl, refl, refl)
 
 -- the longest line
-lengths : map (λ n. answered (replicate n 32) empty_record 0 0 [] [] [] 0) (8192 ∷ 8193 ∷ []) ≡ Done 0 ∷ Refused LineTooLong ∷ []
+lengths : map (λ n. answered (replicate n 32) empty_record 0 0 [] [] [] 0) (8192 ∷ 8193 ∷ []) ≡ Ok 0 ∷ Err LineTooLong ∷ []
 unfolding suits record_suits tables_suit elements_suit params_suit
 lengths = refl
 

@@ -1,9 +1,7 @@
 -- message.rs: a record as text.
-use Rattle.std.specs.Prelude.{ℕ, ◌+◌, ◌*◌, List, [], ◌∷◌, ◌++◌, eqb, get_or, if◌then◌else◌}
+use Rattle.std.specs.Prelude.{ℕ, ◌+◌, ◌*◌, List, [], ◌∷◌, ◌++◌, eqb, get_or, if◌then◌else◌, Option, Some, None}
 use Rattle.base.specs.Bytes.{bytes}
 use Rattle.base.specs.Texts.{text_at}
-use Rattle.record.specs.declared.Level.{Level}
-use Rattle.record.specs.declared.Level.TheVariants.{Unset, Set}
 use Rattle.record.specs.declared.Place.{Place}
 use Rattle.record.specs.declared.Protocol.{Protocol}
 use Rattle.record.specs.declared.Protocol.TheVariants.{Rfc3164, Rfc5424}
@@ -12,9 +10,9 @@ use Rattle.output.specs.Numerals.{numeral}
 use Rattle.message_stamp.specs.Stamps.{stamp_text}
 
 -- absent facility counts as 5, absent severity as 7
-abbrev pub level_or : ℕ → Level → ℕ
-level_or other Unset = other
-level_or other (Set n) = n
+abbrev pub level_or : ℕ → Option ℕ → ℕ
+level_or other None = other
+level_or other (Some n) = n
 
 -- `<p>`
 unfoldable pub pri_text : Record → List ℕ

@@ -1,24 +1,22 @@
 -- For private contracts alone: what measuring answers. The sizes of many rows may add up to more than any number holds, so each is taken from the room that is left.
-use Rattle.std.specs.Prelude.{ℕ, ◌+◌, ◌-◌, Bool, false, List, [], ◌∷◌, ◌++◌, leb, ltb, length, get_or, if◌then◌else◌}
+use Rattle.std.specs.Prelude.{ℕ, ◌+◌, ◌-◌, Bool, false, List, [], ◌∷◌, ◌++◌, leb, ltb, length, get_or, if◌then◌else◌, Option, Some, None}
 use Rattle.record.specs.declared.Record.{Record}
 use Rattle.message.specs.Message.{names_text, head_text}
 use Rattle.message.specs.Opens.{end_text}
-use Rattle.message.specs.declared.Room.{Room}
-use Rattle.message.specs.declared.Room.TheVariants.{Short, Left}
 
 -- what `n` bytes leave of a room, if they fit
-unfoldable pub room_for : ℕ → ℕ → Room
-room_for left n = if ltb left n then Short else Left (left - n)
+unfoldable pub room_for : ℕ → ℕ → Option ℕ
+room_for left n = if ltb left n then None else Some (left - n)
 
 -- and what they leave of what others left
-abbrev pub room_after : Room → ℕ → Room
-room_after Short n = Short
-room_after (Left left) n = room_for left n
+abbrev pub room_after : Option ℕ → ℕ → Option ℕ
+room_after None n = None
+room_after (Some left) n = room_for left n
 
 -- whether they fit into that
-abbrev pub fits_in : Room → ℕ → Bool
-fits_in Short n = false
-fits_in (Left left) n = leb n left
+abbrev pub fits_in : Option ℕ → ℕ → Bool
+fits_in None n = false
+fits_in (Some left) n = leb n left
 
 -- bytes of `[id]`
 unfoldable pub element_size : List ℕ → ℕ

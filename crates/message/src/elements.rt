@@ -11,7 +11,6 @@ ghost use Rattle.message.specs.Message.{open_text, param_text};
 ghost use Rattle.message.specs.Opens.{first_text, opens_text, close_text};
 ghost use Rattle.message.specs.Rooms.{room_for, room_after, element_size, param_size, total};
 
-use crate::Room;
 use crate::fields::put_part;
 use output::{put, put_text};
 use record::Param;
@@ -25,49 +24,37 @@ pub fn counted(elements: &[[usize; 2]], count: usize) -> &[[usize; 2]]
 }
 
 // What is left of a room once `n` bytes are taken from it.
-pub fn room_for(left: usize, n: usize) -> Room
+#[tactic(auto, unfolding(crate::specs::Rooms::room_for))]
+pub fn room_for(left: usize, n: usize) -> Option<usize>
     ensures { result ≡ room_for left n }
 {
-    if left < n {
-        return Room::Short;
-    }
-    Room::Left(left - n)
+    left.checked_sub(n)
 }
 
-fn element_room(left: usize, row: [usize; 2]) -> Room
+fn element_room(left: usize, row: [usize; 2]) -> Option<usize>
     ensures { result ≡ room_for left (element_size row) }
 {
-    let Room::Left(a) = room_for(left, row[1]) else {
-        return Room::Short;
-    };
+    let a = room_for(left, row[1])?;
     room_for(a, 2)
 }
 
 // The same once the brackets and ids of all elements are taken.
-pub fn elements_room(room: usize, ids: &[[usize; 2]]) -> Room
+pub fn elements_room(room: usize, ids: &[[usize; 2]]) -> Option<usize>
     ensures { result ≡ room_for room (total element_size ids.now) }
 {
     let mut left = room;
-    let mut i = 0;
-    while i < ids.len() {
-        let row = ids[i];
-        let Room::Left(a) = element_room(left, row) else {
-            return Room::Short;
-        };
-        left = a;
-        i += 1;
+    for row in ids {
+        left = element_room(left, *row)?;
     }
-    Room::Left(left)
+    Some(left)
 }
 
 // The same once a parameter is taken: a space, the name, `=` and the value in quotes.
-pub fn param_room(room: Room, p: Param) -> Room
+pub fn param_room(room: Option<usize>, p: Param) -> Option<usize>
     requires { p.name_len + p.value_len ≤ 2 * line_limit }
     ensures { result ≡ room_after room (param_size (row_of p)) }
 {
-    let Room::Left(left) = room else {
-        return Room::Short;
-    };
+    let left = room?;
     room_for(left, p.name_len + p.value_len + 4)
 }
 

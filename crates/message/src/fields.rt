@@ -10,7 +10,7 @@ ghost use Rattle.message_stamp.specs.Stamps.{stamp_text};
 ghost use Rattle.message.specs.Message.{level_or, pri_text, version_text, place_text, field_text, tag_text, names_text, head_text};
 
 use output::{put, put_number, put_text};
-use record::{Level, Place, Protocol, Record};
+use record::{Place, Protocol, Record};
 
 // A text of the line.
 fn text_at(line: &[u8], start: usize, len: usize) -> &[u8]
@@ -30,12 +30,12 @@ pub fn put_part(out: &mut [u8], at: usize, line: &[u8], start: usize, len: usize
     put_text(out, at, text_at(line, start, len))
 }
 
-fn level_or(other: u8, level: Level) -> u8
+fn level_or(other: u8, level: Option<u8>) -> u8
     ensures { result ≡ level_or other level }
 {
     match level {
-        Level::Unset => other,
-        Level::Set(n) => n,
+        None => other,
+        Some(n) => n,
     }
 }
 

@@ -7,7 +7,6 @@ mod fields;
 ghost use Rattle.std.specs.Prelude.{◌≡◌, true, ◌++◌, ◌+◌, ◌-◌, ◌≤◌, leb, ltb, length, take};
 ghost use Rattle.record.specs.Limits.{line_limit};
 ghost use Rattle.record.specs.Params.{rows};
-ghost use Rattle.record.specs.declared.Written.TheVariants.{Done, Refused};
 ghost use Rattle.record.specs.declared.Refusal.TheVariants.{LineTooLong, OutputShort};
 ghost use Rattle.suits.specs.Suits.{record_suits, elements_suit, suits};
 ghost use Rattle.output.specs.Fits.{Fits, Sized};
@@ -16,21 +15,13 @@ ghost use Rattle.message.specs.Message.{head_text, names_text, printed};
 ghost use Rattle.message.specs.Opens.{first_text, close_text, end_text, back_text};
 ghost use Rattle.message.specs.Prints.{Prints};
 ghost use Rattle.message.specs.Rooms.{other_size, fits_in};
-ghost use Rattle.message.specs.declared.Room.TheVariants.{Left};
 
 use crate::elements::{
     counted, elements_room, param_room, put_close, put_first, put_turn, room_for,
 };
 use crate::fields::{front_len, put_front, put_part};
 use output::{put, put_text};
-use record::{Param, Protocol, Record, Refusal, Written};
-
-// What is left of an output's length, or that a text does not fit.
-#[derive(Clone, Copy)]
-pub enum Room {
-    Short,
-    Left(usize),
-}
+use record::{Param, Protocol, Record, Refusal};
 
 fn put_end(out: &mut [u8], at: usize, r: Record, count: usize) -> usize
     requires { Fits out.old at (end_text r.protocol count) }
@@ -76,33 +67,29 @@ fn others_fit(left: usize, line: &[u8], r: Record, ids: &[[usize; 2]]) -> bool
     ensures { result ≡ leb (other_size line.now r ids.now) left }
 {
     let size = front_len(line, r) + end_len(r, ids.len()) + r.message.len;
-    let Room::Left(a) = room_for(left, size) else {
+    let Some(a) = room_for(left, size) else {
         return false;
     };
-    let Room::Left(_) = elements_room(a, ids) else {
-        return false;
-    };
-    true
+    elements_room(a, ids).is_some()
 }
 
 // Whether it fits into what the parameters leave.
-fn rest_fits(room: Room, line: &[u8], r: Record, count: usize, elements: &[[usize; 2]]) -> bool
+fn rest_fits(
+    room: Option<usize>,
+    line: &[u8],
+    r: Record,
+    count: usize,
+    elements: &[[usize; 2]],
+) -> bool
     requires line_len_bound { length line.now ≤ line_limit }
     requires r_value { record_suits line.now r ≡ true }
     requires count_in_bounds { count ≤ length elements.now }
     ensures { result ≡ fits_in room (other_size line.now r (take count elements.now)) }
 {
-    let Room::Left(left) = room else {
+    let Some(left) = room else {
         return false;
     };
     others_fit(left, line, r, counted(elements, count))
-}
-
-// All of `n` bytes.
-fn room_of(n: usize) -> Room
-    ensures { result ≡ Left n }
-{
-    Room::Left(n)
 }
 
 // Whether the record fits into `room` bytes.
@@ -119,12 +106,9 @@ fn fits(
     requires params_value { suits line.now r element_count param_count elements.now (rows params.now) ≡ true }
     ensures { result ≡ leb (length (printed line.now r (take element_count elements.now) (take param_count (rows params.now)))) room }
 {
-    let mut left = room_of(room);
-    let mut i = 0;
-    while i < param_count {
-        let p = entries::fetch(params, i);
-        left = param_room(left, p);
-        i += 1;
+    let mut left = Some(room);
+    for p in &params[..param_count] {
+        left = param_room(left, *p);
     }
     rest_fits(left, line, r, element_count, elements)
 }
@@ -184,39 +168,11 @@ fn put_record(
 {
     let mut at = put_before(out, line, r, element_count, elements);
     let mut k = 0;
-    let mut i = 0;
-    while i < param_count {
-        let p = entries::fetch(params, i);
-        at = put_turn(out, at, line, element_count, elements, k, p);
+    for p in &params[..param_count] {
+        at = put_turn(out, at, line, element_count, elements, k, *p);
         k = p.element;
-        i += 1;
     }
     put_behind(out, at, line, r, element_count, elements, k)
-}
-
-// The tests and the answers of `print`, which names the table and so only calls.
-fn is_long(n: usize) -> bool
-    ensures { result ≡ ltb line_limit n }
-{
-    record::LINE_LIMIT < n
-}
-
-fn too_long() -> Written
-    ensures { result ≡ Refused LineTooLong }
-{
-    Written::Refused(Refusal::LineTooLong)
-}
-
-fn short() -> Written
-    ensures { result ≡ Refused OutputShort }
-{
-    Written::Refused(Refusal::OutputShort)
-}
-
-fn done(n: usize) -> Written
-    ensures { result ≡ Done n }
-{
-    Written::Done(n)
 }
 
 // The service: the record as text, into `out`.
@@ -228,20 +184,26 @@ pub fn print(
     elements: &[[usize; 2]],
     params: &[Param],
     out: &mut [u8],
-) -> Written
+) -> Result<usize, Refusal>
     ensures { Prints line.now r element_count param_count elements.now (rows params.now) out.old result out.new }
 {
-    let n = line.len();
-    if is_long(n) {
-        return too_long();
+    if record::LINE_LIMIT < line.len() {
+        return Err(Refusal::LineTooLong);
     }
-    if suits::is_suitable(line, r, element_count, param_count, elements, params) {
-        let room = out.len();
-        if fits(line, r, element_count, param_count, elements, params, room) {
-            let end = put_record(out, line, r, element_count, param_count, elements, params);
-            return done(end);
-        }
-        return short();
+    if !suits::is_suitable(line, r, element_count, param_count, elements, params) {
+        return Err(Refusal::Unsuitable);
     }
-    suits::unsuitable()
+    if !fits(
+        line,
+        r,
+        element_count,
+        param_count,
+        elements,
+        params,
+        out.len(),
+    ) {
+        return Err(Refusal::OutputShort);
+    }
+    let end = put_record(out, line, r, element_count, param_count, elements, params);
+    Ok(end)
 }

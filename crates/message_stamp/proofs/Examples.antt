@@ -1,4 +1,5 @@
 -- Worked examples, computed from the definitions.
+use Rattle.std.specs.Prelude.{Option, Some, None}
 use Prim.Native.Nat.{ℕ}
 use mathlib.Core.Path.{◌≡◌, refl}
 use mathlib.Core.List.{[], ◌∷◌, map}
@@ -6,17 +7,16 @@ use lib.IntN.{ℤ, pos, negsuc}
 use Rattle.base.specs.Bytes.{bytes}
 use Rattle.calendar.specs.Calendar.{leap, month_days, year_days, days_before_year, days_of_months}
 use Rattle.calendar.specs.Instant.{span_from, year_of, month_of, clock_of, shown}
-use Rattle.record.specs.declared.Stamp.{Stamp}
-use Rattle.record.specs.declared.Stamp.TheVariants.{Unstamped, Stamped}
 use Rattle.output.specs.Numerals.{fixed}
 use Rattle.message_stamp.specs.Stamps.{date_text, time_text, clock_text, fraction_text, offset_text, stamp_text}
+use Rattle.record.specs.declared.Timestamp.{Timestamp}
 
 -- an instant, its nanoseconds, their digits and the offset at which it is shown
-stamp : ℤ → ℕ → ℕ → ℤ → Stamp
-stamp seconds nanos digits offset = Stamped (record { seconds = seconds; nanos = nanos; digits = digits; offset = offset })
+stamp : ℤ → ℕ → ℕ → ℤ → Option Timestamp
+stamp seconds nanos digits offset = Some (record { seconds = seconds; nanos = nanos; digits = digits; offset = offset })
 
 printed : map stamp_text
-    (Unstamped
+    (None
     ∷ stamp (pos 1675587662) 0 0 (pos 60)
     ∷ stamp (pos 1675591262) 0 3 (pos 60)
     ∷ stamp (pos 0) 500000000 6 (pos 0)

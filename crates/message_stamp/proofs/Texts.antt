@@ -1,4 +1,5 @@
 -- The timestamp's text: its pieces, in the order in which they are written, and its length.
+use Rattle.std.specs.Prelude.{Option, Some, None}
 use Prim.Native.Nat.{ℕ, ◌+◌, ◌-◌, ◌/◌, ◌%◌, ◌^◌, ◌≤◌, ◌<◌}
 use mathlib.Core.Path.{◌≡◌, refl, sym, ap, ◌∙◌}
 use mathlib.Core.Bool.{true}
@@ -17,10 +18,6 @@ use borrow.Author.Tests.{eq-eqb, ne_eqb}
 use Rattle.base.proofs.Tests.{by_if}
 use Rattle.calendar.specs.Instant.{shown}
 use Rattle.calendar.specs.declared.DateTime.{DateTime}
-use Rattle.calendar.specs.declared.Shown.{Shown}
-use Rattle.calendar.specs.declared.Shown.TheVariants.{Outside, At}
-use Rattle.record.specs.declared.Stamp.{Stamp}
-use Rattle.record.specs.declared.Stamp.TheVariants.{Unstamped, Stamped}
 use Rattle.record.specs.declared.Timestamp.{Timestamp}
 use Rattle.suits.specs.Suits.{stamp_suits}
 use Rattle.suits.proofs.Suited.{StampIn, stamp_in_lem}
@@ -107,26 +104,26 @@ module _ (o : ℤ) (s n : ℕ) (es : s ≡ sign_of o) (en : n ≡ nat_abs o) whe
   offset_all = starts_named _ _ offset_is
 
 -- the timestamp, by what it shows
-module _ (s : Stamp) where
-  pub stamp_none : s ≡ Unstamped → 45 ∷ [] ≡ stamp_text s
+module _ (s : Option Timestamp) where
+  pub stamp_none : s ≡ None → 45 ∷ [] ≡ stamp_text s
   stamp_none e = rw e
 
-  module _ (t : Timestamp) (e : s ≡ Stamped t) (fs : SFits w64 t.seconds) (fo : SFits w32 t.offset) (v : Shown) (ev : v ≡ shown (to_z w64 (of_z w64 t.seconds)) (to_z w32 (of_z w32 t.offset))) where
+  module _ (t : Timestamp) (e : s ≡ Some t) (fs : SFits w64 t.seconds) (fo : SFits w32 t.offset) (v : Option DateTime) (ev : v ≡ shown (to_z w64 (of_z w64 t.seconds)) (to_z w32 (of_z w32 t.offset))) where
     seen : stamp_text s ≡ shown_text t v
     seen =
         let is : v ≡ shown t.seconds t.offset = rw (to_z-of_z w64 t.seconds fs, to_z-of_z w32 t.offset fo) at ev in
         ap stamp_text e ∙ ap (shown_text t) (sym is)
 
-    pub stamp_outside : v ≡ Outside → [] ≡ stamp_text s
+    pub stamp_outside : v ≡ None → [] ≡ stamp_text s
     stamp_outside h = sym (seen ∙ ap (shown_text t) h)
 
-    pub stamp_at_lem : (clock : DateTime) → v ≡ At clock → shown_text t (At clock) ≡ stamp_text s
+    pub stamp_at_lem : (clock : DateTime) → v ≡ Some clock → shown_text t (Some clock) ≡ stamp_text s
     stamp_at_lem clock h = sym (seen ∙ ap (shown_text t) h)
 
 pub ruleset stamp_laws = (stamp_none, stamp_outside, stamp_at_lem)
 
 -- its length is known beforehand
-shown_length : (t : Timestamp) (clock : DateTime) → length (shown_text t (At clock)) ≡ 25 + length (fraction_text t.digits t.nanos)
+shown_length : (t : Timestamp) (clock : DateTime) → length (shown_text t (Some clock)) ≡ 25 + length (fraction_text t.digits t.nanos)
 unfolding clock_text date_text time_text offset_text
 shown_length t clock = simp (length-append, length_fixed) (omega arith)
 
@@ -135,7 +132,7 @@ unfolding fraction_text
 fraction_le d n =
     by_if (λ (x : List ℕ). length x ≤ d + 1) (eqb d 0) [] (46 ∷ fixed d (n / 10 ^ (9 - d))) (λ e. omega arith) (λ e. omega (arith, length_fixed d (n / 10 ^ (9 - d))))
 
-module _ (s : Stamp) (h : stamp_suits s ≡ true) (t : Timestamp) (e : s ≡ Stamped t) (n : ℕ) (en : n ≡ length (fraction_text t.digits t.nanos)) where
+module _ (s : Option Timestamp) (h : stamp_suits s ≡ true) (t : Timestamp) (e : s ≡ Some t) (n : ℕ) (en : n ≡ length (fraction_text t.digits t.nanos)) where
   suited : StampIn t
   suited = stamp_in_lem t (rw e at h)
 

@@ -1,11 +1,7 @@
 -- message.rs, the timestamp: fraction of as many digits as it was read with, offset always as sign `hh:mm`, `+` for 0.
-use Rattle.std.specs.Prelude.{ℕ, ◌-◌, ◌/◌, ◌%◌, ◌^◌, List, [], ◌∷◌, ◌++◌, eqb, ℤ, pos, negsuc, nat_abs, if◌then◌else◌}
+use Rattle.std.specs.Prelude.{ℕ, ◌-◌, ◌/◌, ◌%◌, ◌^◌, List, [], ◌∷◌, ◌++◌, eqb, ℤ, pos, negsuc, nat_abs, if◌then◌else◌, Option, Some, None}
 use Rattle.calendar.specs.Instant.{shown}
 use Rattle.calendar.specs.declared.DateTime.{DateTime}
-use Rattle.calendar.specs.declared.Shown.{Shown}
-use Rattle.calendar.specs.declared.Shown.TheVariants.{Outside, At}
-use Rattle.record.specs.declared.Stamp.{Stamp}
-use Rattle.record.specs.declared.Stamp.TheVariants.{Unstamped, Stamped}
 use Rattle.record.specs.declared.Timestamp.{Timestamp}
 use Rattle.output.specs.Numerals.{fixed}
 
@@ -31,11 +27,11 @@ sign_of (negsuc n) = 45
 unfoldable pub offset_text : ℤ → List ℕ
 offset_text offset = sign_of offset ∷ fixed 2 (nat_abs offset / 60) ++ (58 ∷ fixed 2 (nat_abs offset % 60))
 
-abbrev pub shown_text : Timestamp → Shown → List ℕ
-shown_text t Outside = []
-shown_text t (At clock) = clock_text clock ++ fraction_text t.digits t.nanos ++ offset_text t.offset
+abbrev pub shown_text : Timestamp → Option DateTime → List ℕ
+shown_text t None = []
+shown_text t (Some clock) = clock_text clock ++ fraction_text t.digits t.nanos ++ offset_text t.offset
 
 -- the timestamp, or `-`
-abbrev pub stamp_text : Stamp → List ℕ
-stamp_text Unstamped = 45 ∷ []
-stamp_text (Stamped t) = shown_text t (shown t.seconds t.offset)
+abbrev pub stamp_text : Option Timestamp → List ℕ
+stamp_text None = 45 ∷ []
+stamp_text (Some t) = shown_text t (shown t.seconds t.offset)

@@ -2,16 +2,15 @@
 #![tactic(auto)]
 
 ghost use Rattle.std.specs.Prelude.{◌≡◌, ◌∷◌, true, nat_abs, length};
-ghost use Rattle.calendar.specs.declared.Shown.TheVariants.{At};
 ghost use Rattle.output.specs.Fits.{Fits, Sized};
 ghost use Rattle.output.specs.Numerals.{fixed};
 ghost use Rattle.output.specs.Output.{Wrote};
 ghost use Rattle.suits.specs.Suits.{stamp_suits};
 ghost use Rattle.message_stamp.specs.Stamps.{date_text, time_text, clock_text, fraction_text, sign_of, offset_text, shown_text, stamp_text};
 
-use calendar::{DateTime, Shown};
+use calendar::DateTime;
 use output::{put, put_fixed};
-use record::{Stamp, Timestamp};
+use record::Timestamp;
 
 // A mark and the last `k` digits of `n`.
 pub fn put_marked(out: &mut [u8], at: usize, mark: u8, k: usize, n: u32) -> usize
@@ -98,8 +97,8 @@ fn put_offset(out: &mut [u8], at: usize, t: Timestamp) -> usize
 }
 
 fn put_shown(out: &mut [u8], at: usize, clock: DateTime, t: Timestamp) -> usize
-    requires { Fits out.old at (shown_text t (At clock)) }
-    ensures { Wrote out.old at (shown_text t (At clock)) result out.new }
+    requires { Fits out.old at (shown_text t (Some clock)) }
+    ensures { Wrote out.old at (shown_text t (Some clock)) result out.new }
 {
     let a = put_clock(out, at, clock);
     let b = put_fraction(out, a, t.digits, t.nanos);
@@ -107,25 +106,25 @@ fn put_shown(out: &mut [u8], at: usize, clock: DateTime, t: Timestamp) -> usize
 }
 
 // The timestamp, or `-`, into the first bytes of the part of the output that is lent.
-pub fn put_stamp(out: &mut [u8], stamp: Stamp) -> usize
+pub fn put_stamp(out: &mut [u8], stamp: Option<Timestamp>) -> usize
     requires { Fits out.old 0 (stamp_text stamp) }
     ensures { Wrote out.old 0 (stamp_text stamp) result out.new }
 {
-    let Stamp::Stamped(t) = stamp else {
+    let Some(t) = stamp else {
         return put(out, 0, b'-');
     };
-    let Shown::At(clock) = calendar::shown_at(t.seconds, t.offset) else {
+    let Some(clock) = calendar::shown_at(t.seconds, t.offset) else {
         return 0;
     };
     put_shown(out, 0, clock, t)
 }
 
 // How many bytes the timestamp takes, known beforehand.
-pub fn stamp_len(stamp: Stamp) -> usize
+pub fn stamp_len(stamp: Option<Timestamp>) -> usize
     requires { stamp_suits stamp ≡ true }
     ensures { Sized (stamp_text stamp) 35 result }
 {
-    let Stamp::Stamped(t) = stamp else {
+    let Some(t) = stamp else {
         return 1;
     };
     25 + fraction_len(t)

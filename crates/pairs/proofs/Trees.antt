@@ -6,65 +6,9 @@ use native.Mathlib.Decide.{ℕ_discrete}
 use native.Mathlib.Omega.{arith}
 use lib.ListN.{length, get_or, set, length-set}
 use lib.Seq.{get_or-set_same, get_or-set_other}
-use mir.Syntax.{w64}
-use mir.Val.{Fits}
-use Rattle.pairs.specs.declared.Seat.{Seat}
-use Rattle.pairs.specs.declared.Seat.TheVariants.{Taken, Free}
-use Rattle.pairs.specs.Keys.{key_of, Keys}
-use Rattle.pairs.specs.Tree.{turn_of, Leads, Tree, Room, Seeking, Grows, Meets, Fresh, Sought, Placing, Classed, Asked, Classes}
+use Rattle.pairs.specs.Tree.{slot_of, Leads, Tree, Room, Seeking, Grows, Meets, Fresh, Classed, Asked, Classes}
 use Rattle.pairs.specs.Tree.Leads.{here, on}
 use Rattle.pairs.specs.Tree.Classed.{met, first}
-use Rattle.pairs.proofs.Keys.{keys_less}
-
--- ---- the class of one text
-
-module _ (text ends depths kids : List ℕ) (i : ℕ) (a : Seeking text ends depths kids i) where
-  pub depth_inside : i < length depths
-  depth_inside = omega (arith, a.room.depths_room)
-
-  pub count_small : i + 1 < 65536
-  count_small = a.room.few
-
-  pub count_fits : Fits w64 (i + 1)
-  count_fits = record { fits = omega (arith, a.room.few) }
-
-  module _ (r : Seat) (s : Sought (key_of text ends) depths kids i r) where
-    pub class_met : (j : ℕ) → r ≡ Taken j → Classed (key_of text ends) depths kids i j depths kids
-    class_met j e = met (subst (Sought (key_of text ends) depths kids i) e s) refl refl
-
-    module _ (slot : ℕ) (e : r ≡ Free slot) where
-      fresh : Fresh (key_of text ends) depths kids i slot
-      fresh = subst (Sought (key_of text ends) depths kids i) e s
-
-      pub slot_placed : Placing text ends depths slot i
-      slot_placed = record { keys = a.keys; below = depth_inside; under = fresh.under }
-
-      pub slot_scales : Fits w64 (slot * 2)
-      slot_scales = record { fits = omega (arith, fresh.under, a.room.few) }
-
-      pub slot_inside : slot < length kids
-      slot_inside = omega (arith, fresh.under, a.room.slots_room)
-
-      pub class_first : (d : ℕ) → Classed (key_of text ends) depths kids i i (set depths i d) (set kids slot (i + 1))
-      class_first d = first slot d refl fresh refl refl
-
-pub ruleset class_laws = (depth_inside, count_small, count_fits, class_met, slot_placed, slot_scales, slot_inside, class_first)
-
--- and the tables keep their lengths
-module _ (key : ℕ → List ℕ) (depths kids : List ℕ) (i r : ℕ) (depths' kids' : List ℕ) (k : Classed key depths kids i r depths' kids') where
-  pub depths_kept : (old : List ℕ) → length depths ≡ length old → length depths' ≡ length old
-  depths_kept old e = go k
-    where
-      go : Classed key depths kids i r depths' kids' → length depths' ≡ length old
-      go (met m ed ek) = rw ed e
-      go (first slot d q f ed ek) = rw ed (simp length-set e)
-
-  pub kids_kept : (old : List ℕ) → length kids ≡ length old → length kids' ≡ length old
-  kids_kept old e = go k
-    where
-      go : Classed key depths kids i r depths' kids' → length kids' ≡ length old
-      go (met m ed ek) = rw ek e
-      go (first slot d q f ed ek) = rw ek (simp length-set e)
 
 -- ---- the tree with one text more
 
@@ -75,7 +19,7 @@ module _ (key : ℕ → List ℕ) (depths kids classes : List ℕ) (i : ℕ) (t 
   leads_more depths' kids' own g {q} {m} (on j e l) =
       let d : get_or depths' j 0 ≡ get_or depths j 0 = g.same_depths j (omega (arith, t.kept q)) in
       on j (g.same_slots q (λ z. omega arith) ∙ e)
-      (subst (λ (x : ℕ). Leads key depths' kids' own (turn_of own (key j) j x).slot m) (sym d) (leads_more depths' kids' own g l))
+      (subst (λ (x : ℕ). Leads key depths' kids' own (slot_of own (key j) j x) m) (sym d) (leads_more depths' kids' own g l))
 
   -- the classes with that of text i: a fact of each is one of c and one of the classes before
   by_class : (c : ℕ) (P : ℕ → ℕ → Type 0) → P i c → ((m : ℕ) → m < i → P m (get_or classes m 0)) → (m : ℕ) → m < i + 1 → P m (get_or (set classes i c) m 0)
@@ -151,20 +95,17 @@ module _ (key : ℕ → List ℕ) (depths kids classes : List ℕ) (i : ℕ) (t 
 
 -- ---- the loop
 
--- the first i of n texts have their classes
-pub record Sorted (text ends : List ℕ) (n : ℕ) (depths kids classes : List ℕ) (i : ℕ) : Type 0 where
-  pub keys : Keys text ends n
+-- the first i texts have their classes
+pub record Sorted (key : ℕ → List ℕ) (n : ℕ) (depths kids classes : List ℕ) (i : ℕ) : Type 0 where
   pub room : Room n depths kids
-  pub classes_room : n ≤ length classes
-  pub tree : Tree (key_of text ends) depths kids classes i
-  pub inside : i ≤ n
+  pub all : length classes ≡ n
+  pub tree : Tree key depths kids classes i
 
-module _ (text ends : List ℕ) (n : ℕ) (depths kids classes : List ℕ) where
-  pub sorted_begins : Asked text ends n depths kids classes → Sorted text ends n depths kids classes 0
+module _ (key : ℕ → List ℕ) (n : ℕ) (depths kids classes : List ℕ) where
+  pub sorted_begins : Asked n depths kids classes → Sorted key n depths kids classes 0
   sorted_begins a = record {
-    keys = a.keys;
     room = a.room;
-    classes_room = a.classes_room;
+    all = a.classes_room;
     tree = record {
       kept = λ q. omega (arith, a.clear q);
       later = λ q j e. absurd (omega (arith, a.clear q));
@@ -174,59 +115,40 @@ module _ (text ends : List ℕ) (n : ℕ) (depths kids classes : List ℕ) where
       below = λ m b. absurd (omega arith);
       alike = λ x y b c. absurd (omega arith);
     };
-    inside = omega arith;
   }
 
-  module _ (i : ℕ) (p : Sorted text ends n depths kids classes i) where
-    pub sorted_all : n ≤ i → Classes (key_of text ends) n classes
-    sorted_all h = record {
-      below = λ m b. let l : m < i = omega (arith, p.inside) in omega (arith, p.tree.below m l, p.inside);
-      same = λ m b. p.tree.same m (omega arith);
-      alike = λ x y b c. p.tree.alike x y (omega arith) (omega arith);
+  pub sorted_all : (i : ℕ) → Sorted key n depths kids classes i → i ≡ n → Classes key n classes
+  sorted_all i p e = rw (← e) (record { below = p.tree.below; same = p.tree.same; alike = p.tree.alike })
+
+  module _ (i : ℕ) (p : Sorted key n depths kids classes i) (h : i < n) where
+    pub sorted_seeks : Seeking n depths kids i
+    sorted_seeks = record {
+      given = h;
+      room = record { depths_room = omega (arith, p.room.depths_room); slots_room = omega (arith, p.room.slots_room) };
+      kept = p.tree.kept;
+      later = p.tree.later;
     }
 
-    module _ (h : i < n) where
-      pub sorted_seeks : Seeking text ends depths kids i
-      sorted_seeks = record {
-        keys = keys_less text ends n (i + 1) p.keys (omega arith);
-        room = record { few = omega (arith, p.room.few); depths_room = omega (arith, p.room.depths_room); slots_room = omega (arith, p.room.slots_room) };
-        kept = p.tree.kept;
-        later = p.tree.later;
-      }
+    inside : i < length classes
+    inside = omega (arith, p.all)
 
-      pub classes_inside : i < length classes
-      classes_inside = omega (arith, p.classes_room)
+    module _ (c : ℕ) (depths' kids' : List ℕ) (k : Classed key depths kids i c depths' kids') where
+      pub class_le : c ≤ i
+      class_le = go k
+        where
+          go : Classed key depths kids i c depths' kids' → c ≤ i
+          go (met m ed ek) = omega (arith, below key depths kids classes i p.tree inside c m)
+          go (first slot d e f ed ek) = omega arith
 
-      module _ (c : ℕ) (depths' kids' : List ℕ) (k : Classed (key_of text ends) depths kids i c depths' kids') where
-        class_le : c ≤ i
-        class_le = go k
-          where
-            go : Classed (key_of text ends) depths kids i c depths' kids' → c ≤ i
-            go (met m ed ek) = omega (arith, below (key_of text ends) depths kids classes i p.tree classes_inside c m)
-            go (first slot d e f ed ek) = omega arith
-
-        pub class_small : c < 65536
-        class_small = omega (arith, class_le, p.room.few)
-
-        pub sorted_on : Sorted text ends n depths' kids' (set classes i c) (i + 1)
-        sorted_on = go k
-          where
-            go : Classed (key_of text ends) depths kids i c depths' kids' → Sorted text ends n depths' kids' (set classes i c) (i + 1)
-            go (met m ed ek) = rw (ed, ek)
-                (record {
-                  keys = p.keys;
-                  room = p.room;
-                  classes_room = simp length-set p.classes_room;
-                  tree = tree_met (key_of text ends) depths kids classes i p.tree classes_inside c m;
-                  inside = omega arith;
-                })
-            go (first slot d e f ed ek) = rw (ed, ek, e)
-                (record {
-                  keys = p.keys;
-                  room = record { few = p.room.few; depths_room = simp length-set p.room.depths_room; slots_room = simp length-set p.room.slots_room };
-                  classes_room = simp length-set p.classes_room;
-                  tree = tree_first (key_of text ends) depths kids classes i p.tree classes_inside slot d f (omega (arith, f.under, p.room.slots_room));
-                  inside = omega arith;
-                })
-
-pub ruleset sorted_laws = (sorted_begins, sorted_all, sorted_seeks, classes_inside, class_small, sorted_on, depths_kept, kids_kept)
+      pub sorted_on : Sorted key n depths' kids' (set classes i c) (i + 1)
+      sorted_on = go k
+        where
+          go : Classed key depths kids i c depths' kids' → Sorted key n depths' kids' (set classes i c) (i + 1)
+          go (met m ed ek) = rw (ed, ek)
+              (record { room = p.room; all = simp length-set p.all; tree = tree_met key depths kids classes i p.tree inside c m })
+          go (first slot d e f ed ek) = rw (ed, ek, e)
+              (record {
+                room = record { depths_room = simp length-set p.room.depths_room; slots_room = simp length-set p.room.slots_room };
+                all = simp length-set p.all;
+                tree = tree_first key depths kids classes i p.tree inside slot d f (omega (arith, f.under, p.room.slots_room));
+              })

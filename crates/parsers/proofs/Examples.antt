@@ -1,4 +1,5 @@
 -- RULES Parsers as worked examples, computed from the definitions.
+use Rattle.std.specs.Prelude.{Some, None}
 use mathlib.Core.Path.{◌≡◌, refl}
 use mathlib.Core.List.{[], ◌∷◌, ◌++◌, map}
 use Rattle.base.specs.Bytes.{bytes}
@@ -13,9 +14,6 @@ use Rattle.parsers.specs.Parsers.{plain_at, host_at, tag_len, tag_at}
 use Rattle.parsers.specs.Characters.{tag_of}
 use Rattle.parsers.specs.Steps.{blanks_from, some_blanks_from, byte_from, colon_from, is_inside, number_from, plain_from, host_from, tag_from}
 use Rattle.parsers.specs.declared.Text.TheVariants.{Fails, Absent, Given}
-use Rattle.parsers.specs.declared.Num.TheVariants.{NoNum, IsNum}
-use Rattle.parsers.specs.declared.Pos.TheVariants.{NoPos, IsPos}
-use Rattle.parsers.specs.declared.Field.TheVariants.{NoField, IsField}
 
 -- `:` alone fails; a host that ends in `:` gives the text before it and leaves the colon; `-` is absent
 hosts : map host_at (bytes "" ∷ bytes " h" ∷ bytes ": m" ∷ bytes "h: m" ∷ bytes "-: m" ∷ bytes ":: m" ∷ bytes "- m" ∷ bytes "a:b m" ∷ [])
@@ -42,24 +40,24 @@ unfolding plain_at field_len white_len is_white code_point char_len well_formed 
 whites = refl
 
 -- each is read from the rest of the line, and its place is one of the line
-placed : (host_from (bytes "x gate7: m") 2 ≡ IsField (place 2 5) 7)
-    × (tag_from (bytes "x gate7: m") 2 ≡ IsField (place 2 5) 7)
-    × (plain_from (bytes "x gate7: m") 2 ≡ IsField (place 2 6) 8)
-    × (plain_from (bytes "x - m") 2 ≡ IsField absent 3)
-    × (tag_from (bytes "x gate7: m") 7 ≡ NoField)
+placed : (host_from (bytes "x gate7: m") 2 ≡ Some (place 2 5, 7))
+    × (tag_from (bytes "x gate7: m") 2 ≡ Some (place 2 5, 7))
+    × (plain_from (bytes "x gate7: m") 2 ≡ Some (place 2 6, 8))
+    × (plain_from (bytes "x - m") 2 ≡ Some (absent, 3))
+    × (tag_from (bytes "x gate7: m") 7 ≡ None)
 unfolding host_from tag_from plain_from host_at tag_at plain_at tag_len field_len white_len is_white code_point char_len well_formed lead_of
 placed = (refl, refl, refl, refl, refl)
 
 -- blanks are spaces and tabs
 blanks : (map (blanks_from (bytes "a \t b")) (0 ∷ 1 ∷ 3 ∷ 5 ∷ []) ≡ 0 ∷ 4 ∷ 4 ∷ 5 ∷ [])
-    × (map (some_blanks_from (bytes "a \t b")) (0 ∷ 1 ∷ 3 ∷ 5 ∷ []) ≡ NoPos ∷ IsPos 4 ∷ IsPos 4 ∷ NoPos ∷ [])
-    × (map (λ b. byte_from (bytes "a:") 1 b) (58 ∷ 59 ∷ []) ≡ IsPos 2 ∷ NoPos ∷ [])
+    × (map (some_blanks_from (bytes "a \t b")) (0 ∷ 1 ∷ 3 ∷ 5 ∷ []) ≡ None ∷ Some 4 ∷ Some 4 ∷ None ∷ [])
+    × (map (λ b. byte_from (bytes "a:") 1 b) (58 ∷ 59 ∷ []) ≡ Some 2 ∷ None ∷ [])
 unfolding some_blanks_from byte_from run
 blanks = (refl, refl, refl)
 
 -- digits of any count within 32 bits
 numbers : map (λ t. number_from t 1) (bytes "x" ∷ bytes "x7 " ∷ bytes "x007:" ∷ bytes "x4294967295" ∷ bytes "x4294967296" ∷ bytes "x+7" ∷ [])
-    ≡ NoNum ∷ IsNum 7 2 ∷ IsNum 7 4 ∷ IsNum 4294967295 11 ∷ NoNum ∷ NoNum ∷ []
+    ≡ None ∷ Some (7, 2) ∷ Some (7, 4) ∷ Some (4294967295, 11) ∷ None ∷ None ∷ []
 unfolding number_from number_at decimal_from run
 numbers = refl
 

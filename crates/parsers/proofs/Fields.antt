@@ -1,41 +1,18 @@
 -- Fields placed in the line: that they lie in it, and so do the positions behind them.
+use Rattle.std.specs.Prelude.{Option, Some}
 use Prim.Native.Nat.{ℕ, ◌+◌, ◌^◌, ◌≤◌, ◌<◌}
 use mathlib.Core.Path.{◌≡◌, sym, ◌∙◌}
 use mathlib.Core.List.{List}
 use native.Mathlib.Omega.{arith}
 use lib.ListN.{length, drop, length-drop}
-use mir.Syntax.{w64}
-use mir.Val.{Fits}
-use Rattle.record.specs.Places.{absent, place}
+use Rattle.base.proofs.Pairs.{some_first, some_second}
 use Rattle.record.specs.declared.Place.{Place}
 use Rattle.parsers.specs.Parsers.{plain_at, host_at, tag_at}
 use Rattle.parsers.specs.Passed.{text_passed}
 use Rattle.parsers.specs.Steps.{placed, plain_from, host_from, tag_from}
 use Rattle.parsers.specs.declared.Text.{Text}
 use Rattle.parsers.specs.declared.Text.TheVariants.{Fails, Absent, Given}
-use Rattle.parsers.specs.declared.Field.{Field}
-use Rattle.parsers.specs.declared.Field.TheVariants.{NoField, IsField}
 use Rattle.parsers.proofs.Texts.{TextIn, plain_in, host_in, tag_in}
-
-module _ (at : ℕ) (t : Text) where
-  pub placed_no : t ≡ Fails → NoField ≡ placed at t
-  placed_no z = rw z
-
-  module _ (n : ℕ) (z : t ≡ Absent n) where
-    pub placed_absent : (p : Place) → p ≡ absent → IsField p (at + n) ≡ placed at t
-    placed_absent p e = rw (z, e)
-
-    pub absent_fits : at + text_passed t < 2 ^ 64 → Fits w64 (at + n)
-    absent_fits h = record { fits = rw z at h }
-
-  module _ (k n : ℕ) (z : t ≡ Given k n) where
-    pub placed_given : (p : Place) → p ≡ place at k → IsField p (at + n) ≡ placed at t
-    placed_given p e = rw (z, e)
-
-    pub given_fits : at + text_passed t < 2 ^ 64 → Fits w64 (at + n)
-    given_fits h = record { fits = rw z at h }
-
-pub ruleset placed_laws = (placed_no, placed_absent, absent_fits, placed_given, given_fits)
 
 -- A field of a line of `n` bytes: its text ends at the position behind it or before, and that lies in the line.
 pub record FieldIn (n : ℕ) (p : Place) (next : ℕ) : Type 0 where
@@ -52,17 +29,15 @@ module _ (read : List ℕ → Text) (read-in : (s : List ℕ) → TextIn (length
       go (Absent n) i = omega (arith, length-drop at s)
       go (Given k n) i = omega (arith, length-drop at s)
 
-  text_place_lem : (p : Place) (n : ℕ) → placed at (read (drop at s)) ≡ IsField p n → FieldIn (length s) p n
+  text_place_lem : (p : Place) (n : ℕ) → placed at (read (drop at s)) ≡ Some (p, n) → FieldIn (length s) p n
   text_place_lem p n z = go (read (drop at s)) (read-in (drop at s)) z
     where
-      at_field : (q : Place) (m : ℕ) → IsField q m ≡ IsField p n → q.start + q.len ≤ m → m ≤ length s → FieldIn (length s) p n
+      at_field : (q : Place) (m : ℕ) → ◌≡◌ {A = Option (Place × ℕ)} (Some (q, m)) (Some (p, n)) → q.start + q.len ≤ m → m ≤ length s → FieldIn (length s) p n
       at_field q m z a b =
-          let ep : q ≡ p = cc in
-          let en : m ≡ n = cc in
-          rw (← ep, ← en) (record { ends = a; within_line = b })
+          rw (← some_first z, ← some_second z) (record { ends = a; within_line = b })
 
-      go : (t : Text) → TextIn (length (drop at s)) t → placed at t ≡ IsField p n → FieldIn (length s) p n
-      go Fails i z = let m : ◌≡◌ {A = ℕ} 0 1 = cc in absurd (omega arith)
+      go : (t : Text) → TextIn (length (drop at s)) t → placed at t ≡ Some (p, n) → FieldIn (length s) p n
+      go Fails i z = cc
       go (Absent k) i z = at_field _ _ z (omega arith) (omega (arith, length-drop at s))
       go (Given k m) i z = at_field _ _ z (omega arith) (omega (arith, length-drop at s))
 
@@ -77,7 +52,7 @@ module _ (s : List ℕ) (at : ℕ) where
     pub tag_fits : t ≡ tag_at p → at + text_passed t < 2 ^ 64
     tag_fits e = text_fits_lem tag_at tag_in s at h l p ep t e
 
-  module _ (p : List ℕ) (ep : p ≡ drop at s) (t : Text) (g : Field) (eg : g ≡ placed at t) where
+  module _ (p : List ℕ) (ep : p ≡ drop at s) (t : Text) (g : Option (Place × ℕ)) (eg : g ≡ placed at t) where
     pub plain_placed : t ≡ plain_at p → g ≡ plain_from s at
     unfolding plain_from
     plain_placed e = eg ∙ rw (e, ep)
@@ -90,7 +65,7 @@ module _ (s : List ℕ) (at : ℕ) where
     unfolding tag_from
     tag_placed e = eg ∙ rw (e, ep)
 
-  module _ (g : Field) (p : Place) (n : ℕ) (z : g ≡ IsField p n) where
+  module _ (g : Option (Place × ℕ)) (p : Place) (n : ℕ) (z : g ≡ Some (p, n)) where
     pub plain_place : g ≡ plain_from s at → FieldIn (length s) p n
     unfolding plain_from
     plain_place e = text_place_lem plain_at plain_in s at p n (sym e ∙ z)

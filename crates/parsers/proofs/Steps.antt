@@ -1,29 +1,21 @@
 -- Steps of a reader: what decides each, and that the positions they answer lie in the line.
-use Rattle.std.specs.Prelude.{if◌then◌else◌}
+use Rattle.std.specs.Prelude.{if◌then◌else◌, Option, Some, None}
 use Prim.Native.Nat.{ℕ, zero, suc, ◌+◌, ◌^◌, ◌≤◌, ◌<◌}
 use mathlib.Core.Path.{◌≡◌, refl, sym, ap, ◌∙◌}
 use mathlib.Core.List.{List, [], ◌∷◌}
-use mathlib.Core.Bool.{Bool, true, false, not}
+use mathlib.Core.Bool.{Bool, true, false}
 use native.Mathlib.Omega.{arith}
 use lib.ListN.{length, get_or, drop, length-drop}
-use borrow.Author.Tests.{not-true, not-false}
-use mir.Syntax.{w64}
-use mir.Val.{Fits}
 use Rattle.base.specs.Choose.{is_at}
 use Rattle.base.specs.Runs.{run}
 use Rattle.base.proofs.Tests.{clash, by_if}
 use Rattle.base.proofs.Parts.{ended, at_below}
+use Rattle.base.proofs.Pairs.{some_second}
 use Rattle.base.proofs.Runs.{run_le, run_none, run_yes, run_no}
-use Rattle.digits.specs.declared.Number.{Number}
-use Rattle.digits.specs.declared.Number.TheVariants.{Nothing, Value}
 use Rattle.digits.specs.Digits.{number_at}
 use Rattle.digits.proofs.Numbers.{number_len}
 use Rattle.parsers.specs.Passed.{digits_passed}
 use Rattle.parsers.specs.Steps.{is_blank, blanks_from, some_blanks_from, byte_from, colon_from, moved, number_from}
-use Rattle.parsers.specs.declared.Num.{Num}
-use Rattle.parsers.specs.declared.Num.TheVariants.{NoNum, IsNum}
-use Rattle.parsers.specs.declared.Pos.{Pos}
-use Rattle.parsers.specs.declared.Pos.TheVariants.{NoPos, IsPos}
 
 -- A byte
 module _ (s : List ℕ) (at b : ℕ) (p : 0 < b) where
@@ -34,43 +26,15 @@ module _ (s : List ℕ) (at b : ℕ) (p : 0 < b) where
       go zero p h = absurd (omega arith)
       go (suc b) p h = at_below s at b h
 
-  module _ (t : Bool) (e : t ≡ is_at s at b) where
-    pub byte_no : not t ≡ true → NoPos ≡ byte_from s at b
-    unfolding byte_from
-    byte_no h = rw (← e, not-true t h)
-
-    module _ (h : not t ≡ false) where
-      pub byte_yes : IsPos (at + 1) ≡ byte_from s at b
-      unfolding byte_from
-      byte_yes = rw (← e, not-false t h)
-
-      pub byte_fits : length s < 2 ^ 64 → Fits w64 (at + 1)
-      byte_fits l = record { fits = omega (arith, at_there (sym e ∙ not-false t h)) }
-
-  pub byte_within : (g : Pos) → g ≡ byte_from s at b → (n : ℕ) → g ≡ IsPos n → n ≤ length s
+  pub byte_within : (g : Option ℕ) → g ≡ byte_from s at b → (n : ℕ) → g ≡ Some n → n ≤ length s
   unfolding byte_from
   byte_within g e n z = go (is_at s at b) refl (sym e ∙ z)
     where
-      go : (t : Bool) → is_at s at b ≡ t → (if t then IsPos (at + 1) else NoPos) ≡ IsPos n → n ≤ length s
+      go : (t : Bool) → is_at s at b ≡ t → (if t then Some (at + 1) else None) ≡ Some n → n ≤ length s
       go true h q = let m : at + 1 ≡ n = cc in omega (arith, at_there h)
-      go false h q = let m : ◌≡◌ {A = ℕ} 0 1 = cc in absurd (omega arith)
-
-pub ruleset byte_laws = (byte_no, byte_yes, byte_fits)
+      go false h q = cc
 
 -- An optional `:`
-module _ (s : List ℕ) (at : ℕ) (t : Bool) (e : t ≡ is_at s at 58) where
-  module _ (h : t ≡ true) where
-    pub colon_yes : at + 1 ≡ colon_from s at
-    colon_yes = rw (← e, h)
-
-    pub colon_fits : length s < 2 ^ 64 → Fits w64 (at + 1)
-    colon_fits l = record { fits = omega (arith, at_there s at 58 (omega arith) (sym e ∙ h)) }
-
-  pub colon_no : t ≡ false → at ≡ colon_from s at
-  colon_no h = rw (← e, h)
-
-pub ruleset colon_laws = (colon_yes, colon_fits, colon_no)
-
 pub colon_within : (s : List ℕ) (at : ℕ) → at ≤ length s → colon_from s at ≤ length s
 colon_within s at h = by_if (λ n. n ≤ length s) (is_at s at 58) _ _ (λ t. let l = at_there s at 58 (omega arith) t in omega arith) (λ t. h)
 
@@ -97,79 +61,66 @@ module _ (s : List ℕ) (at : ℕ) where
       go (b ∷ s) (suc at) h = omega (arith, go s at h)
 
   module _ (n : ℕ) (e : n ≡ blanks_from s at) where
-    pub some_no : n ≡ at → NoPos ≡ some_blanks_from s at
+    pub some_no : n ≡ at → None ≡ some_blanks_from s at
     unfolding some_blanks_from
-    some_no z = by_if (λ g. NoPos ≡ g) (is_blank (get_or s at 0)) _ _ (λ h. absurd (omega (arith, (blank_some h).1))) (λ h. refl)
+    some_no z = by_if {A = Option ℕ} (λ g. None ≡ g) (is_blank (get_or s at 0)) _ _ (λ h. absurd (omega (arith, (blank_some h).1))) (λ h. refl)
 
-    pub some_yes : (n ≡ at → ⊥) → IsPos n ≡ some_blanks_from s at
+    pub some_yes : (n ≡ at → ⊥) → Some n ≡ some_blanks_from s at
     unfolding some_blanks_from
-    some_yes z = by_if (λ g. IsPos n ≡ g) (is_blank (get_or s at 0)) _ _ (λ h. ap IsPos e) (λ h. absurd (z (e ∙ blank_none h)))
+    some_yes z = by_if {A = Option ℕ} (λ g. Some n ≡ g) (is_blank (get_or s at 0)) _ _ (λ h. ap Some e) (λ h. absurd (z (e ∙ blank_none h)))
 
-  pub some_within : (g : Pos) → g ≡ some_blanks_from s at → (n : ℕ) → g ≡ IsPos n → n ≤ length s
+  pub some_within : (g : Option ℕ) → g ≡ some_blanks_from s at → (n : ℕ) → g ≡ Some n → n ≤ length s
   unfolding some_blanks_from
   some_within g e n z = go (is_blank (get_or s at 0)) refl (sym e ∙ z)
     where
-      go : (t : Bool) → is_blank (get_or s at 0) ≡ t → (if t then IsPos (blanks_from s at) else NoPos) ≡ IsPos n → n ≤ length s
+      go : (t : Bool) → is_blank (get_or s at 0) ≡ t → (if t then Some (blanks_from s at) else None) ≡ Some n → n ≤ length s
       go true h q =
           let m : blanks_from s at ≡ n = cc in
           let l = (blank_some h).0 in
           blanks_within s at n (sym m) (omega arith)
-      go false h q = let m : ◌≡◌ {A = ℕ} 0 1 = cc in absurd (omega arith)
+      go false h q = cc
 
 pub ruleset some_laws = (some_no, some_yes)
 
 -- Digits that are read from a text pass at least one byte, and no more than there are.
-abbrev pub NumberIn : ℕ → Number → Type 0
-NumberIn n Nothing = Unit {0}
-NumberIn n (Value v m) = (1 ≤ m) × (m ≤ n)
+abbrev pub NumberIn : ℕ → Option (ℕ × ℕ) → Type 0
+NumberIn n None = Unit {0}
+NumberIn n (Some x) = (1 ≤ x.1) × (x.1 ≤ n)
 
-pub number_in : (n : ℕ) (r : Number) → ((v m : ℕ) → r ≡ Value v m → (1 ≤ m) × (m ≤ n)) → NumberIn n r
-number_in n Nothing h = tt
-number_in n (Value v m) h = h v m refl
-
-module _ (at : ℕ) (r : Number) where
-  pub moved_no : r ≡ Nothing → NoNum ≡ moved at r
-  moved_no z = rw z
-
-  module _ (v n : ℕ) (z : r ≡ Value v n) where
-    pub moved_yes : IsNum v (at + n) ≡ moved at r
-    moved_yes = rw z
-
-    pub moved_fits : at + digits_passed r < 2 ^ 64 → Fits w64 (at + n)
-    moved_fits h = record { fits = rw z at h }
-
-pub ruleset moved_laws = (moved_no, moved_yes, moved_fits)
+pub number_in : (n : ℕ) (r : Option (ℕ × ℕ)) → ((v m : ℕ) → r ≡ Some (v, m) → (1 ≤ m) × (m ≤ n)) → NumberIn n r
+number_in n None h = tt
+number_in n (Some x) h = h x.0 x.1 refl
 
 -- whatever is read at `at`
-module _ (read : List ℕ → Number) (read-in : (s : List ℕ) → NumberIn (length s) (read s)) (s : List ℕ) (at : ℕ) where
-  pub digits_fit_lem : at ≤ length s → length s < 2 ^ 64 → (p : List ℕ) → p ≡ drop at s → (r : Number) → r ≡ read p → at + digits_passed r < 2 ^ 64
+module _ (read : List ℕ → Option (ℕ × ℕ)) (read-in : (s : List ℕ) → NumberIn (length s) (read s)) (s : List ℕ) (at : ℕ) where
+  pub digits_fit_lem : at ≤ length s → length s < 2 ^ 64 → (p : List ℕ) → p ≡ drop at s → (r : Option (ℕ × ℕ)) → r ≡ read p → at + digits_passed r < 2 ^ 64
   digits_fit_lem h l p ep r e = rw (e, ep) (go (read (drop at s)) (read-in (drop at s)))
     where
-      go : (r : Number) → NumberIn (length (drop at s)) r → at + digits_passed r < 2 ^ 64
-      go Nothing i = omega arith
-      go (Value v n) i = omega (arith, length-drop at s)
+      go : (r : Option (ℕ × ℕ)) → NumberIn (length (drop at s)) r → at + digits_passed r < 2 ^ 64
+      go None i = omega arith
+      go (Some x) i = omega (arith, length-drop at s)
 
-  pub digits_within : (v n : ℕ) → moved at (read (drop at s)) ≡ IsNum v n → n ≤ length s
+  pub digits_within : (v n : ℕ) → moved at (read (drop at s)) ≡ Some (v, n) → n ≤ length s
   digits_within v n z = go (read (drop at s)) (read-in (drop at s)) z
     where
-      go : (r : Number) → NumberIn (length (drop at s)) r → moved at r ≡ IsNum v n → n ≤ length s
-      go Nothing i z = let m : ◌≡◌ {A = ℕ} 0 1 = cc in absurd (omega arith)
-      go (Value w k) i z = let m : at + k ≡ n = cc in omega (arith, length-drop at s)
+      go : (r : Option (ℕ × ℕ)) → NumberIn (length (drop at s)) r → moved at r ≡ Some (v, n) → n ≤ length s
+      go None i z = cc
+      go (Some x) i z = omega (arith, some_second z, length-drop at s)
 
 -- A number within 32 bits
 number_there : (s : List ℕ) → NumberIn (length s) (number_at 4294967295 s)
 number_there s = number_in (length s) _ (λ v m e. let l = number_len 4294967295 s v m e in (l.0, l.1))
 
 module _ (s : List ℕ) (at : ℕ) where
-  module _ (p : List ℕ) (ep : p ≡ drop at s) (r : Number) (e : r ≡ number_at 4294967295 p) where
+  module _ (p : List ℕ) (ep : p ≡ drop at s) (r : Option (ℕ × ℕ)) (e : r ≡ number_at 4294967295 p) where
     pub number_fits : at ≤ length s → length s < 2 ^ 64 → at + digits_passed r < 2 ^ 64
     number_fits h l = digits_fit_lem (number_at 4294967295) number_there s at h l p ep r e
 
-    pub number_is : (g : Num) → g ≡ moved at r → g ≡ number_from s at
+    pub number_is : (g : Option (ℕ × ℕ)) → g ≡ moved at r → g ≡ number_from s at
     unfolding number_from
     number_is g q = q ∙ rw (e, ep)
 
-  pub number_within : (g : Num) → g ≡ number_from s at → (v n : ℕ) → g ≡ IsNum v n → n ≤ length s
+  pub number_within : (g : Option (ℕ × ℕ)) → g ≡ number_from s at → (v n : ℕ) → g ≡ Some (v, n) → n ≤ length s
   unfolding number_from
   number_within g e v n z = digits_within (number_at 4294967295) number_there s at v n (sym e ∙ z)
 

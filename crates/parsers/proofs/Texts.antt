@@ -2,7 +2,7 @@
 use Prim.Native.Nat.{ℕ, suc, ◌+◌, ◌-◌, ◌≤◌, ◌<◌}
 use mathlib.Core.Path.{◌≡◌, refl, ap, ◌∙◌}
 use mathlib.Core.List.{List, [], ◌∷◌}
-use mathlib.Core.Bool.{Bool, true, false, ◌&&◌, not}
+use mathlib.Core.Bool.{true, false, ◌&&◌, not}
 use native.Mathlib.Omega.{arith}
 use lib.Dec.{eqb}
 use lib.ListN.{length, get_or, drop}
@@ -16,52 +16,6 @@ use Rattle.white.proofs.Walks.{field_le, plain_front}
 use Rattle.parsers.specs.Parsers.{alone, or_absent, plain_at, host_at, tag_len, tag_at}
 use Rattle.parsers.specs.declared.Text.{Text}
 use Rattle.parsers.specs.declared.Text.TheVariants.{Fails, Absent, Given}
-
-pub alone_is : (s : List ℕ) (n b : ℕ) (t : Bool) → t ≡ is_at s 0 b → (eqb n 1 && t) ≡ alone s n b
-alone_is s n b t e = rw e
-
-module _ (s : List ℕ) (n : ℕ) (t : Bool) (e : t ≡ alone s n 45) where
-  pub absent_is : t ≡ true → Absent n ≡ or_absent s n
-  absent_is h = rw (← e, h)
-
-  pub given_is : t ≡ false → Given n n ≡ or_absent s n
-  given_is h = rw (← e, h)
-
-module _ (s : List ℕ) (n : ℕ) (e : n ≡ field_len s) where
-  pub plain_none : n ≡ 0 → Fails ≡ plain_at s
-  unfolding plain_at
-  plain_none z = rw (← e, z)
-
-  pub host_none : n ≡ 0 → Fails ≡ host_at s
-  unfolding host_at
-  host_none z = rw (← e, z)
-
-  module _ (z : n ≡ 0 → ⊥) (t : Bool) (et : t ≡ alone s n 58) where
-    pub plain_colon : t ≡ true → Fails ≡ plain_at s
-    unfolding plain_at
-    plain_colon h = rw (← e, ne_eqb n 0 z, ← et, h)
-
-    pub host_colon : t ≡ true → Fails ≡ host_at s
-    unfolding host_at
-    host_colon h = rw (← e, ne_eqb n 0 z, ← et, h)
-
-    module _ (h : t ≡ false) where
-      pub plain_is : (r : Text) → r ≡ or_absent s n → r ≡ plain_at s
-      unfolding plain_at
-      plain_is r er = er ∙ rw (← e, ne_eqb n 0 z, ← et, h)
-
-      module _ (l : Bool) (el : l ≡ is_at s (n - 1) 58) where
-        pub host_left : l ≡ true → Given (n - 1) (n - 1) ≡ host_at s
-        unfolding host_at
-        host_left q = rw (← e, ne_eqb n 0 z, ← et, h, ← el, q)
-
-        pub host_is : l ≡ false → (r : Text) → r ≡ or_absent s n → r ≡ host_at s
-        unfolding host_at
-        host_is q r er = er ∙ rw (← e, ne_eqb n 0 z, ← et, h, ← el, q)
-
-pub ruleset plain_laws = (plain_none, plain_colon, plain_is)
-
-pub ruleset host_laws = (host_none, host_colon, host_left, host_is)
 
 -- The tag: after `i` bytes, none of them white or `:`
 pub record TagAt (s : List ℕ) (i : ℕ) : Type 0 where
@@ -102,18 +56,7 @@ module _ (s : List ℕ) (i : ℕ) (t : TagAt s i) where
         let n : tag_len (drop i s) ≡ suc (tag_len (drop (i + 1) s)) = rw (step s i h, ← here, z, ne_eqb (get_or s i 0) 58 d) in
         record { within_s = omega arith; whole = omega (arith, t.whole) }
 
-module _ (s : List ℕ) (n : ℕ) (e : n ≡ tag_len s) where
-  pub tag_none : n ≡ 0 → Fails ≡ tag_at s
-  unfolding tag_at
-  tag_none z = rw (← e, z)
-
-  pub tag_is : (n ≡ 0 → ⊥) → (r : Text) → r ≡ or_absent s n → r ≡ tag_at s
-  unfolding tag_at
-  tag_is z r er = er ∙ rw (← e, ne_eqb n 0 z)
-
 pub ruleset walk_laws = (tag_start, tag_plain, tag_next, tag_white, tag_colon, tag_end_lem)
-
-pub ruleset tag_laws = (tag_none, tag_is)
 
 -- A text that is read from `n` bytes passes what it gives, and no more than there is; of nothing, nothing is read.
 abbrev pub TextIn : ℕ → Text → Type 0

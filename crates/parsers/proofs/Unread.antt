@@ -11,11 +11,10 @@ use Rattle.base.specs.Choose.{is_at}
 use Rattle.base.proofs.Tests.{clash, by_test, by_if}
 use Rattle.white.specs.White.{white_len}
 use Rattle.white.specs.Trim.{field_len}
-use Rattle.parsers.specs.Parsers.{alone, host_at, tag_len}
+use Rattle.parsers.specs.Parsers.{alone, host_at, tag_len, tag_at}
 use Rattle.parsers.specs.Unread.{is_unread, NoHostNoTag}
 use Rattle.parsers.specs.declared.Text.{Text}
 use Rattle.parsers.specs.declared.Text.TheVariants.{Fails, Absent, Given}
-use Rattle.parsers.proofs.Texts.{tag_none}
 
 -- at a byte that is white or `:`, a tag stops; a field that is none, or `:` alone, begins with such a byte
 stops : (field colon : Bool) (m n : ℕ) → (let k = if field then suc m else 0 in eqb k 0 || (eqb k 1 && colon)) ≡ true
@@ -49,4 +48,5 @@ module _ (s : List ℕ) where
       by_if Told (alone s n 45) _ _ (λ d. told_absent n) (λ d. told_given n n)
 
 pub no_host_no_tag : NoHostNoTag
-no_host_no_tag s h = let u = host_told s h in (u, sym (tag_none s 0 (sym (tag_ends s u)) refl))
+unfolding tag_at
+no_host_no_tag s h = let u = host_told s h in (u, rw (tag_ends s u))

@@ -7,7 +7,6 @@ ghost use Rattle.parsers.specs.Parsers.{alone, or_absent, plain_at, host_at, tag
 ghost use Rattle.parsers.specs.Steps.{is_blank, blanks_from, some_blanks_from, byte_from, colon_from, is_inside, moved, number_from, placed, plain_from, host_from, tag_from};
 ghost use Rattle.parsers.specs.Passed.{digits_passed, text_passed};
 
-use digits::Number;
 use record::Place;
 
 // A text at the front of a part: its length, and how many bytes are passed.
@@ -16,27 +15,6 @@ pub enum Text {
     Fails,
     Absent(usize),
     Given(usize, usize),
-}
-
-// A field of the line, and the position after it.
-#[derive(Clone, Copy)]
-pub enum Field {
-    NoField,
-    IsField(Place, usize),
-}
-
-// A number, and the position after it.
-#[derive(Clone, Copy)]
-pub enum Num {
-    NoNum,
-    IsNum(u32, usize),
-}
-
-// A position.
-#[derive(Clone, Copy)]
-pub enum Pos {
-    NoPos,
-    IsPos(usize),
 }
 
 // Whether the field of `n` bytes is the one byte `b`.
@@ -52,74 +30,59 @@ fn or_absent(s: &[u8], n: usize) -> Text
     ensures { result ≡ or_absent s.now n }
 {
     if is_alone(s, n, b'-') {
-        return Text::Absent(n);
+        Text::Absent(n)
+    } else {
+        Text::Given(n, n)
     }
-    Text::Given(n, n)
 }
 
 // App name, process id, message id.
+#[tactic(auto, unfolding(crate::specs::Parsers::plain_at))]
 pub fn plain_at(s: &[u8]) -> Text
     ensures { result ≡ plain_at s.now }
 {
     let n = white::field_len(s);
-    if n == 0 {
-        return Text::Fails;
+    if n == 0 || is_alone(s, n, b':') {
+        Text::Fails
+    } else {
+        or_absent(s, n)
     }
-    if is_alone(s, n, b':') {
-        return Text::Fails;
-    }
-    or_absent(s, n)
 }
 
 // A host that ends in `:` gives the text before it; the colon is not consumed.
+#[tactic(auto, unfolding(crate::specs::Parsers::host_at))]
 pub fn host_at(s: &[u8]) -> Text
     ensures { result ≡ host_at s.now }
 {
     let n = white::field_len(s);
-    if n == 0 {
-        return Text::Fails;
+    if n == 0 || is_alone(s, n, b':') {
+        Text::Fails
+    } else if base::is_at(s, n - 1, b':') {
+        Text::Given(n - 1, n - 1)
+    } else {
+        or_absent(s, n)
     }
-    if is_alone(s, n, b':') {
-        return Text::Fails;
-    }
-    let last = n - 1;
-    if base::is_at(s, last, b':') {
-        return Text::Given(last, last);
-    }
-    or_absent(s, n)
 }
 
 // How many bytes of `s` come before its first white character or `:`. ASCII above the space is not asked for white.
+#[tactic(auto, using(crate::proofs::Texts::walk_laws))]
 pub fn tag_len(s: &[u8]) -> usize
     ensures { result ≡ tag_len s.now }
 {
-    let mut i = 0;
-    while i < s.len() {
-        let b = s[i];
-        if b == b':' {
+    for (i, b) in s.iter().enumerate() {
+        if *b == b':' || !base::in_range(33, 127, *b) && white::white_len(base::past(s, i)) != 0 {
             return i;
         }
-        if (33 <= b) & (b <= 127) {
-            i += 1;
-        } else {
-            let w = white::white_len(base::past(s, i));
-            if w != 0 {
-                return i;
-            }
-            i += 1;
-        }
     }
-    i
+    s.len()
 }
 
+#[tactic(auto, unfolding(crate::specs::Parsers::tag_at))]
 pub fn tag_at(s: &[u8]) -> Text
     ensures { result ≡ tag_at s.now }
 {
     let n = tag_len(s);
-    if n == 0 {
-        return Text::Fails;
-    }
-    or_absent(s, n)
+    if n == 0 { Text::Fails } else { or_absent(s, n) }
 }
 
 fn is_blank(b: u8) -> bool
@@ -133,82 +96,58 @@ pub fn blanks_from(s: &[u8], at: usize) -> usize
     requires { at ≤ length s.now }
     ensures { result ≡ blanks_from s.now at }
 {
-    let mut i = at;
-    while i < s.len() {
-        if !is_blank(s[i]) {
-            return i;
-        }
-        i += 1;
-    }
-    i
+    at + s[at..].iter().take_while(|b| is_blank(**b)).count()
 }
 
 // The same, where there is at least one.
-pub fn some_blanks_from(s: &[u8], at: usize) -> Pos
+#[tactic(auto, using(crate::proofs::Steps::some_laws))]
+pub fn some_blanks_from(s: &[u8], at: usize) -> Option<usize>
     requires { at ≤ length s.now }
     ensures { result ≡ some_blanks_from s.now at }
 {
     let next = blanks_from(s, at);
-    if next == at {
-        return Pos::NoPos;
-    }
-    Pos::IsPos(next)
+    if next == at { None } else { Some(next) }
 }
 
 // The position after the byte `b`.
-pub fn byte_from(s: &[u8], at: usize, b: u8) -> Pos
+#[tactic(auto, unfolding(crate::specs::Steps::byte_from))]
+pub fn byte_from(s: &[u8], at: usize, b: u8) -> Option<usize>
     requires { 0 < b }
     ensures { result ≡ byte_from s.now at b }
 {
-    if !base::is_at(s, at, b) {
-        return Pos::NoPos;
+    if base::is_at(s, at, b) {
+        Some(at + 1)
+    } else {
+        None
     }
-    Pos::IsPos(at + 1)
 }
 
 // The position after an optional `:`.
 pub fn colon_from(s: &[u8], at: usize) -> usize
     ensures { result ≡ colon_from s.now at }
 {
-    if base::is_at(s, at, b':') {
-        return at + 1;
-    }
-    at
-}
-
-fn is_inside(b: u8) -> bool
-    ensures { result ≡ is_inside b }
-{
-    b != b']'
+    if base::is_at(s, at, b':') { at + 1 } else { at }
 }
 
 // How many bytes of `s` come before its first `]`.
 pub fn inside_run(s: &[u8]) -> usize
     ensures { result ≡ run is_inside s.now }
 {
-    let mut i = 0;
-    while i < s.len() {
-        if !is_inside(s[i]) {
-            return i;
-        }
-        i += 1;
-    }
-    i
+    s.iter().take_while(|b| **b != b']').count()
 }
 
 // Digits that were read at `at`, as a number and the position after it.
-pub fn moved(at: usize, n: Number) -> Num
+pub fn moved(at: usize, n: Option<(u32, usize)>) -> Option<(u32, usize)>
     requires { at + digits_passed n < 2 ^ 64 }
     ensures { result ≡ moved at n }
 {
-    match n {
-        Number::Nothing => Num::NoNum,
-        Number::Value { value, len } => Num::IsNum(value, at + len),
-    }
+    let (value, len) = n?;
+    Some((value, at + len))
 }
 
 // The digits at `at`, as a number within 32 bits.
-pub fn number_from(s: &[u8], at: usize) -> Num
+#[tactic(auto, using(crate::proofs::Steps::number_laws))]
+pub fn number_from(s: &[u8], at: usize) -> Option<(u32, usize)>
     requires { at ≤ length s.now }
     ensures { result ≡ number_from s.now at }
 {
@@ -216,32 +155,35 @@ pub fn number_from(s: &[u8], at: usize) -> Num
 }
 
 // A text that was read at `at`, as a place of the line.
-fn placed(at: usize, t: Text) -> Field
+fn placed(at: usize, t: Text) -> Option<(Place, usize)>
     requires { at + text_passed t < 2 ^ 64 }
     ensures { result ≡ placed at t }
 {
     match t {
-        Text::Fails => Field::NoField,
-        Text::Absent(n) => Field::IsField(record::absent(), at + n),
-        Text::Given(len, n) => Field::IsField(record::place_at(at, len), at + n),
+        Text::Fails => None,
+        Text::Absent(n) => Some((record::absent(), at + n)),
+        Text::Given(len, n) => Some((record::place_at(at, len), at + n)),
     }
 }
 
-pub fn plain_from(s: &[u8], at: usize) -> Field
+#[tactic(auto, using(crate::proofs::Fields::field_laws))]
+pub fn plain_from(s: &[u8], at: usize) -> Option<(Place, usize)>
     requires { at ≤ length s.now }
     ensures { result ≡ plain_from s.now at }
 {
     placed(at, plain_at(base::past(s, at)))
 }
 
-pub fn host_from(s: &[u8], at: usize) -> Field
+#[tactic(auto, using(crate::proofs::Fields::field_laws))]
+pub fn host_from(s: &[u8], at: usize) -> Option<(Place, usize)>
     requires { at ≤ length s.now }
     ensures { result ≡ host_from s.now at }
 {
     placed(at, host_at(base::past(s, at)))
 }
 
-pub fn tag_from(s: &[u8], at: usize) -> Field
+#[tactic(auto, using(crate::proofs::Fields::field_laws))]
+pub fn tag_from(s: &[u8], at: usize) -> Option<(Place, usize)>
     requires { at ≤ length s.now }
     ensures { result ≡ tag_from s.now at }
 {

@@ -2,61 +2,51 @@
 #![tactic(auto)]
 
 ghost use Rattle.std.specs.Prelude.{◌≡◌};
-ghost use Rattle.pri.specs.Pri.{facility_of, severity_of, no_pri, pri_at};
-
-use digits::Number;
-use record::Level;
+ghost use Rattle.pri.specs.Pri.{facility_of, severity_of, pri_at};
 
 // The facility and the severity, and where reading goes on: at 0 where there is no priority.
 #[derive(Clone, Copy)]
 pub struct Pri {
     pub next: usize,
-    pub facility: Level,
-    pub severity: Level,
+    pub facility: Option<u8>,
+    pub severity: Option<u8>,
 }
 
-fn no_pri() -> Pri
-    ensures { result ≡ no_pri }
-{
-    Pri {
-        next: 0,
-        facility: Level::Unset,
-        severity: Level::Unset,
-    }
-}
+const NO_PRI: Pri = Pri {
+    next: 0,
+    facility: None,
+    severity: None,
+};
 
-fn facility_of(value: u32) -> Level
+fn facility_of(value: u32) -> Option<u8>
     ensures { result ≡ facility_of value }
 {
-    let facility = value / 8;
-    if 23 < facility {
-        return Level::Unset;
+    match value / 8 {
+        facility @ 0..=23 => Some(facility as u8),
+        _ => None,
     }
-    Level::Set(facility as u8)
 }
 
-fn severity_of(value: u32) -> Level
+fn severity_of(value: u32) -> Option<u8>
     ensures { result ≡ severity_of value }
 {
-    Level::Set((value % 8) as u8)
+    Some((value % 8) as u8)
 }
 
 // `<`, digits of a value up to 255, `>`.
+#[tactic(auto, unfolding(crate::specs::Pri::pri_at))]
 pub fn read_pri(s: &[u8]) -> Pri
     ensures { result ≡ pri_at s.now }
 {
     if !base::is_at(s, 0, b'<') {
-        return no_pri();
+        return NO_PRI;
     }
-    let Number::Value { value, len } = digits::digits(base::past(s, 1), 255) else {
-        return no_pri();
-    };
-    if !base::is_at(s, len + 1, b'>') {
-        return no_pri();
-    }
-    Pri {
-        next: len + 2,
-        facility: facility_of(value),
-        severity: severity_of(value),
+    match digits::digits(base::past(s, 1), 255) {
+        Some((value, len)) if base::is_at(s, len + 1, b'>') => Pri {
+            next: len + 2,
+            facility: facility_of(value),
+            severity: severity_of(value),
+        },
+        _ => NO_PRI,
     }
 }

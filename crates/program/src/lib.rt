@@ -5,7 +5,7 @@ mod reason;
 
 ghost use Rattle.std.specs.Prelude.{◌≡◌, ◌≤◌, length, not, false, IfOk, IfSome};
 ghost use Rattle.std.specs.Process.{exit_status};
-ghost use Rattle.program.specs.Arguments.{word_of, with_word, with_option, wishing, running_with};
+ghost use Rattle.program.specs.Arguments.{word_of, with_word};
 ghost use Rattle.program.specs.Ends.{status_number, ended};
 ghost use Rattle.program.specs.declared.Status.TheVariants.{Misused};
 
@@ -16,6 +16,7 @@ use std::process::ExitCode;
 
 // The process that a program runs in, with its arguments and its standard streams: why standard input could not be read, if it could not, whether some of what
 // was written to standard output is lost, and whether that is so because its reader has gone away: then nothing more is told, as that is no failure.
+// These are two flags, since the clauses of `say` and of `end` name `lost`.
 #[derive(Clone, Copy)]
 pub struct Process {
     rt: HostRuntime,
@@ -46,7 +47,7 @@ pub enum Word {
 }
 
 // What is to be done: the program's work, or in its place what one argument asks for. `Unknown` has the argument's number.
-#[derive(Clone, Copy)]
+#[derive(Clone, Copy, PartialEq, Eq)]
 pub enum Wish {
     Run,
     Help,
@@ -77,95 +78,68 @@ pub fn word_of(text: &[u8]) -> Word
     ensures { result ≡ word_of text.now }
 {
     if base::same_text(text, b"--status-on-3") {
-        return Word::Launched;
+        Word::Launched
+    } else if base::same_text(text, b"--help") {
+        Word::Help
+    } else if base::same_text(text, b"--version") {
+        Word::Version
+    } else if base::same_text(text, b"--crlf") {
+        Word::Crlf
+    } else if base::same_text(text, b"--counted") {
+        Word::Counted
+    } else if base::same_text(text, b"--where") {
+        Word::Where
+    } else if base::same_text(text, b"--point") {
+        Word::Point
+    } else {
+        Word::Unknown
     }
-    if base::same_text(text, b"--help") {
-        return Word::Help;
-    }
-    if base::same_text(text, b"--version") {
-        return Word::Version;
-    }
-    if base::same_text(text, b"--crlf") {
-        return Word::Crlf;
-    }
-    if base::same_text(text, b"--counted") {
-        return Word::Counted;
-    }
-    if base::same_text(text, b"--where") {
-        return Word::Where;
-    }
-    if base::same_text(text, b"--point") {
-        return Word::Point;
-    }
-    Word::Unknown
 }
 
-// What is asked for with one argument more, the `i`th. To point at a place tells it too.
+// What is asked for with one argument more, the `i`th: an option that the program does not take is not known to it. To point at a place tells it too.
 pub fn with_word(takes: Takes, a: Asked, w: Word, i: usize) -> Asked
     ensures { result ≡ with_word takes a w i }
 {
-    let forms = takes.forms;
-    let places = takes.places;
-    let launched = a.launched;
-    let crlf = a.crlf;
-    let counted = a.counted;
-    let place = a.place;
-    let point = a.point;
-    match w {
-        Word::Launched => running(true, crlf, counted, place, point),
-        Word::Help => wished(a, Wish::Help),
-        Word::Version => wished(a, Wish::Version),
-        Word::Crlf => with_option(forms, a, running(launched, true, counted, place, point), i),
-        Word::Counted => with_option(forms, a, running(launched, crlf, true, place, point), i),
-        Word::Where => with_option(places, a, running(launched, crlf, counted, true, point), i),
-        Word::Point => with_option(places, a, running(launched, crlf, counted, true, true), i),
-        Word::Unknown => wished(a, Wish::Unknown(i)),
-    }
-}
-
-// A run with these options.
-fn running(launched: bool, crlf: bool, counted: bool, place: bool, point: bool) -> Asked
-    ensures { result ≡ running_with launched crlf counted place point }
-{
-    Asked {
+    let run = Asked {
         wish: Wish::Run,
-        launched,
-        crlf,
-        counted,
-        place,
-        point,
+        ..a
+    };
+    match w {
+        Word::Launched => Asked {
+            launched: true,
+            ..run
+        },
+        Word::Help => Asked {
+            wish: Wish::Help,
+            ..a
+        },
+        Word::Version => Asked {
+            wish: Wish::Version,
+            ..a
+        },
+        Word::Crlf if takes.forms => Asked { crlf: true, ..run },
+        Word::Counted if takes.forms => Asked {
+            counted: true,
+            ..run
+        },
+        Word::Where if takes.places => Asked { place: true, ..run },
+        Word::Point if takes.places => Asked {
+            place: true,
+            point: true,
+            ..run
+        },
+        _ => Asked {
+            wish: Wish::Unknown(i),
+            ..a
+        },
     }
-}
-
-// The same options with another wish.
-fn wished(a: Asked, wish: Wish) -> Asked
-    ensures { result ≡ wishing wish a }
-{
-    Asked {
-        wish,
-        launched: a.launched,
-        crlf: a.crlf,
-        counted: a.counted,
-        place: a.place,
-        point: a.point,
-    }
-}
-
-// With an option, where the program takes it.
-fn with_option(takes: bool, a: Asked, with: Asked, i: usize) -> Asked
-    ensures { result ≡ with_option takes a with i }
-{
-    if takes {
-        return with;
-    }
-    wished(a, Wish::Unknown(i))
 }
 
 // The `i`th argument, if there is one. No word that is known is longer than the buffer.
 fn word_at(process: &Process, i: usize) -> Option<Word> {
     let mut text = [0u8; 64];
     match argument(process, i, &mut text) {
-        Ok(n) => Some(word_of(&text[0..n])),
+        Ok(n) => Some(word_of(&text[..n])),
         Err(FillError::TooLong) => Some(Word::Unknown),
         Err(FillError::NotPresent) => None,
     }
@@ -173,25 +147,24 @@ fn word_at(process: &Process, i: usize) -> Option<Word> {
 
 // What the arguments ask for, up to the first that asks for something else than a run.
 pub fn arguments(process: &Process, takes: Takes) -> Asked {
-    let mut a = running(false, false, false, false, false);
+    let mut a = Asked {
+        wish: Wish::Run,
+        launched: false,
+        crlf: false,
+        counted: false,
+        place: false,
+        point: false,
+    };
     for i in 1..usize::MAX {
         let Some(w) = word_at(process, i) else {
             return a;
         };
         a = with_word(takes, a, w, i);
-        if !is_run(a) {
+        if a.wish != Wish::Run {
             return a;
         }
     }
     a
-}
-
-fn is_run(a: Asked) -> bool {
-    let wish = a.wish;
-    match wish {
-        Wish::Run => true,
-        _ => false,
-    }
 }
 
 // ---- the process
@@ -268,55 +241,43 @@ pub fn write(process: &Process, text: &[u8]) -> io::Result<()> {
 pub fn say(process: &mut Process, text: &[u8]) -> bool
     ensures { process.new.lost ≡ not result }
 {
-    if process.lost {
-        return false;
-    }
-    let written = process.rt.write_all(text);
-    noted(process, written)
+    say_by(process, |rt| rt.write_all(text))
 }
 
 // Writes a number, likewise.
 pub fn say_decimal(process: &mut Process, n: u64) -> bool
     ensures { process.new.lost ≡ not result }
 {
+    say_by(process, |rt| rt.print(n))
+}
+
+// Writes, where nothing is lost yet, and notes how that went.
+fn say_by<W: FnOnce(HostRuntime) -> io::Result<()>>(process: &mut Process, write: W) -> bool
+    requires { W.IsAlwaysCallable write }
+    ensures { process.new.lost ≡ not result }
+{
     if process.lost {
         return false;
     }
-    let written = process.rt.print(n);
-    noted(process, written)
-}
-
-// Notes how writing to standard output went.
-fn noted(process: &mut Process, written: io::Result<()>) -> bool
-    ensures { process.new.lost ≡ not result }
-{
-    match written {
-        Ok(()) => {
-            process.lost = false;
-            true
-        }
-        Err(why) => {
-            process.lost = true;
-            process.gone = why.kind() == io::ErrorKind::BrokenPipe;
-            false
-        }
+    if let Err(why) = write(process.rt) {
+        process.lost = true;
+        process.gone = why.kind() == io::ErrorKind::BrokenPipe;
     }
+    !process.lost
 }
 
 // Writes a text to standard error. Where that fails there is no one to tell.
 pub fn tell(process: &Process, text: &[u8]) {
-    if process.gone {
-        return;
+    if !process.gone {
+        let _ = process.rt.stderr().write_all(text);
     }
-    let _ = process.rt.stderr().write_all(text);
 }
 
 // Writes a number, likewise.
 pub fn tell_decimal(process: &Process, n: u64) {
-    if process.gone {
-        return;
+    if !process.gone {
+        let _ = process.rt.stderr().print(n);
     }
-    let _ = process.rt.stderr().print(n);
 }
 
 // A line on standard error: the program's name and what is wrong.
@@ -376,11 +337,11 @@ pub fn is_at_end(process: &mut Process, name: &[u8]) -> bool
 pub fn exit_code(status: Status) -> ExitCode
     ensures { exit_status result ≡ status_number status }
 {
-    match status {
-        Status::Done => ExitCode::from(0),
-        Status::Failed => ExitCode::from(1),
-        Status::Misused => ExitCode::from(2),
-    }
+    ExitCode::from(match status {
+        Status::Done => 0,
+        Status::Failed => 1,
+        Status::Misused => 2,
+    })
 }
 
 // The last act of a program: something is said where standard output is lost and nothing else has failed.
@@ -388,13 +349,13 @@ pub fn end(process: &Process, name: &[u8], ok: bool) -> Status
     ensures { result ≡ ended ok process.now.lost }
 {
     if !ok {
-        return Status::Failed;
-    }
-    if process.lost {
+        Status::Failed
+    } else if process.lost {
         complain(process, name, b"standard output could not be written");
-        return Status::Failed;
+        Status::Failed
+    } else {
+        Status::Done
     }
-    Status::Done
 }
 
 // The line on standard error about an argument that is not known, and the usage. One that is longer than the buffer is not shown.
@@ -405,7 +366,7 @@ fn refuse(process: &Process, name: &[u8], usage: &[u8], i: usize) -> Status
     let n = argument(process, i, &mut text).unwrap_or(0);
     tell(process, name);
     tell(process, b": unknown argument '");
-    tell(process, &text[0..n]);
+    tell(process, &text[..n]);
     tell(process, b"'\n");
     tell(process, usage);
     Status::Misused
@@ -428,8 +389,7 @@ pub fn starts(
     usage: &[u8],
     help: &[u8],
 ) -> Option<Status> {
-    let wish = a.wish;
-    match wish {
+    match a.wish {
         Wish::Run => None,
         Wish::Help => {
             say(process, usage);

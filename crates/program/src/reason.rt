@@ -14,8 +14,5 @@ pub(crate) fn reason(why: io::Error, text: &mut [u8; 256]) -> &str {
 
 // The text before the first `end`, or all of it.
 fn front<'a>(text: &'a str, end: &str) -> &'a str {
-    match text.split_once(end) {
-        Some((before, _)) => before,
-        None => text,
-    }
+    text.split_once(end).map_or(text, |(before, _)| before)
 }

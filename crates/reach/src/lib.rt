@@ -6,28 +6,20 @@ ghost use Rattle.record.specs.Limits.{line_limit};
 ghost use Rattle.viable.specs.Viable.{Reports};
 ghost use Rattle.reach.specs.Lines.{body_at, line_at};
 
-use viable::Went;
-
 // The structured data, and what is after it.
-fn body(line: &[u8], at: usize) -> Went
+fn body(line: &[u8], at: usize) -> Result<usize, usize>
     requires { length line.now ≤ line_limit }
     ensures { result ≡ body_at line.now at }
 {
-    let w = reach_data::data(line, at);
-    let Went::Past(n) = w else {
-        return w;
-    };
+    let n = reach_data::data(line, at)?;
     reach_data::message(line, n)
 }
 
-fn walk(line: &[u8]) -> Went
+fn walk(line: &[u8]) -> Result<usize, usize>
     requires { length line.now ≤ line_limit }
     ensures { result ≡ line_at line.now 0 }
 {
-    let w = reach_header::header(line);
-    let Went::Past(n) = w else {
-        return w;
-    };
+    let n = reach_header::header(line)?;
     body(line, n)
 }
 
@@ -39,7 +31,7 @@ pub fn reach(line: &[u8]) -> usize
         return 0;
     }
     match walk(line) {
-        Went::Past(_) => 0,
-        Went::Stuck(at) => at,
+        Ok(_) => 0,
+        Err(at) => at,
     }
 }

@@ -1,4 +1,5 @@
 -- Element after element: where they end, where one breaks, and where one goes on.
+use Rattle.std.specs.Prelude.{Result, Ok, Err}
 use Prim.Native.Nat.{ℕ, zero, suc, ◌+◌, ◌≤◌, ◌<◌}
 use mathlib.Core.Path.{◌≡◌, refl, sym, ap, ap₂, ◌∙◌}
 use mathlib.Core.Bool.{Bool, true, false, not, ◌||◌}
@@ -21,8 +22,6 @@ use Rattle.viable.specs.Far.{each_from, each_far, next_far, follow, choose_far}
 use Rattle.viable.specs.Ids.{is_used, room, id_of, id_far, is_shut}
 use Rattle.viable.specs.Reach.{element_in, element_far, used_and, cons_of, elements, elements_far, structured_in, structured_far}
 use Rattle.viable.specs.Walks.{went_of, onward_of, went_at}
-use Rattle.viable.specs.declared.Went.{Went}
-use Rattle.viable.specs.declared.Went.TheVariants.{Past, Stuck}
 use Rattle.viable.proofs.Data.{element_in_reads}
 use Rattle.viable.proofs.Near.{room_early}
 use Rattle.viable.proofs.Reaches.{by_parsed}
@@ -47,15 +46,15 @@ far_skip u zero (x ∷ y) = refl
 far_skip u (suc k) [] = refl
 far_skip u (suc k) (x ∷ y) = far_skip u k y
 
-abbrev went : List (List ℕ) → List ℕ → Went
+abbrev went : List (List ℕ) → List ℕ → Result ℕ ℕ
 went u y = went_of (each_from 91 element_in used_and u 0 y) (each_far 91 element_in element_far used_and room u 0 y)
 
-went_end : (u : List (List ℕ)) (y : List ℕ) → is_at y 0 91 ≡ false → went u y ≡ Past 0
+went_end : (u : List (List ℕ)) (y : List ℕ) → is_at y 0 91 ≡ false → went u y ≡ Ok 0
 unfolding each_from
 went_end u [] h = refl
 went_end u (x ∷ y) h = rw h
 
-went_broke : (u : List (List ℕ)) (y : List ℕ) → is_at y 0 91 ≡ true → room u ≡ true → element_in u (drop 1 y) ≡ failed → went u y ≡ Stuck (element_far u (drop 1 y) + 1)
+went_broke : (u : List (List ℕ)) (y : List ℕ) → is_at y 0 91 ≡ true → room u ≡ true → element_in u (drop 1 y) ≡ failed → went u y ≡ Err (element_far u (drop 1 y) + 1)
 unfolding each_from each_far
 went_broke u [] h r e = absurd (omega (arith, at_below [] 0 90 h))
 went_broke u (x ∷ y) h r e = rw (h, r, e)
@@ -88,7 +87,7 @@ no_id_far : (u : List (List ℕ)) (x : List ℕ) → id_of u x ≡ failed → el
 unfolding element_far next_far
 no_id_far u x f = rw f
 
-stuck_is : {A : Type 0} (o : Parsed A) (k at j : ℕ) → Stuck j ≡ onward_of at (went_of o k) → o ≡ failed
+stuck_is : {A : Type 0} (o : Parsed A) (k at j : ℕ) → Err j ≡ onward_of at (went_of o k) → o ≡ failed
 stuck_is failed k at j e = refl
 stuck_is (found a m) k at j e = let z : true ≡ false = cc in clash z
 
@@ -96,17 +95,17 @@ module _ (u : List (List ℕ)) (s : List ℕ) (at : ℕ) where
   after : drop 1 (drop at s) ≡ drop (at + 1) s
   after = drop-drop 1 at s
 
-  pub each_end : is_at s at 91 ≡ false → each_at u s at ≡ Past at
+  pub each_end : is_at s at 91 ≡ false → each_at u s at ≡ Ok at
   unfolding went_at
-  each_end h = ap (onward_of at) (went_end u (drop at s) (at_here s at 91 ∙ h)) ∙ ap Past (let z : at + 0 ≡ at = omega arith in z)
+  each_end h = ap (onward_of at) (went_end u (drop at s) (at_here s at 91 ∙ h)) ∙ ap Ok (let z : at + 0 ≡ at = omega arith in z)
 
   module _ (h : is_at s at 91 ≡ true) (few : length u < 8281) where
-    each_broke : element_in u (drop (at + 1) s) ≡ failed → each_at u s at ≡ Stuck (at + 1 + element_far u (drop (at + 1) s))
+    each_broke : element_in u (drop (at + 1) s) ≡ failed → each_at u s at ≡ Err (at + 1 + element_far u (drop (at + 1) s))
     unfolding went_at
     each_broke e =
         ap (onward_of at) (went_broke u (drop at s) (at_here s at 91 ∙ h) (room_early u few) (ap (element_in u) after ∙ e))
-        ∙ ap (λ (x : List ℕ). Stuck (at + (element_far u x + 1))) after
-        ∙ ap Stuck (let z : at + (element_far u (drop (at + 1) s) + 1) ≡ at + 1 + element_far u (drop (at + 1) s) = omega arith in z)
+        ∙ ap (λ (x : List ℕ). Err (at + (element_far u x + 1))) after
+        ∙ ap Err (let z : at + (element_far u (drop (at + 1) s) + 1) ≡ at + 1 + element_far u (drop (at + 1) s) = omega arith in z)
 
     pub each_on : (e : Element) (n : ℕ) → element (drop (at + 1) s) ≡ found e n → is_used u e.id ≡ false → each_at u s at ≡ each_at (e.id ∷ u) s (at + 1 + n)
     unfolding went_at
@@ -119,14 +118,14 @@ module _ (u : List (List ℕ)) (s : List ℕ) (at : ℕ) where
 
     -- an id that is used
     pub each_used : is_used u (take (id_len (drop (at + 1) s)) (drop (at + 1) s)) ≡ true
-        → each_at u s at ≡ Stuck (at + 1 + near_of (id_len (drop (at + 1) s)) (is_shut u (take 31 (drop (at + 1) s))))
+        → each_at u s at ≡ Err (at + 1 + near_of (id_len (drop (at + 1) s)) (is_shut u (take 31 (drop (at + 1) s))))
     each_used k =
         let x = drop (at + 1) s in
         let f = id_used u x k in
-        each_broke (no_id u x f) ∙ ap (λ (j : ℕ). Stuck (at + 1 + j)) (no_id_far u x f ∙ far_used u x k few)
+        each_broke (no_id u x f) ∙ ap (λ (j : ℕ). Err (at + 1 + j)) (no_id_far u x f ∙ far_used u x k few)
 
     -- an element that breaks, whose id is not used
-    pub each_plain : is_used u (take (id_len (drop (at + 1) s)) (drop (at + 1) s)) ≡ false → (w : Went) → w ≡ plain_at s (at + 1) → (j : ℕ) → w ≡ Stuck j → each_at u s at ≡ w
+    pub each_plain : is_used u (take (id_len (drop (at + 1) s)) (drop (at + 1) s)) ≡ false → (w : Result ℕ ℕ) → w ≡ plain_at s (at + 1) → (j : ℕ) → w ≡ Err j → each_at u s at ≡ w
     unfolding went_at
     each_plain k w ew j hw =
         let x = drop (at + 1) s in
@@ -182,24 +181,24 @@ all_elements y h =
     ∙ sym (went_item [] y e n h (room_early [] (omega arith)) f)))
     refl
 
-none_led : (at : ℕ) (y : List ℕ) → is_at y 0 91 ≡ false → Stuck at ≡ onward_of at (went_of (elements y) (elements_far y))
+none_led : (at : ℕ) (y : List ℕ) → is_at y 0 91 ≡ false → Err at ≡ onward_of at (went_of (elements y) (elements_far y))
 unfolding elements elements_far into follow next_far choose choose_far
-none_led at y q = rw q (ap Stuck (let z : at ≡ at + 0 = omega arith in z))
+none_led at y q = rw q (ap Err (let z : at ≡ at + 0 = omega arith in z))
 
 -- ---- STRUCTURED-DATA
 
 module _ (s : List ℕ) (at : ℕ) (t : Bool) (et : t ≡ is_at s at 45) where
-  pub data_nil : t ≡ true → Past (at + 1) ≡ data_at s at
+  pub data_nil : t ≡ true → Ok (at + 1) ≡ data_at s at
   unfolding structured_in structured_far went_at
-  data_nil h = choose_yes _ _ _ _ 45 s at t et h (Past (at + 1)) (ap Past (let z : at + 1 ≡ at + 1 + 0 = omega arith in z))
+  data_nil h = choose_yes _ _ _ _ 45 s at t et h (Ok (at + 1)) (ap Ok (let z : at + 1 ≡ at + 1 + 0 = omega arith in z))
 
   module _ (h : t ≡ false) (u : Bool) (eu : u ≡ is_at s at 91) where
-    pub data_none : not u ≡ true → Stuck at ≡ data_at s at
+    pub data_none : u ≡ false → Err at ≡ data_at s at
     unfolding structured_in structured_far went_at
-    data_none k = choose_no _ _ _ _ 45 s at t et h (Stuck at) (none_led at (drop at s) (at_here s at 91 ∙ sym eu ∙ not-true u k))
+    data_none k = choose_no _ _ _ _ 45 s at t et h (Err at) (none_led at (drop at s) (at_here s at 91 ∙ sym eu ∙ k))
 
-    pub data_elements : not u ≡ false → (x : Went) → x ≡ each_at [] s at → x ≡ data_at s at
+    pub data_elements : u ≡ true → (x : Result ℕ ℕ) → x ≡ each_at [] s at → x ≡ data_at s at
     unfolding structured_in structured_far went_at
-    data_elements k x e = choose_no _ _ _ _ 45 s at t et h x (e ∙ ap (onward_of at) (sym (all_elements (drop at s) (at_here s at 91 ∙ sym eu ∙ not-false u k))))
+    data_elements k x e = choose_no _ _ _ _ 45 s at t et h x (e ∙ ap (onward_of at) (sym (all_elements (drop at s) (at_here s at 91 ∙ sym eu ∙ k))))
 
 pub ruleset data_laws = (data_nil, data_none, data_elements)

@@ -1,5 +1,5 @@
 -- The rows that a walk notes: what they say of the line, and what is told by the first that repeats.
-use Rattle.std.specs.Prelude.{if◌then◌else◌}
+use Rattle.std.specs.Prelude.{if◌then◌else◌, Option, Some, None, Result, Ok, Err}
 use Prim.Native.Nat.{ℕ, zero, suc, ◌+◌, ◌-◌, ◌*◌, ◌≤◌, ◌<◌}
 use mathlib.Core.Path.{◌≡◌, refl, sym, ap, ap₂, ◌∙◌, subst}
 use mathlib.Core.Bool.{Bool, true, false}
@@ -24,16 +24,10 @@ use Rattle.grammar.specs.Parse.{closed, many, sd_name, param, element, element_o
 use Rattle.grammar.specs.Parse.Parsed.{found}
 use Rattle.grammar.proofs.Data.{element_reads}
 use Rattle.viable.specs.Ids.{is_used, is_shut}
-use Rattle.viable.specs.declared.Went.{Went}
-use Rattle.viable.specs.declared.Went.TheVariants.{Past, Stuck}
 use Rattle.viable.proofs.Data.{no_name}
 use Rattle.viable.proofs.Walks.{got_past}
 use Rattle.reach_data.specs.Pieces.{plain_far, plain_at}
-use Rattle.reach_data.specs.Rows.{each_at, len_of, id_len, Elements, Noting, Noted, Ends, Listed, Beyond, Walked, Leaves, used_to, near_of, shut_at, id_end, Named, Spacious, Judging, Judged, Tells, told_of}
-use Rattle.reach_data.specs.declared.Tried.{Tried}
-use Rattle.reach_data.specs.declared.Tried.TheVariants.{Short, Told}
-use Rattle.reach_data.specs.declared.Walk.{Walk}
-use Rattle.reach_data.specs.declared.Walk.TheVariants.{Full, Rowed}
+use Rattle.reach_data.specs.Rows.{each_at, len_of, id_len, Elements, Noting, Noted, Ends, Listed, Beyond, Walked, Leaves, used_to, near_of, shut_at, id_end, Named, Spacious, Judging, Judged, Tells}
 use Rattle.reach_data.specs.Rows.Elements.{none, more}
 use Rattle.reach_data.specs.Rows.Ends.{ended, broke}
 use Rattle.reach_data.proofs.Each.{used_length, used_yes, differ_less, differ_new, each_end, each_on, each_used, each_plain}
@@ -111,7 +105,7 @@ module _ (s starts lens : List ℕ) (from : ℕ) where
       (λ _ t. row_before w j (omega (arith, eqb-false j k t)))
       refl
 
-  row_of_lem : {n : ℕ} {w : Went} → Ends s starts lens from n w → (j : ℕ) → j < n → RowAt j
+  row_of_lem : {n : ℕ} {w : (Result ℕ ℕ)} → Ends s starts lens from n w → (j : ℕ) → j < n → RowAt j
   row_of_lem (ended w h e) j l = row_before w j l
   row_of_lem (broke {k = k} {at = at} w h a b c i g e) j l =
       by_test (λ t. eqb j k ≡ t → RowAt j) (eqb j k)
@@ -151,7 +145,7 @@ module _ (s starts lens : List ℕ) (from : ℕ) where
       ∙ ap (λ (i : List ℕ). each_at (i ∷ used_to id_at k) s (at + 1 + n)) (sym q)
 
   -- no id repeats
-  all_differ : {n : ℕ} {w : Went} → Ends s starts lens from n w → Differ id_at n → length s ≤ line_limit → w ≡ each_at [] s from
+  all_differ : {n : ℕ} {w : (Result ℕ ℕ)} → Ends s starts lens from n w → Differ id_at n → length s ≤ line_limit → w ≡ each_at [] s from
   all_differ {n = n} (ended {at = at} v h e) d l = e ∙ sym (walk_to v d l ∙ each_end (used_to id_at n) s at h)
   all_differ {w = w} (broke {k = k} {at = at} v h a b c j g e) d l =
       let x = drop (at + 1) s in
@@ -160,14 +154,14 @@ module _ (s starts lens : List ℕ) (from : ℕ) where
       sym (walk_to v (differ_less id_at k _ (omega arith) d) l ∙ each_plain (used_to id_at k) s at h (few v h l) u w e j g)
 
   -- one does
-  one_repeats : (j : ℕ) → RowAt j → Differ id_at j → Repeated id_at j → length s ≤ line_limit → Stuck (id_end s starts lens j) ≡ each_at [] s from
+  one_repeats : (j : ℕ) → RowAt j → Differ id_at j → Repeated id_at j → length s ≤ line_limit → Err (id_end s starts lens j) ≡ each_at [] s from
   one_repeats j r d p l =
       let at = r.at in
       let x = drop (at + 1) s in
       let t = row_text_lem j r in
       let u : is_used (used_to id_at j) (take (id_len x) x) ≡ true = ap (is_used (used_to id_at j)) (sym t) ∙ used_yes id_at j p.earlier (id_at j) p.is_earlier p.is_same in
       let z : id_end s starts lens j ≡ at + 1 + near_of (id_len x) (is_shut (used_to id_at j) (take 31 x)) = ap₂ ◌+◌ r.start (near_same t) in
-      ap Stuck z ∙ sym (walk_to r.before d l ∙ each_used (used_to id_at j) s at r.lead (few r.before r.lead l) u)
+      ap Err z ∙ sym (walk_to r.before d l ∙ each_used (used_to id_at j) s at r.lead (few r.before r.lead l) u)
     where
       near_same : id_at j ≡ take (id_len (drop (r.at + 1) s)) (drop (r.at + 1) s)
           → near_of (get_or lens j 0) (shut_at s starts lens j) ≡ near_of (id_len (drop (r.at + 1) s)) (is_shut (used_to id_at j) (take 31 (drop (r.at + 1) s)))
@@ -205,14 +199,14 @@ walking_start s starts lens from a =
     record { elements = none; room = omega arith; one_size = a.one_size; starts_kept = refl; lens_kept = refl; short = a.short }
 
 module _ (s : List ℕ) (from i k : ℕ) (starts₀ lens₀ starts lens : List ℕ) (w : Walking s from i k starts₀ lens₀ starts lens) (t : Bool) (et : t ≡ is_at s i 91) where
-  pub walk_end : t ≡ false → Leaves s starts₀ lens₀ starts lens from (Rowed k (Past i))
+  pub walk_end : t ≡ false → Leaves s starts₀ lens₀ starts lens from (Some (k, Ok i))
   walk_end h = record { walked = record { ends = ended w.elements (sym et ∙ h) refl; room = w.room }; starts_kept = w.starts_kept; lens_kept = w.lens_kept }
 
   module _ (h : t ≡ true) where
     here : i < length s
     here = at_below s i 90 (sym et ∙ h)
 
-    pub walk_full : k ≡ length starts → Leaves s starts₀ lens₀ starts lens from Full
+    pub walk_full : k ≡ length starts → Leaves s starts₀ lens₀ starts lens from None
     walk_full e =
         let l = here in
         record { walked = record { many = omega (arith, elements_size s starts lens from w.elements, e) }; starts_kept = w.starts_kept; lens_kept = w.lens_kept }
@@ -253,8 +247,8 @@ module _ (s : List ℕ) (from i k : ℕ) (starts₀ lens₀ starts lens : List �
         lens_size : length lens' ≡ length lens
         lens_size = ap length el ∙ length-set lens k m
 
-        module _ (x : Went) (ex : x ≡ plain_at s (i + 1)) where
-          pub walk_broke : (j : ℕ) → x ≡ Stuck j → Leaves s starts₀ lens₀ starts' lens' from (Rowed (k + 1) x)
+        module _ (x : Result ℕ ℕ) (ex : x ≡ plain_at s (i + 1)) where
+          pub walk_broke : (j : ℕ) → x ≡ Err j → Leaves s starts₀ lens₀ starts' lens' from (Some (k + 1, x))
           walk_broke j e =
               record {
                 walked = record { ends = broke before (sym et ∙ h) new_start new_len refl j e ex; room = omega (arith, w.room, starts_size) };
@@ -262,7 +256,7 @@ module _ (s : List ℕ) (from i k : ℕ) (starts₀ lens₀ starts lens : List �
                 lens_kept = lens_size ∙ w.lens_kept;
               }
 
-          module _ (n : ℕ) (e : x ≡ Past n) where
+          module _ (n : ℕ) (e : x ≡ Ok n) where
             pub walk_less : length s - n < length s - i
             walk_less = let l = here in omega (arith, (got_past (sd_name next closed (many 32 param) 93) plain_far s (i + 1) x ex n e).sum)
 
@@ -290,7 +284,7 @@ pub ruleset walk_laws = (name_less, walking_start, walk_end, walk_full, walk_not
 
 -- ---- what is judged
 
-module _ (s starts lens depths kids : List ℕ) (n : ℕ) (w : Went) (q : Judging s starts lens depths kids n w) where
+module _ (s starts lens depths kids : List ℕ) (n : ℕ) (w : Result ℕ ℕ) (q : Judging s starts lens depths kids n w) where
   pub judge_asks : Asked s starts lens n depths kids
   judge_asks =
       let l = q.listed in
@@ -326,9 +320,9 @@ module _ (s starts lens depths kids : List ℕ) (n : ℕ) (w : Went) (q : Judgin
             names = names_before s starts lens q.from r.before;
           }
 
-      pub judge_repeat : (e : ℕ) → e ≡ id_end s starts lens j → Judged s starts lens n w (Stuck e)
+      pub judge_repeat : (e : ℕ) → e ≡ id_end s starts lens j → Judged s starts lens n w (Err e)
       judge_repeat e z =
-          record { is = λ from l. ap Stuck z ∙ one_repeats s starts lens from j (row_of_lem s starts lens from l.ends j below) f.differ (f.repeated below) q.spacious.noting.short }
+          record { is = λ from l. ap Err z ∙ one_repeats s starts lens from j (row_of_lem s starts lens from l.ends j below) f.differ (f.repeated below) q.spacious.noting.short }
 
 pub ruleset judge_laws = (judge_asks, judge_same, judge_named, judge_repeat)
 
@@ -338,13 +332,13 @@ module _ (s starts₀ lens₀ depths kids : List ℕ) (at : ℕ) (p : Spacious s
   pub tell_noting : Noting s starts₀ lens₀
   tell_noting = p.noting
 
-  module _ (starts lens : List ℕ) (r : Walk) (v : Leaves s starts₀ lens₀ starts lens at r) where
-    pub tell_short : r ≡ Full → Beyond s (length starts₀)
+  module _ (starts lens : List ℕ) (r : Option (ℕ × Result ℕ ℕ)) (v : Leaves s starts₀ lens₀ starts lens at r) where
+    pub tell_short : r ≡ None → Beyond s (length starts₀)
     tell_short e =
         let b : Beyond s (length starts) = subst (Walked s starts lens at) e v.walked in
         record { many = omega (arith, b.many, v.starts_kept) }
 
-    module _ (n : ℕ) (w : Went) (e : r ≡ Rowed n w) where
+    module _ (n : ℕ) (w : Result ℕ ℕ) (e : ◌≡◌ {A = Option (ℕ × Result ℕ ℕ)} r (Some (n, w))) where
       listed : Listed s starts lens at n w
       listed = subst (Walked s starts lens at) e v.walked
 
@@ -365,31 +359,7 @@ module _ (s starts₀ lens₀ depths kids : List ℕ) (at : ℕ) (p : Spacious s
             };
           }
 
-      pub tell_told : (x : Went) → Judged s starts lens n w x → x ≡ each_at [] s at
+      pub tell_told : (x : Result ℕ ℕ) → Judged s starts lens n w x → x ≡ each_at [] s at
       tell_told x j = j.is at listed
 
 pub ruleset tell_laws = (tell_noting, tell_short, tell_judging, tell_told)
-
-zeros : (n q : ℕ) → ◌≡◌ {A = ℕ} (get_or (replicate n 0) q 0) 0
-zeros zero q = refl
-zeros (suc n) zero = refl
-zeros (suc n) (suc q) = zeros n q
-
--- tables that were just made
-pub room_made : (s : List ℕ) (n slots : ℕ) → length s ≤ line_limit → n < 65536 → 128 + 3 * n ≤ slots → Spacious s (replicate n 0) (replicate n 0) (replicate n 0) (replicate slots 0)
-room_made s n slots l f h = record {
-  noting = record { one_size = refl; short = l };
-  room = record { few = simp length-replicate f; depths_room = omega arith; slots_room = simp length-replicate h };
-  clear = zeros slots;
-}
-
--- the largest tables have rows enough
-module _ (s : List ℕ) (at : ℕ) (short : length s ≤ line_limit) where
-  pub most_told : (r : Tried) → Tells s at 2731 r → (w : Went) → w ≡ told_of r → w ≡ each_at [] s at
-  most_told Short b w e = absurd (omega (arith, b.many))
-  most_told (Told v) t w e = e ∙ t
-
-  pub few_told : (r : Tried) → Tells s at 64 r → (w : Went) → r ≡ Told w → w ≡ each_at [] s at
-  few_told r t w e = subst (Tells s at 64) e t
-
-pub ruleset told_laws = (most_told, few_told)

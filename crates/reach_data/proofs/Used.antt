@@ -1,5 +1,5 @@
 -- Elements whose ids have to differ: how far they go, by the ids that are used.
-use Rattle.std.specs.Prelude.{if◌then◌else◌}
+use Rattle.std.specs.Prelude.{if◌then◌else◌, Err}
 use Prim.Native.Nat.{ℕ, ◌+◌, ◌≤◌, ◌<◌}
 use mathlib.Core.Path.{◌≡◌, refl, sym, ap, ◌∙◌}
 use mathlib.Core.Bool.{true, false, not, ◌&&◌}
@@ -24,7 +24,6 @@ use Rattle.viable.specs.Ids.{is_used, is_unused, is_free, alive, id_of, id_far, 
 use Rattle.viable.specs.Leaves.{repeat_far}
 use Rattle.viable.specs.Reach.{params_far, element_in, element_far}
 use Rattle.viable.specs.Walks.{went_of}
-use Rattle.viable.specs.declared.Went.TheVariants.{Stuck}
 use Rattle.viable.proofs.Ids.{alive_yes}
 use Rattle.viable.proofs.Leaves.{tested_yes, tested_no, tested_long}
 use Rattle.viable.proofs.Near.{near}
@@ -102,7 +101,7 @@ module _ (used : List (List ℕ)) (x : List ℕ) where
         rw (g, w) (same_into (closed (many 32 param) 93 (drop n x)) (take n x) n (closed_far (many 32 param) params_far (drop n x))))
         (λ _ w.
         let g : only (is_unused used) (repeat 32 sd_name_byte) x ≡ failed = tested_long (is_unused used) 32 sd_name_byte x w in
-        rw (g, w) (ap Stuck (none_or_long w)))
+        rw (g, w) (ap Err (none_or_long w)))
         refl
       where
         none_or_long : within 1 32 n ≡ false → id_far used x ≡ repeat_far 32 sd_name_byte x

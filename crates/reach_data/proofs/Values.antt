@@ -1,5 +1,5 @@
 -- The walk over a value answers how far the reader of values went.
-use Rattle.std.specs.Prelude.{if◌then◌else◌}
+use Rattle.std.specs.Prelude.{if◌then◌else◌, Result, Ok, Err}
 use Prim.Native.Nat.{ℕ, zero, suc, ◌+◌, ◌-◌, ◌≤◌, ◌<◌}
 use mathlib.Core.Path.{◌≡◌, refl, sym, ap, ◌∙◌}
 use mathlib.Core.Bool.{Bool, true, false, not, ◌&&◌, ◌||◌}
@@ -23,43 +23,41 @@ use Rattle.viable.specs.Walks.{went_of, onward_of, went_at}
 use Rattle.viable.proofs.Walks.{onward_twice}
 use Rattle.reach_data.specs.Pieces.{value_at}
 use Rattle.reach_data.specs.Values.{value_walk}
-use Rattle.viable.specs.declared.Went.{Went}
-use Rattle.viable.specs.declared.Went.TheVariants.{Past, Stuck}
 
 -- what a value is answered by: where it stops, and how far UTF-8 goes
 abbrev least : ℕ → ℕ → ℕ
 least a b = if leb a b then a else b
 
-abbrev answer : Bool → Bool → ℕ → ℕ → Went
-answer quoted utf8 n j = if quoted && utf8 then Past (n + 1) else Stuck (least n j)
+abbrev answer : Bool → Bool → ℕ → ℕ → Result ℕ ℕ
+answer quoted utf8 n j = if quoted && utf8 then Ok (n + 1) else Err (least n j)
 
-abbrev whole : Bool → ℕ → ℕ → ℕ → List ℕ → Went
+abbrev whole : Bool → ℕ → ℕ → ℕ → List ℕ → Result ℕ ℕ
 whole paired more lo hi s = answer (is_at s (stop paired s) 34) (utf8_from more lo hi (take (stop paired s) s)) (stop paired s) (utf8_far_from more lo hi s)
 
 -- one byte more
 answer_on : (q u : Bool) (n j : ℕ) → onward_of 1 (answer q u n j) ≡ answer q u (suc n) (suc j)
 answer_on q u n j =
-    by_test (λ t. onward_of 1 (if t then Past (n + 1) else Stuck (least n j)) ≡ (if t then Past (suc n + 1) else Stuck (least (suc n) (suc j)))) (q && u)
-    (λ _. ap Past (let z : 1 + (n + 1) ≡ suc n + 1 = omega arith in z))
-    (λ _. ap Stuck (rw (leb-suc-suc n j) (by_test (λ t. 1 + (if t then n else j) ≡ (if t then suc n else suc j)) (leb n j) (λ _. omega arith) (λ _. omega arith))))
+    by_test (λ t. onward_of 1 (if t then Ok (n + 1) else Err (least n j)) ≡ (if t then Ok (suc n + 1) else Err (least (suc n) (suc j)))) (q && u)
+    (λ _. ap Ok (let z : 1 + (n + 1) ≡ suc n + 1 = omega arith in z))
+    (λ _. ap Err (rw (leb-suc-suc n j) (by_test (λ t. 1 + (if t then n else j) ≡ (if t then suc n else suc j)) (leb n j) (λ _. omega arith) (λ _. omega arith))))
 
 whole_on : (paired : Bool) (more lo hi : ℕ) (s : List ℕ) → onward_of 1 (whole paired more lo hi s)
     ≡ answer (is_at s (stop paired s) 34) (utf8_from more lo hi (take (stop paired s) s)) (suc (stop paired s)) (suc (utf8_far_from more lo hi s))
 whole_on paired more lo hi s = answer_on (is_at s (stop paired s) 34) (utf8_from more lo hi (take (stop paired s) s)) (stop paired s) (utf8_far_from more lo hi s)
 
 -- nothing more
-answer_no : (q u : Bool) (n j : ℕ) → u ≡ false → j ≡ 0 → answer q u n j ≡ Stuck 0
+answer_no : (q u : Bool) (n j : ℕ) → u ≡ false → j ≡ 0 → answer q u n j ≡ Err 0
 answer_no q u n j e z =
-    by_test (λ t. (if t then Past (n + 1) else Stuck (least n j)) ≡ Stuck 0) (q && u)
+    by_test (λ t. (if t then Ok (n + 1) else Err (least n j)) ≡ Err 0) (q && u)
     (λ t. clash (sym (both_no q u t) ∙ e))
-    (λ _. ap Stuck (rw z (by_test (λ t. leb n 0 ≡ t → (if t then n else 0) ≡ 0) (leb n 0) (λ _ t. let l = leb-true n 0 t in omega arith) (λ _ _. refl) refl)))
+    (λ _. ap Err (rw z (by_test (λ t. leb n 0 ≡ t → (if t then n else 0) ≡ 0) (leb n 0) (λ _ t. let l = leb-true n 0 t in omega arith) (λ _ _. refl) refl)))
   where
     both_no : (q u : Bool) → (q && u) ≡ true → u ≡ true
     both_no true u h = h
     both_no false u h = clash (sym h)
 
 -- the whole answer, where the byte in front is bare or not
-abbrev cut : ℕ → ℕ → ℕ → ℕ → List ℕ → Bool → Went
+abbrev cut : ℕ → ℕ → ℕ → ℕ → List ℕ → Bool → Result ℕ ℕ
 cut more lo hi b s c =
     let n = (if c then 0 else suc (stop (eqb b 92) s)) in
     answer (is_at (b ∷ s) n 34) (utf8_from more lo hi (take n (b ∷ s))) n (utf8_far_from more lo hi (b ∷ s))
@@ -70,7 +68,7 @@ walk_whole paired more lo hi [] r = refl
 walk_whole true (suc k) lo hi (b ∷ s) r = absurd (let z = r.apart refl in omega arith)
 walk_whole true zero lo hi (b ∷ s) r =
     by_test (λ t. leb 1 (lead_of b).len ≡ t
-    → (if t then onward_of 1 (value_walk false ((lead_of b).len - 1) (lead_of b).low (lead_of b).high s) else Stuck 0)
+    → (if t then onward_of 1 (value_walk false ((lead_of b).len - 1) (lead_of b).low (lead_of b).high s) else Err 0)
     ≡ answer (is_at s (stop false s) 34) (t && utf8_from ((lead_of b).len - 1) (lead_of b).low (lead_of b).high (take (stop false s) s)) (suc (stop false s))
     (if t then suc (utf8_far_from ((lead_of b).len - 1) (lead_of b).low (lead_of b).high s) else 0)) (leb 1 (lead_of b).len)
     (λ _ t. ap (onward_of 1) (walk_whole false ((lead_of b).len - 1) (lead_of b).low (lead_of b).high s (led_ready b)) ∙ whole_on false ((lead_of b).len - 1) (lead_of b).low (lead_of b).high s)
@@ -78,17 +76,17 @@ walk_whole true zero lo hi (b ∷ s) r =
     refl
 walk_whole false zero lo hi (b ∷ s) r =
     by_test (λ q. eqb b 34 ≡ q
-    → (if q then Past 1 else if eqb b 93 then Stuck 0 else if leb 1 (lead_of b).len then onward_of 1 (value_walk (eqb b 92) ((lead_of b).len - 1) (lead_of b).low (lead_of b).high s) else Stuck 0)
+    → (if q then Ok 1 else if eqb b 93 then Err 0 else if leb 1 (lead_of b).len then onward_of 1 (value_walk (eqb b 92) ((lead_of b).len - 1) (lead_of b).low (lead_of b).high s) else Err 0)
     ≡ cut zero lo hi b s (q || eqb b 93)) (eqb b 34)
     (λ _ q. rw q)
     (λ _ q.
     by_test (λ c. eqb b 93 ≡ c
-    → (if c then Stuck 0 else if leb 1 (lead_of b).len then onward_of 1 (value_walk (eqb b 92) ((lead_of b).len - 1) (lead_of b).low (lead_of b).high s) else Stuck 0)
+    → (if c then Err 0 else if leb 1 (lead_of b).len then onward_of 1 (value_walk (eqb b 92) ((lead_of b).len - 1) (lead_of b).low (lead_of b).high s) else Err 0)
     ≡ cut zero lo hi b s c) (eqb b 93)
     (λ _ c. rw (q, le-leb 0 (if leb 1 (lead_of b).len then suc (utf8_far_from ((lead_of b).len - 1) (lead_of b).low (lead_of b).high s) else 0) (omega arith)))
     (λ _ c.
     by_test (λ t. leb 1 (lead_of b).len ≡ t
-    → (if t then onward_of 1 (value_walk (eqb b 92) ((lead_of b).len - 1) (lead_of b).low (lead_of b).high s) else Stuck 0)
+    → (if t then onward_of 1 (value_walk (eqb b 92) ((lead_of b).len - 1) (lead_of b).low (lead_of b).high s) else Err 0)
     ≡ answer (is_at s (stop (eqb b 92) s) 34) (t && utf8_from ((lead_of b).len - 1) (lead_of b).low (lead_of b).high (take (stop (eqb b 92) s) s)) (suc (stop (eqb b 92) s))
     (if t then suc (utf8_far_from ((lead_of b).len - 1) (lead_of b).low (lead_of b).high s) else 0)) (leb 1 (lead_of b).len)
     (λ _ t.
@@ -102,14 +100,14 @@ walk_whole false zero lo hi (b ∷ s) r =
     refl)
     refl
 walk_whole false (suc k) lo hi (b ∷ s) r =
-    by_test (λ t. within lo hi b ≡ t → (if t then onward_of 1 (value_walk false k 0x80 0xBF s) else Stuck 0) ≡ cut (suc k) lo hi b s (bare b)) (within lo hi b)
+    by_test (λ t. within lo hi b ≡ t → (if t then onward_of 1 (value_walk false k 0x80 0xBF s) else Err 0) ≡ cut (suc k) lo hi b s (bare b)) (within lo hi b)
     (λ _ t.
     let o = orders lo hi b t in
     let v = no_bare b (let u = r.tails (omega arith) in omega arith) in
     rw (v.0, v.1, t) (ap (onward_of 1) (walk_whole false k 0x80 0xBF s (record { apart = λ e. clash (sym e); tails = λ _. (omega arith, (omega arith, omega arith)) })) ∙ whole_on false k 0x80 0xBF s))
     (λ _ t.
     let z : (if within lo hi b then suc (utf8_far_from k 0x80 0xBF s) else 0) ≡ 0 = rw t in
-    by_test (λ c. Stuck 0 ≡ cut (suc k) lo hi b s c) (bare b)
+    by_test (λ c. Err 0 ≡ cut (suc k) lo hi b s c) (bare b)
     (λ _. sym (answer_no (eqb b 34) (eqb (suc k) 0) 0 (if within lo hi b then suc (utf8_far_from k 0x80 0xBF s) else 0) (ne_eqb (suc k) 0 (omega arith)) z))
     (λ _. sym (answer_no (is_at s (stop (eqb b 92) s) 34) (within lo hi b && utf8_from k 0x80 0xBF (take (stop (eqb b 92) s) s)) (suc (stop (eqb b 92) s)) (if within lo hi b then suc (utf8_far_from k 0x80 0xBF s) else 0) (ap (λ (x : Bool). x && utf8_from k 0x80 0xBF (take (stop (eqb b 92) s) s)) t) z)))
     refl
@@ -120,7 +118,7 @@ unfolding value only until_quote value_far
 walk_value s =
     by_test (λ q. went_of (on_found (if q then found (take (stop false s) s) (stop false s + 1) else failed) (λ a n. if is_utf8 a then found a n else failed)) (least (stop false s) (utf8_far s))
     ≡ answer q (is_utf8 (take (stop false s) s)) (stop false s) (utf8_far s)) (is_at s (stop false s) 34)
-    (λ _. by_test (λ u. went_of (if u then found (take (stop false s) s) (stop false s + 1) else failed) (least (stop false s) (utf8_far s)) ≡ (if u then Past (stop false s + 1) else Stuck (least (stop false s) (utf8_far s)))) (is_utf8 (take (stop false s) s)) (λ _. refl) (λ _. refl))
+    (λ _. by_test (λ u. went_of (if u then found (take (stop false s) s) (stop false s + 1) else failed) (least (stop false s) (utf8_far s)) ≡ (if u then Ok (stop false s + 1) else Err (least (stop false s) (utf8_far s)))) (is_utf8 (take (stop false s) s)) (λ _. refl) (λ _. refl))
     (λ _. refl)
     ∙ sym (walk_whole false 0 0x80 0xBF s (record { apart = λ _. refl; tails = λ l. absurd (omega arith) }))
 
@@ -148,10 +146,10 @@ is_within lo hi b h = let (p, q) = neither (ltb b lo) (ltb hi b) h in inside lo 
 
 module _ (s : List ℕ) (at : ℕ) (paired : Bool) (more lo hi i : ℕ) (w : Walking s at paired more lo hi i) where
   -- stuck here, where the rest is
-  stuck_here : value_walk paired more lo hi (drop i s) ≡ Stuck 0 → Stuck i ≡ value_at s at
-  stuck_here e = ap Stuck (let z : i ≡ i + 0 = omega arith in z) ∙ ap (onward_of i) (sym e) ∙ sym w.rest
+  stuck_here : value_walk paired more lo hi (drop i s) ≡ Err 0 → Err i ≡ value_at s at
+  stuck_here e = ap Err (let z : i ≡ i + 0 = omega arith in z) ∙ ap (onward_of i) (sym e) ∙ sym w.rest
 
-  pub value_out : length s ≤ i → Stuck i ≡ value_at s at
+  pub value_out : length s ≤ i → Err i ≡ value_at s at
   unfolding value_walk
   value_out h = stuck_here (ap (value_walk paired more lo hi) (ended s i h))
 
@@ -167,19 +165,19 @@ module _ (s : List ℕ) (at : ℕ) (paired : Bool) (more lo hi i : ℕ) (w : Wal
     go_on p m l g e = record { rest = w.rest ∙ ap (onward_of i) (here ∙ e) ∙ onward_twice i 1 (value_walk p m l g (drop (i + 1) s)) }
 
     module _ (z : more ≡ 0) where
-      pub value_quote : (not paired && eqb b 34) ≡ true → Past (i + 1) ≡ value_at s at
+      pub value_quote : (not paired && eqb b 34) ≡ true → Ok (i + 1) ≡ value_at s at
       unfolding value_walk
       value_quote t =
-          let e : value_walk paired more lo hi (b ∷ drop (i + 1) s) ≡ Past 1 = rw (z, t) in
+          let e : value_walk paired more lo hi (b ∷ drop (i + 1) s) ≡ Ok 1 = rw (z, t) in
           ap (onward_of i) (sym (here ∙ e)) ∙ sym w.rest
 
       module _ (t : (not paired && eqb b 34) ≡ false) where
-        pub value_bracket : (not paired && eqb b 93) ≡ true → Stuck i ≡ value_at s at
+        pub value_bracket : (not paired && eqb b 93) ≡ true → Err i ≡ value_at s at
         unfolding value_walk
         value_bracket u = stuck_here (here ∙ rw (z, t, u))
 
         module _ (u : (not paired && eqb b 93) ≡ false) (l : Lead) (e : l ≡ lead_of b) where
-          pub value_no_lead : l.len ≡ 0 → Stuck i ≡ value_at s at
+          pub value_no_lead : l.len ≡ 0 → Err i ≡ value_at s at
           unfolding value_walk
           value_no_lead k = stuck_here (here ∙ rw (z, t, u, ← e, k))
 
@@ -191,7 +189,7 @@ module _ (s : List ℕ) (at : ℕ) (paired : Bool) (more lo hi i : ℕ) (w : Wal
       more_is : more ≡ suc (more - 1)
       more_is = omega arith
 
-      pub value_outside : (ltb b lo || ltb hi b) ≡ true → Stuck i ≡ value_at s at
+      pub value_outside : (ltb b lo || ltb hi b) ≡ true → Err i ≡ value_at s at
       unfolding value_walk
       value_outside t = stuck_here (here ∙ ap (λ (m : ℕ). value_walk paired m lo hi (b ∷ drop (i + 1) s)) more_is ∙ rw (not_within lo hi b t))
 

@@ -1,5 +1,5 @@
 -- For private contracts alone: what the walks over the pieces of the structured data and of the message answer.
-use Rattle.std.specs.Prelude.{ℕ, ◌+◌, Bool, ◌&&◌, List, if◌then◌else◌}
+use Rattle.std.specs.Prelude.{ℕ, ◌+◌, Bool, ◌&&◌, List, if◌then◌else◌, Result, Ok, Err}
 use Rattle.base.specs.Choose.{is_at}
 use Rattle.grammar.specs.Abnf.{sd_name_byte}
 use Rattle.grammar.specs.Parse.{◌next◌, closed, behind, many, only, all_left, is_message, sd_name, value, param, message}
@@ -7,11 +7,9 @@ use Rattle.viable.specs.Far.{Far, next_far, closed_far, behind_far}
 use Rattle.viable.specs.Leaves.{repeat_far, value_far, message_far}
 use Rattle.viable.specs.Reach.{param_far, params_far, structured_in, structured_far, end_far}
 use Rattle.viable.specs.Walks.{went_at}
-use Rattle.viable.specs.declared.Went.{Went}
-use Rattle.viable.specs.declared.Went.TheVariants.{Past, Stuck}
 
 abbrev pub Walk : Type 0
-Walk = List ℕ → ℕ → Went
+Walk = List ℕ → ℕ → Result ℕ ℕ
 
 -- SD-NAME, and PARAM-NAME "="
 abbrev pub name_at : Walk
@@ -32,7 +30,7 @@ param_at = went_at param param_far
 
 -- "]"
 abbrev pub bracket_at : Walk
-bracket_at s at = if is_at s at 93 then Past (at + 1) else Stuck at
+bracket_at s at = if is_at s at 93 then Ok (at + 1) else Err at
 
 -- *(SP SD-PARAM) "]"
 abbrev pub params_at : Walk

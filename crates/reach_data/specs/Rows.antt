@@ -1,5 +1,5 @@
 -- For private contracts alone: the ids of the elements that a walk notes, a row for each, and how far an id goes that is used.
-use Rattle.std.specs.Prelude.{ℕ, zero, suc, ◌+◌, ◌*◌, ◌≤◌, ◌<◌, ◌≡◌, Bool, true, false, not, ◌&&◌, ◌||◌, List, [], ◌∷◌, length, get_or, set, take, drop, leb, eqb, if◌then◌else◌}
+use Rattle.std.specs.Prelude.{ℕ, zero, suc, ◌+◌, ◌*◌, ◌≤◌, ◌<◌, ◌≡◌, Bool, true, false, not, ◌&&◌, ◌||◌, List, [], ◌∷◌, length, get_or, set, take, drop, leb, eqb, if◌then◌else◌, Option, Some, None, Result, Ok, Err}
 use Rattle.base.specs.Choose.{is_at}
 use Rattle.base.specs.Runs.{run}
 use Rattle.base.specs.Texts.{same_text}
@@ -14,16 +14,10 @@ use Rattle.viable.specs.Far.{each_from, each_far}
 use Rattle.viable.specs.Ids.{is_shut, room}
 use Rattle.viable.specs.Reach.{element_in, element_far, used_and}
 use Rattle.viable.specs.Walks.{went_at}
-use Rattle.viable.specs.declared.Went.{Went}
-use Rattle.viable.specs.declared.Went.TheVariants.{Past, Stuck}
 use Rattle.reach_data.specs.Pieces.{plain_at}
-use Rattle.reach_data.specs.declared.Walk.{Walk}
-use Rattle.reach_data.specs.declared.Walk.TheVariants.{Full, Rowed}
-use Rattle.reach_data.specs.declared.Tried.{Tried}
-use Rattle.reach_data.specs.declared.Tried.TheVariants.{Short, Told}
 
 -- *SD-ELEMENT, where the ids of `used` are used
-abbrev pub each_at : List (List ℕ) → List ℕ → ℕ → Went
+abbrev pub each_at : List (List ℕ) → List ℕ → ℕ → Result ℕ ℕ
 each_at used = went_at (each_from 91 element_in used_and used 0) (each_far 91 element_in element_far used_and room used 0)
 
 -- of n bytes of a name, how many can be an id's
@@ -55,12 +49,12 @@ pub record Noted (starts lens : List ℕ) (k start len : ℕ) : Type 0 where
   pub len_fits : len < 256
 
 -- n rows are noted, and w is where the elements end or break, whatever their ids are
-pub data Ends (s starts lens : List ℕ) (from n : ℕ) (w : Went) : Type 0 where
-  ended : {at : ℕ} → Elements s starts lens from n at → is_at s at 91 ≡ false → w ≡ Past at → Ends s starts lens from n w
+pub data Ends (s starts lens : List ℕ) (from n : ℕ) (w : Result ℕ ℕ) : Type 0 where
+  ended : {at : ℕ} → Elements s starts lens from n at → is_at s at 91 ≡ false → w ≡ Ok at → Ends s starts lens from n w
   broke : {k at : ℕ} → Elements s starts lens from k at → is_at s at 91 ≡ true → get_or starts k 0 ≡ at + 1 → get_or lens k 0 ≡ id_len (drop (at + 1) s)
-      → n ≡ k + 1 → (j : ℕ) → w ≡ Stuck j → w ≡ plain_at s (at + 1) → Ends s starts lens from n w
+      → n ≡ k + 1 → (j : ℕ) → w ≡ Err j → w ≡ plain_at s (at + 1) → Ends s starts lens from n w
 
-pub record Listed (s starts lens : List ℕ) (from n : ℕ) (w : Went) : Type 0 where
+pub record Listed (s starts lens : List ℕ) (from n : ℕ) (w : Result ℕ ℕ) : Type 0 where
   pub ends : Ends s starts lens from n w
   pub room : n ≤ length starts
 
@@ -68,12 +62,12 @@ pub record Listed (s starts lens : List ℕ) (from n : ℕ) (w : Went) : Type 0 
 pub record Beyond (s : List ℕ) (size : ℕ) : Type 0 where
   pub many : 3 * size < length s
 
-abbrev pub Walked : List ℕ → List ℕ → List ℕ → ℕ → Walk → Type 0
-Walked s starts lens from Full = Beyond s (length starts)
-Walked s starts lens from (Rowed n w) = Listed s starts lens from n w
+abbrev pub Walked : List ℕ → List ℕ → List ℕ → ℕ → Option (ℕ × Result ℕ ℕ) → Type 0
+Walked s starts lens from None = Beyond s (length starts)
+Walked s starts lens from (Some x) = Listed s starts lens from x.0 x.1
 
 -- what a walk leaves
-pub record Leaves (s starts₀ lens₀ starts lens : List ℕ) (from : ℕ) (r : Walk) : Type 0 where
+pub record Leaves (s starts₀ lens₀ starts lens : List ℕ) (from : ℕ) (r : Option (ℕ × Result ℕ ℕ)) : Type 0 where
   pub walked : Walked s starts lens from r
   pub starts_kept : length starts ≡ length starts₀
   pub lens_kept : length lens ≡ length lens₀
@@ -146,19 +140,14 @@ pub record Spacious (s starts lens depths kids : List ℕ) : Type 0 where
   pub clear : (q : ℕ) → get_or kids q 0 ≡ 0
 
 -- what is judged by n rows, and by where the elements end or break
-pub record Judging (s starts lens depths kids : List ℕ) (n : ℕ) (w : Went) : Type 0 where
+pub record Judging (s starts lens depths kids : List ℕ) (n : ℕ) (w : Result ℕ ℕ) : Type 0 where
   pub from : ℕ
   pub listed : Listed s starts lens from n w
   pub spacious : Spacious s starts lens depths kids
 
-pub record Judged (s starts lens : List ℕ) (n : ℕ) (w r : Went) : Type 0 where
+pub record Judged (s starts lens : List ℕ) (n : ℕ) (w r : Result ℕ ℕ) : Type 0 where
   pub is : (from : ℕ) → Listed s starts lens from n w → r ≡ each_at [] s from
 
-abbrev pub Tells : List ℕ → ℕ → ℕ → Tried → Type 0
-Tells s from size Short = Beyond s size
-Tells s from size (Told w) = w ≡ each_at [] s from
-
--- what is told; nothing else is asked of a walk that was short
-abbrev pub told_of : Tried → Went
-told_of Short = Stuck 0
-told_of (Told w) = w
+abbrev pub Tells : List ℕ → ℕ → ℕ → Option (Result ℕ ℕ) → Type 0
+Tells s from size None = Beyond s size
+Tells s from size (Some w) = w ≡ each_at [] s from

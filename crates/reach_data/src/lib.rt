@@ -1,10 +1,10 @@
 // How far the structured data and the message of a line go. Each piece is walked from its place in the line, and answers the place after it, or the place where it breaks.
 #![tactic(auto)]
 
-ghost use Rattle.std.specs.Prelude.{◌≡◌, not, [], ◌+◌, ◌-◌, ◌≤◌, ◌<◌, length, get_or, set, take, drop};
+ghost use Rattle.std.specs.Prelude.{◌≡◌, not, [], ◌+◌, ◌-◌, ◌*◌, ◌^◌, ◌≤◌, ◌<◌, length, get_or, set, take, drop};
 ghost use Rattle.base.specs.Runs.{run};
 ghost use Rattle.grammar.specs.Abnf.{sd_name_byte};
-ghost use Rattle.reach_data.specs.Rows.{each_at, len_of, Noted, Noting, Leaves, Named, Long, is_like, mark_of, marks_with, Clear, Marks, is_asked, is_unseen, shut_at, id_end, Judging, Judged, Spacious, Tells, told_of};
+ghost use Rattle.reach_data.specs.Rows.{each_at, len_of, Noted, Noting, Leaves, Named, Long, is_like, mark_of, marks_with, Clear, Marks, is_asked, is_unseen, shut_at, id_end, Judging, Judged, Spacious, Tells};
 ghost use Rattle.reach_data.specs.Values.{utf8_at};
 ghost use Rattle.record.specs.Limits.{line_limit};
 ghost use Rattle.distinct.specs.Distinct.{id_of, Rows};
@@ -12,7 +12,6 @@ ghost use Rattle.viable.specs.Ids.{any_below};
 ghost use Rattle.reach_data.specs.Pieces.{name_at, name_end_at, value_at, quoted_at, param_at, bracket_at, params_at, plain_at, data_at, is_mark, text_at, message_at};
 
 use base::is_at;
-use viable::Went;
 
 // Where the bytes of a name from `at` on end.
 fn name_end(s: &[u8], at: usize) -> usize
@@ -31,35 +30,32 @@ fn name_end(s: &[u8], at: usize) -> usize
 }
 
 // A name of up to 32 bytes.
-fn name(s: &[u8], at: usize) -> Went
+fn name(s: &[u8], at: usize) -> Result<usize, usize>
     ensures { result ≡ name_at s.now at }
 {
     let end = name_end(s, at);
     if end == at {
-        return Went::Stuck(at);
+        return Err(at);
     }
     if 32 < end - at {
-        return Went::Stuck(at + 32);
+        return Err(at + 32);
     }
-    Went::Past(end)
+    Ok(end)
 }
 
 // A parameter's name and its `=`.
-fn name_equals(s: &[u8], at: usize) -> Went
+fn name_equals(s: &[u8], at: usize) -> Result<usize, usize>
     ensures { result ≡ name_end_at s.now at }
 {
-    let w = name(s, at);
-    let Went::Past(n) = w else {
-        return w;
-    };
+    let n = name(s, at)?;
     if !is_at(s, n, b'=') {
-        return Went::Stuck(n);
+        return Err(n);
     }
-    Went::Past(n + 1)
+    Ok(n + 1)
 }
 
 // A value and its closing quote, byte by byte.
-fn value(s: &[u8], at: usize) -> Went
+fn value(s: &[u8], at: usize) -> Result<usize, usize>
     ensures { result ≡ value_at s.now at }
 {
     let mut paired = false;
@@ -71,14 +67,14 @@ fn value(s: &[u8], at: usize) -> Went
         let b = s[i];
         if more == 0 {
             if !paired & (b == b'"') {
-                return Went::Past(i + 1);
+                return Ok(i + 1);
             }
             if !paired & (b == b']') {
-                return Went::Stuck(i);
+                return Err(i);
             }
             let l = utf8::lead_of(b);
             if l.len == 0 {
-                return Went::Stuck(i);
+                return Err(i);
             }
             paired = !paired & (b == b'\\');
             more = l.len - 1;
@@ -87,7 +83,7 @@ fn value(s: &[u8], at: usize) -> Went
             i += 1;
         } else {
             if (b < low) | (high < b) {
-                return Went::Stuck(i);
+                return Err(i);
             }
             paired = false;
             more -= 1;
@@ -96,65 +92,59 @@ fn value(s: &[u8], at: usize) -> Went
             i += 1;
         }
     }
-    Went::Stuck(i)
+    Err(i)
 }
 
 // A value and both its quotes.
-fn quoted(s: &[u8], at: usize) -> Went
+fn quoted(s: &[u8], at: usize) -> Result<usize, usize>
     ensures { result ≡ quoted_at s.now at }
 {
     if !is_at(s, at, b'"') {
-        return Went::Stuck(at);
+        return Err(at);
     }
     value(s, at + 1)
 }
 
 // A parameter, after its space.
-fn param(s: &[u8], at: usize) -> Went
+fn param(s: &[u8], at: usize) -> Result<usize, usize>
     ensures { result ≡ param_at s.now at }
 {
-    let w = name_equals(s, at);
-    let Went::Past(n) = w else {
-        return w;
-    };
+    let n = name_equals(s, at)?;
     quoted(s, n)
 }
 
 // The `]` of an element.
-fn bracket(s: &[u8], at: usize) -> Went
+fn bracket(s: &[u8], at: usize) -> Result<usize, usize>
     ensures { result ≡ bracket_at s.now at }
 {
-    if !is_at(s, at, b']') {
-        return Went::Stuck(at);
+    if is_at(s, at, b']') {
+        Ok(at + 1)
+    } else {
+        Err(at)
     }
-    Went::Past(at + 1)
 }
 
 // The parameters of an element, and its `]`.
-fn params(s: &[u8], at: usize) -> Went
+fn params(s: &[u8], at: usize) -> Result<usize, usize>
     ensures { result ≡ params_at s.now at }
 {
     let mut i = at;
     while is_at(s, i, b' ') {
-        let w = param(s, i + 1);
-        let Went::Past(n) = w else {
-            return w;
-        };
-        i = n;
+        i = param(s, i + 1)?;
     }
     bracket(s, i)
 }
 
 // An element after its `[`, whatever its id is, of which the bytes of a name end at `end`.
-fn element(s: &[u8], at: usize, end: usize) -> Went
+fn element(s: &[u8], at: usize, end: usize) -> Result<usize, usize>
     requires { end ≡ at + run sd_name_byte (drop at s.now) }
     ensures { result ≡ plain_at s.now at }
 {
     if end == at {
-        return Went::Stuck(at);
+        return Err(at);
     }
     if 32 < end - at {
-        return Went::Stuck(at + 32);
+        return Err(at + 32);
     }
     params(s, end)
 }
@@ -166,11 +156,7 @@ fn id_len(at: usize, end: usize) -> usize
     requires { at ≤ end }
     ensures { result ≡ len_of (end - at) }
 {
-    let n = end - at;
-    if 32 < n {
-        return 32;
-    }
-    n
+    (end - at).min(32)
 }
 
 // Row `k`: where an id starts and how many bytes it has.
@@ -183,15 +169,13 @@ fn note(starts: &mut [u16], lens: &mut [u8], k: usize, start: usize, len: usize)
     lens[k] = len as u8;
 }
 
-// A walk over the elements notes a row for each id: all of them, and where the elements end or break, whatever their ids are; or there are more than the tables
-// have rows for.
-#[derive(Clone, Copy)]
-enum Walk {
-    Full,
-    Rowed(usize, Went),
-}
-
-fn note_all(s: &[u8], at: usize, starts: &mut [u16], lens: &mut [u8]) -> Walk
+// Notes a row for each id: how many, and where the elements end or break, whatever their ids are; or nothing, where there are more than the tables have rows for.
+fn note_all(
+    s: &[u8],
+    at: usize,
+    starts: &mut [u16],
+    lens: &mut [u8],
+) -> Option<(usize, Result<usize, usize>)>
     requires { Noting s.now starts.old lens.old }
     ensures { Leaves s.now starts.old lens.old starts.new lens.new at result }
 {
@@ -199,19 +183,19 @@ fn note_all(s: &[u8], at: usize, starts: &mut [u16], lens: &mut [u8]) -> Walk
     let mut k = 0;
     while is_at(s, i, b'[') {
         if k == starts.len() {
-            return Walk::Full;
+            return None;
         }
         let j = i + 1;
         let end = name_end(s, j);
         note(starts, lens, k, j, id_len(j, end));
         let w = element(s, j, end);
         k += 1;
-        let Went::Past(n) = w else {
-            return Walk::Rowed(k, w);
+        let Ok(n) = w else {
+            return Some((k, w));
         };
         i = n;
     }
-    Walk::Rowed(k, Went::Past(i))
+    Some((k, Ok(i)))
 }
 
 // The id of row `k`.
@@ -219,22 +203,9 @@ fn id_at<'a>(s: &'a [u8], starts: &'a [u16], lens: &'a [u8], k: usize) -> &'a [u
     requires { Rows s.now starts.now lens.now (k + 1) }
     ensures { result.now ≡ id_of s.now starts.now lens.now k }
 {
-    let start = wide(starts[k]);
-    let end = start + small(lens[k]);
+    let start = usize::from(starts[k]);
+    let end = start + usize::from(lens[k]);
     &s[start..end]
-}
-
-fn wide(x: u16) -> usize
-    ensures { result ≡ x }
-{
-    x as usize
-}
-
-fn small(x: u8) -> usize
-    ensures value { result ≡ x }
-    ensures upper_bound { result < 256 }
-{
-    x as usize
 }
 
 // Whether the other id begins with the first 31 bytes of this one.
@@ -242,10 +213,7 @@ fn is_like(own: &[u8], other: &[u8]) -> bool
     requires { 31 ≤ length own.now }
     ensures { result ≡ is_like (take 31 own.now) other.now }
 {
-    if other.len() < 31 {
-        return false;
-    }
-    base::same_text(&other[0..31], &own[0..31])
+    31 <= other.len() && base::same_text(&other[..31], &own[..31])
 }
 
 // The byte after the first 31, or 0 where there is none.
@@ -253,10 +221,7 @@ fn after_31(id: &[u8]) -> usize
     ensures value { result ≡ get_or id.now 31 0 }
     ensures upper_bound { result < 256 }
 {
-    if id.len() <= 31 {
-        return 0;
-    }
-    small(id[31])
+    id.get(31).map_or(0, |b| usize::from(*b))
 }
 
 fn mark_of(old: u8, like: bool) -> u8
@@ -282,11 +247,9 @@ fn mark<'a>(s: &'a [u8], starts: &'a [u16], lens: &'a [u8], j: usize, seen: &mut
     ensures { Marks (id_of s.now starts.now lens.now) (take 31 (id_of s.now starts.now lens.now j)) j seen.new }
 {
     let own = id_at(s, starts, lens, j);
-    let mut i = 0;
-    while i < j {
+    for i in 0..j {
         let other = id_at(s, starts, lens, i);
         mark_one(own, other, seen);
-        i += 1;
     }
 }
 
@@ -297,16 +260,15 @@ fn is_asked(c: usize) -> bool
 }
 
 // Whether all bytes of names are marked, and 0.
+#[tactic(auto, using(crate::proofs::Shut::looking_laws))]
 fn all_seen(seen: &[u8]) -> bool
     requires { length seen.now ≡ 256 }
     ensures { result ≡ not (any_below 127 (is_unseen seen.now)) }
 {
-    let mut c = 0;
-    while c < 127 {
+    for c in 0..127 {
         if is_asked(c) & (seen[c] != 1) {
             return false;
         }
-        c += 1;
     }
     true
 }
@@ -326,15 +288,15 @@ fn id_end<'a>(s: &'a [u8], starts: &'a [u16], lens: &'a [u8], j: usize) -> usize
     requires { Named s.now starts.now lens.now j }
     ensures { result ≡ id_end s.now starts.now lens.now j }
 {
-    let start = wide(starts[j]);
-    let n = small(lens[j]);
+    let start = usize::from(starts[j]);
+    let n = usize::from(lens[j]);
     if n <= 30 {
-        return start + n;
+        start + n
+    } else if is_shut(s, starts, lens, j) {
+        start + 30
+    } else {
+        start + 31
     }
-    if is_shut(s, starts, lens, j) {
-        return start + 30;
-    }
-    start + 31
 }
 
 // Where the elements end or break, by their rows: at the first id that repeats, if one does.
@@ -343,27 +305,22 @@ fn judge<'a>(
     starts: &'a [u16],
     lens: &'a [u8],
     n: usize,
-    w: Went,
+    w: Result<usize, usize>,
     depths: &mut [u8],
     kids: &mut [u16],
-) -> Went
+) -> Result<usize, usize>
     requires { Judging s.now starts.now lens.now depths.old kids.old n w }
     ensures { Judged s.now starts.now lens.now n w result }
 {
     let j = distinct::first_repeat(s, starts, lens, n, depths, kids);
     if j == n {
-        return w;
+        w
+    } else {
+        Err(id_end(s, starts, lens, j))
     }
-    Went::Stuck(id_end(s, starts, lens, j))
 }
 
 // What tables tell of the elements, if they have rows enough.
-#[derive(Clone, Copy)]
-enum Tried {
-    Short,
-    Told(Went),
-}
-
 fn tell(
     s: &[u8],
     at: usize,
@@ -371,82 +328,60 @@ fn tell(
     lens: &mut [u8],
     depths: &mut [u8],
     kids: &mut [u16],
-) -> Tried
+) -> Option<Result<usize, usize>>
     requires { Spacious s.now starts.old lens.old depths.old kids.old }
     ensures { Tells s.now at (length starts.old) result }
 {
-    let Walk::Rowed(n, w) = note_all(s, at, starts, lens) else {
-        return Tried::Short;
-    };
-    Tried::Told(judge(s, starts, lens, n, w, depths, kids))
+    let (n, w) = note_all(s, at, starts, lens)?;
+    Some(judge(s, starts, lens, n, w, depths, kids))
 }
 
-// The tables are on the stack and are cleared, so that each text pays for a size that fits it.
-fn few(s: &[u8], at: usize) -> Tried
-    requires { length s.now ≤ line_limit }
-    ensures { Tells s.now at 64 result }
+// The same by tables of a size. They are on the stack and are cleared, so that each text pays for a size that fits it: the large ones are not drawn into the caller.
+#[inline(never)]
+fn told<const ROWS: usize, const KIDS: usize>(s: &[u8], at: usize) -> Option<Result<usize, usize>>
+    requires short { length s.now ≤ line_limit }
+    requires rows { ROWS < 65536 }
+    requires fits { KIDS < 2 ^ 62 }
+    requires kids { 128 + 3 * ROWS ≤ KIDS }
+    ensures { Tells s.now at ROWS result }
 {
-    let mut starts = [0u16; 64];
-    let mut lens = [0u8; 64];
-    let mut depths = [0u8; 64];
-    let mut kids = [0u16; 320];
+    let mut starts = [0u16; ROWS];
+    let mut lens = [0u8; ROWS];
+    let mut depths = [0u8; ROWS];
+    let mut kids = [0u16; KIDS];
     tell(s, at, &mut starts, &mut lens, &mut depths, &mut kids)
 }
 
-// An element has three bytes or more: no text of 8,192 bytes has more than 2,731, the last of which may break.
-fn most(s: &[u8], at: usize) -> Tried
-    requires { length s.now ≤ line_limit }
-    ensures { Tells s.now at 2731 result }
-{
-    let mut starts = [0u16; 2731];
-    let mut lens = [0u8; 2731];
-    let mut depths = [0u8; 2731];
-    let mut kids = [0u16; 8321];
-    tell(s, at, &mut starts, &mut lens, &mut depths, &mut kids)
-}
-
-fn told_of(tried: Tried) -> Went
-    ensures { result ≡ told_of tried }
-{
-    match tried {
-        Tried::Short => Went::Stuck(0),
-        Tried::Told(w) => w,
-    }
-}
-
-// The elements, first by small tables. (A function that calls itself is not drawn into its caller by the compiler, nor large tables into it: only lines with many
-// elements pay for them.)
-fn elements(s: &[u8], at: usize, size: usize) -> Went
+// The elements, first by small tables. An element has three bytes or more: no text of 8,192 bytes has more than 2,731, the last of which may break.
+fn elements(s: &[u8], at: usize) -> Result<usize, usize>
     requires { length s.now ≤ line_limit }
     ensures { result ≡ each_at [] s.now at }
 {
-    if 64 < size {
-        return told_of(most(s, at));
+    match told::<64, 320>(s, at) {
+        Some(w) => w,
+        None => told::<2731, 8321>(s, at).unwrap(),
     }
-    let Tried::Told(w) = few(s, at) else {
-        return elements(s, at, 2731);
-    };
-    w
 }
 
 // How far structured data goes that stands at a place of the line.
-pub fn data(s: &[u8], at: usize) -> Went
+#[tactic(auto, using(crate::proofs::Each::data_laws))]
+pub fn data(s: &[u8], at: usize) -> Result<usize, usize>
     requires { length s.now ≤ line_limit }
     ensures { result ≡ data_at s.now at }
 {
     if is_at(s, at, b'-') {
-        return Went::Past(at + 1);
+        Ok(at + 1)
+    } else if is_at(s, at, b'[') {
+        elements(s, at)
+    } else {
+        Err(at)
     }
-    if !is_at(s, at, b'[') {
-        return Went::Stuck(at);
-    }
-    elements(s, at, 64)
 }
 
 // ---- the message
 
 // UTF-8 to the end. An ASCII byte between characters needs no further test.
-fn utf8_to_end(s: &[u8], at: usize) -> Went
+fn utf8_to_end(s: &[u8], at: usize) -> Result<usize, usize>
     ensures { result ≡ utf8_at s.now at }
 {
     let mut more: usize = 0;
@@ -462,7 +397,7 @@ fn utf8_to_end(s: &[u8], at: usize) -> Went
             }
             let l = utf8::lead_of(b);
             if l.len == 0 {
-                return Went::Stuck(i);
+                return Err(i);
             }
             more = l.len - 1;
             low = l.low;
@@ -470,7 +405,7 @@ fn utf8_to_end(s: &[u8], at: usize) -> Went
             i += 1;
         } else {
             if (b < low) | (high < b) {
-                return Went::Stuck(i);
+                return Err(i);
             }
             more -= 1;
             low = 0x80;
@@ -479,9 +414,9 @@ fn utf8_to_end(s: &[u8], at: usize) -> Went
         }
     }
     if more == 0 {
-        return Went::Past(i);
+        return Ok(i);
     }
-    Went::Stuck(i)
+    Err(i)
 }
 
 // Whether a byte order mark stands in front.
@@ -492,25 +427,27 @@ fn is_mark(m: &[u8]) -> bool
 }
 
 // A message: any bytes, or a byte order mark and then UTF-8.
-fn text(s: &[u8], at: usize) -> Went
+fn text(s: &[u8], at: usize) -> Result<usize, usize>
     requires { at ≤ length s.now }
     ensures { result ≡ text_at s.now at }
 {
-    if !is_mark(base::past(s, at)) {
-        return Went::Past(s.len());
+    if is_mark(base::past(s, at)) {
+        utf8_to_end(s, at + 3)
+    } else {
+        Ok(s.len())
     }
-    utf8_to_end(s, at + 3)
 }
 
 // How far what is after the structured data goes: nothing, or a space and a message.
-pub fn message(s: &[u8], at: usize) -> Went
+#[tactic(auto, using(crate::proofs::Messages::message_laws))]
+pub fn message(s: &[u8], at: usize) -> Result<usize, usize>
     ensures { result ≡ message_at s.now at }
 {
     if is_at(s, at, b' ') {
-        return text(s, at + 1);
+        text(s, at + 1)
+    } else if at < s.len() {
+        Err(at)
+    } else {
+        Ok(at)
     }
-    if at < s.len() {
-        return Went::Stuck(at);
-    }
-    Went::Past(at)
 }

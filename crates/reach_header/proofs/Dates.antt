@@ -1,5 +1,5 @@
 -- Numbers of two digits in a range, and days of a month.
-use Rattle.std.specs.Prelude.{if◌then◌else◌}
+use Rattle.std.specs.Prelude.{if◌then◌else◌, Result, Ok, Err}
 use Prim.Native.Nat.{ℕ, suc, ◌+◌, ◌-◌, ◌*◌, ◌^◌, ◌≤◌, ◌<◌}
 use mathlib.Core.Path.{◌≡◌, refl, sym, ap, ◌∙◌}
 use mathlib.Core.Bool.{Bool, true, false, not, ◌&&◌, ◌||◌}
@@ -27,8 +27,6 @@ use Rattle.viable.specs.Far.{next_far, follow}
 use Rattle.viable.specs.Leaves.{fixed_far, ranged, ranged_far, is_tens}
 use Rattle.viable.specs.Reach.{two_in, two_in_far, date_by, date_far}
 use Rattle.viable.specs.Walks.{went_at}
-use Rattle.viable.specs.declared.Went.{Went}
-use Rattle.viable.specs.declared.Went.TheVariants.{Past, Stuck}
 use Rattle.viable.proofs.Leaves.{ranged_reads}
 use Rattle.viable.proofs.Header.{date_same}
 use Rattle.viable.proofs.Walks.{Passed, got_past, follow_stuck, follow_on, same_walk}
@@ -74,17 +72,17 @@ module _ (s : List ℕ) (at lo hi b : ℕ) (eb : b ≡ get_or s at 0) (d : Bool)
   front = get_or-drop at s 0 0 ∙ ap (λ (i : ℕ). get_or s i 0) (let z : at + 0 ≡ at = omega arith in z) ∙ sym eb
 
   -- not read, and where it breaks
-  ranged_not : (k : ℕ) → ranged lo hi (drop at s) ≡ failed → tens_far lo hi b ≡ k → Stuck (at + k) ≡ ranged_at lo hi s at
+  ranged_not : (k : ℕ) → ranged lo hi (drop at s) ≡ failed → tens_far lo hi b ≡ k → Err (at + k) ≡ ranged_at lo hi s at
   unfolding went_at ranged_far
   ranged_not k f g = sym (rw (f, front, g))
 
   here_0 : at ≡ at + 0
   here_0 = omega arith
 
-  pub ranged_none : not d ≡ true → Stuck at ≡ ranged_at lo hi s at
+  pub ranged_none : not d ≡ true → Err at ≡ ranged_at lo hi s at
   ranged_none h =
       let z : is_digit b ≡ false = sym ed ∙ not-true d h in
-      ap Stuck here_0 ∙ ranged_not 0 (no_tens lo hi (drop at s) (ap is_digit front ∙ z)) (rw z)
+      ap Err here_0 ∙ ranged_not 0 (no_tens lo hi (drop at s) (ap is_digit front ∙ z)) (rw z)
 
   module _ (h : not d ≡ false) where
     is_digit_lem : is_digit b ≡ true
@@ -118,9 +116,9 @@ module _ (s : List ℕ) (at lo hi b : ℕ) (eb : b ≡ get_or s at 0) (d : Bool)
         ∙ ap (λ (x : ℕ). if is_digit x && within lo hi ((b - 48) * 10 + (x - 48)) then found (b ∷ x ∷ []) 2 else failed) next_is
 
     -- a number of the range has such a first digit
-    pub ranged_tens : (ltb ((b - 48) * 10 + 9) lo || ltb hi ((b - 48) * 10)) ≡ true → Stuck at ≡ ranged_at lo hi s at
+    pub ranged_tens : (ltb ((b - 48) * 10 + 9) lo || ltb hi ((b - 48) * 10)) ≡ true → Err at ≡ ranged_at lo hi s at
     ranged_tens g =
-        ap Stuck here_0 ∙ ranged_not 0 (told ∙ no_value) off
+        ap Err here_0 ∙ ranged_not 0 (told ∙ no_value) off
       where
         off : tens_far lo hi b ≡ 0
         off =
@@ -151,7 +149,7 @@ module _ (s : List ℕ) (at lo hi b : ℕ) (eb : b ≡ get_or s at 0) (d : Bool)
       tens_far_lem : tens_far lo hi b ≡ 1
       tens_far_lem = rw tens_on
 
-      pub ranged_one : not f ≡ true → Stuck (at + 1) ≡ ranged_at lo hi s at
+      pub ranged_one : not f ≡ true → Err (at + 1) ≡ ranged_at lo hi s at
       ranged_one k =
           let z : is_digit (get_or s (at + 1) 0) ≡ false = sym (ap is_digit ec) ∙ sym ef ∙ not-true f k in
           ranged_not 1 (told ∙ rw z) tens_far_lem
@@ -170,10 +168,10 @@ module _ (s : List ℕ) (at lo hi b : ℕ) (eb : b ≡ get_or s at 0) (d : Bool)
         told_value t e =
             told ∙ ap (λ (x : ℕ). if is_digit x && within lo hi ((b - 48) * 10 + (x - 48)) then found (b ∷ x ∷ []) 2 else failed) (sym ec) ∙ rw (is_ones, e)
 
-        pub ranged_off : (ltb ((b - 48) * 10 + (c - 48)) lo || ltb hi ((b - 48) * 10 + (c - 48))) ≡ true → Stuck (at + 1) ≡ ranged_at lo hi s at
+        pub ranged_off : (ltb ((b - 48) * 10 + (c - 48)) lo || ltb hi ((b - 48) * 10 + (c - 48))) ≡ true → Err (at + 1) ≡ ranged_at lo hi s at
         ranged_off q = ranged_not 1 (told_value false (out_of lo hi ((b - 48) * 10 + (c - 48)) q)) tens_far_lem
 
-        pub ranged_on : (ltb ((b - 48) * 10 + (c - 48)) lo || ltb hi ((b - 48) * 10 + (c - 48))) ≡ false → Past (at + 2) ≡ ranged_at lo hi s at
+        pub ranged_on : (ltb ((b - 48) * 10 + (c - 48)) lo || ltb hi ((b - 48) * 10 + (c - 48))) ≡ false → Ok (at + 2) ≡ ranged_at lo hi s at
         unfolding went_at
         ranged_on q = sym (rw (told_value true (in_of lo hi ((b - 48) * 10 + (c - 48)) q)))
 
@@ -260,15 +258,15 @@ module _ (s : List ℕ) (at end : ℕ) (e : end ≡ at + run is_digit (drop at s
   pub date_less : at ≤ end
   date_less = omega arith
 
-  by_date : (x : Went) → x ≡ went_at date_by date_far s at → x ≡ date_at s at
+  by_date : (x : Result ℕ ℕ) → x ≡ went_at date_by date_far s at → x ≡ date_at s at
   by_date x q = q ∙ sym (same_walk date date_by date_same date_far s at)
 
-  pub date_short : end - at < 4 → Stuck end ≡ date_at s at
+  pub date_short : end - at < 4 → Err end ≡ date_at s at
   unfolding date_by date_far went_at fixed fixed_far
   date_short h =
       let l : run is_digit (drop at s) < 4 = omega arith in
-      let w : Stuck end ≡ went_at (fixed 4) fixed_far s at = rw (lt-leb 4 (run is_digit (drop at s)) l) (ap Stuck e) in
-      by_date (Stuck end) (follow_stuck (fixed 4) _ fixed_far _ s at (Stuck end) w end refl)
+      let w : Err end ≡ went_at (fixed 4) fixed_far s at = rw (lt-leb 4 (run is_digit (drop at s)) l) (ap Err e) in
+      by_date (Err end) (follow_stuck (fixed 4) _ fixed_far _ s at (Err end) w end refl)
 
   module _ (h : 4 ≤ end - at) where
     pub date_digits : Digits s at 4
@@ -277,30 +275,30 @@ module _ (s : List ℕ) (at end : ℕ) (e : end ≡ at + run is_digit (drop at s
     pub date_4_fits : end < 2 ^ 64 → Fits w64 (at + 4)
     date_4_fits m = record { fits = omega arith }
 
-    year : Past (at + 4) ≡ went_at (fixed 4) fixed_far s at
+    year : Ok (at + 4) ≡ went_at (fixed 4) fixed_far s at
     unfolding went_at fixed
     year = rw (le-leb 4 (run is_digit (drop at s)) (omega arith))
 
-    year_is : (got_past (fixed 4) fixed_far s at (Past (at + 4)) year (at + 4) refl).value ≡ take 4 (drop at s)
+    year_is : (got_past (fixed 4) fixed_far s at (Ok (at + 4)) year (at + 4) refl).value ≡ take 4 (drop at s)
     unfolding fixed
     year_is =
-        let p = got_past (fixed 4) fixed_far s at (Past (at + 4)) year (at + 4) refl in
+        let p = got_past (fixed 4) fixed_far s at (Ok (at + 4)) year (at + 4) refl in
         let z : fixed 4 (drop at s) ≡ found (take 4 (drop at s)) 4 = rw (le-leb 4 (run is_digit (drop at s)) (omega arith)) in
         let q = p.is in
         cc
 
     -- what stands after the year
-    after_year : (x : Went)
+    after_year : (x : Result ℕ ℕ)
         → (let y = take 4 (drop at s) in x ≡ went_at (follow (two_in 45 1 12) (λ m. two_in 45 1 (month_days (decimal y) (decimal m)))) (next_far (two_in 45 1 12) (two_in_far 45 1 12) (λ m. two_in_far 45 1 (month_days (decimal y) (decimal m)))) s (at + 4))
         → x ≡ date_at s at
     unfolding date_by date_far
-    after_year x q = by_date x (follow_on (fixed 4) _ fixed_far _ s at (Past (at + 4)) year (at + 4) refl x (rw year_is q))
+    after_year x q = by_date x (follow_on (fixed 4) _ fixed_far _ s at (Ok (at + 4)) year (at + 4) refl x (rw year_is q))
 
-    module _ (w : Went) (ew : w ≡ two_at 45 1 12 s (at + 4)) where
-      pub date_month : (k : ℕ) → w ≡ Stuck k → w ≡ date_at s at
+    module _ (w : Result ℕ ℕ) (ew : w ≡ two_at 45 1 12 s (at + 4)) where
+      pub date_month : (k : ℕ) → w ≡ Err k → w ≡ date_at s at
       date_month k g = after_year w (follow_stuck (two_in 45 1 12) _ (two_in_far 45 1 12) _ s (at + 4) w ew k g)
 
-      module _ (n : ℕ) (g : w ≡ Past n) where
+      module _ (n : ℕ) (g : w ≡ Ok n) where
         month : Two s (at + 4) 1 12 n (got_past (two_in 45 1 12) (two_in_far 45 1 12) s (at + 4) w ew n g).value
         month = two_read s (at + 4) 44 1 12 n (got_past (two_in 45 1 12) (two_in_far 45 1 12) s (at + 4) w ew n g)
 
@@ -322,7 +320,7 @@ module _ (s : List ℕ) (at end : ℕ) (e : end ≡ at + run is_digit (drop at s
               let o = orders 1 12 m (rw em (rw month_here at month.range)) in
               record { first = o.0; last = o.1 }
 
-          pub date_day : (y : ℕ) → y ≡ decimal (take 4 (drop at s)) → (l : ℕ) → l ≡ month_days y m → (x : Went) → x ≡ two_at 45 1 l s n → x ≡ date_at s at
+          pub date_day : (y : ℕ) → y ≡ decimal (take 4 (drop at s)) → (l : ℕ) → l ≡ month_days y m → (x : Result ℕ ℕ) → x ≡ two_at 45 1 l s n → x ≡ date_at s at
           date_day y ey l el x ex =
               after_year x (follow_on (two_in 45 1 12) _ (two_in_far 45 1 12) _ s (at + 4) w ew n g x (rw (month_here, ← ey, ← em, ← el) ex))
 

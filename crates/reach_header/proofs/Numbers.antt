@@ -1,5 +1,5 @@
 -- Numbers of a few digits: what they write, and where they break.
-use Rattle.std.specs.Prelude.{if◌then◌else◌}
+use Rattle.std.specs.Prelude.{if◌then◌else◌, Result, Ok, Err}
 use Prim.Native.Nat.{ℕ, zero, suc, ◌+◌, ◌-◌, ◌*◌, ◌^◌, ◌≤◌, ◌<◌}
 use mathlib.Core.Path.{◌≡◌, refl, sym, ap, ap₂, ◌∙◌}
 use mathlib.Core.Bool.{Bool, true, false, not, ◌&&◌, ◌||◌}
@@ -26,8 +26,6 @@ use Rattle.grammar.specs.Parse.{on_found, only, repeat, is_prival, is_version}
 use Rattle.grammar.specs.Parse.Parsed.{failed, found}
 use Rattle.viable.specs.Leaves.{repeat_far, prival_far, version_far}
 use Rattle.viable.specs.Walks.{went_of, onward_of, went_at}
-use Rattle.viable.specs.declared.Went.{Went}
-use Rattle.viable.specs.declared.Went.TheVariants.{Past, Stuck}
 use Rattle.viable.proofs.Leaves.{tested_yes, tested_no, tested_long, led_by_zero, not_led, and_no, nonzero_test, zero_test}
 use Rattle.viable.proofs.Walks.{at_here}
 use Rattle.reach_header.specs.Pieces.{Digits, digits_at, is_over, prival_at, version_at}
@@ -176,7 +174,7 @@ small x h o =
     rw z)
     (λ _ w.
     by_test (λ b. leb 1 (run is_digit x) ≡ b
-    → Stuck (if b then 3 else 0) ≡ Stuck (if eqb (run is_digit x) 0 then 0 else if is_at x 0 48 then 1 else if leb (decimal (take 3 x)) 191 then 3 else 2)) (leb 1 (run is_digit x))
+    → ◌≡◌ {A = Result ℕ ℕ} (Err (if b then 3 else 0)) (Err (if eqb (run is_digit x) 0 then 0 else if is_at x 0 48 then 1 else if leb (decimal (take 3 x)) 191 then 3 else 2))) (leb 1 (run is_digit x))
     (λ _ b.
     let l = leb-true 1 (run is_digit x) b in
     let g = many l w in
@@ -231,7 +229,7 @@ version_other x h =
     (if eqb (run is_digit x) 0 || is_at x 0 48 then 0 else 3)) (within 1 3 (run is_digit x))
     (λ _ w. let r = orders 1 3 (run is_digit x) w in let z = nonzero_test (run is_digit x) x r.0 ∙ ap not h in rw z)
     (λ _ w.
-    by_test (λ b. leb 1 (run is_digit x) ≡ b → Stuck (if b then 3 else 0) ≡ Stuck (if eqb (run is_digit x) 0 || is_at x 0 48 then 0 else 3)) (leb 1 (run is_digit x))
+    by_test (λ b. leb 1 (run is_digit x) ≡ b → ◌≡◌ {A = Result ℕ ℕ} (Err (if b then 3 else 0)) (Err (if eqb (run is_digit x) 0 || is_at x 0 48 then 0 else 3))) (leb 1 (run is_digit x))
     (λ _ b. let l = leb-true 1 (run is_digit x) b in rw (ne_eqb (run is_digit x) 0 (λ z. omega arith), h))
     (λ _ b. let l = leb-false 1 (run is_digit x) b in rw (eq-eqb (run is_digit x) 0 (omega arith)))
     refl)
@@ -245,11 +243,11 @@ led_far x h =
     rw (ne_eqb (run is_digit x) 0 r, h)
 
 module _ (s : List ℕ) (at : ℕ) where
-  prival_not : (k : ℕ) → only is_prival (repeat 3 is_digit) (drop at s) ≡ failed → prival_far (drop at s) ≡ k → Stuck (at + k) ≡ prival_at s at
+  prival_not : (k : ℕ) → only is_prival (repeat 3 is_digit) (drop at s) ≡ failed → prival_far (drop at s) ≡ k → Err (at + k) ≡ prival_at s at
   unfolding went_at
   prival_not k f g = sym (rw (f, g))
 
-  prival_read : (t : List ℕ) (n : ℕ) → only is_prival (repeat 3 is_digit) (drop at s) ≡ found t n → Past (at + n) ≡ prival_at s at
+  prival_read : (t : List ℕ) (n : ℕ) → only is_prival (repeat 3 is_digit) (drop at s) ≡ found t n → Ok (at + n) ≡ prival_at s at
   unfolding went_at
   prival_read t n f = rw f
 
@@ -268,18 +266,18 @@ module _ (s : List ℕ) (at : ℕ) where
       run_led = ap (run is_digit) (at_cons (drop at s) 0 47 led) ∙ run_yes is_digit 48 (drop 1 (drop at s)) refl ∙ ap (λ (l : List ℕ). suc (run is_digit l)) after
 
       module _ (b : ℕ) (eb : b ≡ get_or s (at + 1) 0) (d : Bool) (ed : d ≡ is_digit b) where
-        pub prival_led : d ≡ true → Stuck (at + 1) ≡ prival_at s at
+        pub prival_led : d ≡ true → Err (at + 1) ≡ prival_at s at
         prival_led g =
             let z : is_digit (get_or s (at + 1) 0) ≡ true = sym (ap is_digit eb) ∙ sym ed ∙ g in
             let m = digit_run_lem s (at + 1) z in
             prival_not 1 (tested_no is_prival 3 is_digit (drop at s) (led_by_zero (run is_digit (drop at s)) (drop at s) (omega (arith, run_led)) (run_le is_digit (drop at s)) led)) (led_far (drop at s) led)
 
-        pub prival_zero : d ≡ false → Past (at + 1) ≡ prival_at s at
+        pub prival_zero : d ≡ false → Ok (at + 1) ≡ prival_at s at
         prival_zero g =
             let z : is_digit (get_or s (at + 1) 0) ≡ false = sym (ap is_digit eb) ∙ sym ed ∙ g in
             let r : run is_digit (drop at s) ≡ 1 = run_led ∙ ap suc (no_digit_run s (at + 1) z) in
             let o : take (run is_digit (drop at s)) (drop at s) ≡ 48 ∷ [] = ap (λ (n : ℕ). take n (drop at s)) r ∙ ap (take 1) (at_cons (drop at s) 0 47 led) in
-            ap Past (let y : at + 1 ≡ at + run is_digit (drop at s) = omega arith in y)
+            ap Ok (let y : at + 1 ≡ at + run is_digit (drop at s) = omega arith in y)
             ∙ prival_read (take (run is_digit (drop at s)) (drop at s)) (run is_digit (drop at s)) (tested_yes is_prival 3 is_digit (drop at s) (rw r) (rw o zero_test))
 
     module _ (h : t ≡ false) where
@@ -288,7 +286,7 @@ module _ (s : List ℕ) (at : ℕ) where
       not_led_far l x e = rw (ne_eqb (run is_digit (drop at s)) 0 (λ z. omega arith), first_is, h, e)
 
       module _ (o : Bool) (eo : o ≡ is_over s at) where
-        pub prival_over : o ≡ true → Stuck (at + 2) ≡ prival_at s at
+        pub prival_over : o ≡ true → Err (at + 2) ≡ prival_at s at
         prival_over g =
             let (a, b) = both (leb 3 (run is_digit (drop at s))) (ltb 191 (decimal (take 3 (drop at s)))) (sym eo ∙ g) in
             let l = leb-true 3 (run is_digit (drop at s)) a in
@@ -303,7 +301,7 @@ module _ (s : List ℕ) (at : ℕ) where
             let q = length-drop at s in
             record { fits = omega arith }
 
-        pub prival_small : o ≡ false → (x : Went) → x ≡ digits_at 3 s at → x ≡ prival_at s at
+        pub prival_small : o ≡ false → (x : Result ℕ ℕ) → x ≡ digits_at 3 s at → x ≡ prival_at s at
         unfolding went_at
         prival_small g x e = e ∙ ap (onward_of at) (small (drop at s) (first_is ∙ h) (sym eo ∙ g))
 
@@ -312,11 +310,11 @@ pub ruleset prival_laws = (prival_led, prival_zero, prival_over, prival_over_fit
 -- ---- VERSION
 
 module _ (s : List ℕ) (at : ℕ) (t : Bool) (et : t ≡ is_at s at 48) where
-  pub version_zero : t ≡ true → Stuck at ≡ version_at s at
+  pub version_zero : t ≡ true → Err at ≡ version_at s at
   unfolding went_at
-  version_zero h = let z = version_led (drop at s) (at_here s at 48 ∙ sym et ∙ h) in sym (rw (z.0, z.1) (ap Stuck (let y : at + 0 ≡ at = omega arith in y)))
+  version_zero h = let z = version_led (drop at s) (at_here s at 48 ∙ sym et ∙ h) in sym (rw (z.0, z.1) (ap Err (let y : at + 0 ≡ at = omega arith in y)))
 
-  pub version_digits : t ≡ false → (x : Went) → x ≡ digits_at 3 s at → x ≡ version_at s at
+  pub version_digits : t ≡ false → (x : Result ℕ ℕ) → x ≡ digits_at 3 s at → x ≡ version_at s at
   unfolding went_at
   version_digits h x e = e ∙ ap (onward_of at) (version_other (drop at s) (at_here s at 48 ∙ sym et ∙ h))
 

@@ -1,4 +1,5 @@
 -- The pieces of a header, each made of others.
+use Rattle.std.specs.Prelude.{Result, Ok, Err}
 use Prim.Native.Nat.{ℕ, ◌+◌}
 use mathlib.Core.Path.{◌≡◌, sym, ap, ◌∙◌}
 use mathlib.Core.Bool.{Bool, true, false, not}
@@ -13,8 +14,6 @@ use Rattle.viable.specs.Far.{next_far, choose_far, none_far}
 use Rattle.viable.specs.Leaves.{repeat_far, prival_far, version_far, ranged, ranged_far}
 use Rattle.viable.specs.Reach.{pri_far, version_sp_far, two_in, two_in_far, date_far, clock_by, clock_far, secfrac_far, zone_by, zone_far, offset_far, full_far, timestamp_far, printable_far, names_far, header_far}
 use Rattle.viable.specs.Walks.{went_at}
-use Rattle.viable.specs.declared.Went.{Went}
-use Rattle.viable.specs.declared.Went.TheVariants.{Past, Stuck}
 use Rattle.viable.proofs.Header.{clock_same, zone_same}
 use Rattle.viable.proofs.Walks.{Seq, seq, re_seq, Closed, closing, Behind, leading, choose_yes, choose_no, into_walk, same_walk}
 use Rattle.reach_header.specs.Pieces.{digits_at, prival_at, prival_end_at, pri_at, version_at, version_end_at, pri_version_at, ranged_at, two_at, date_at, minutes_at, clock_at, secfrac_at, zone_at, signed_at, offset_at, ending_at, time_at, full_at, stamp_at, timestamp_at, printed_at, field_at, ids_at, app_at, names_at, rest_at, header_at}
@@ -39,10 +38,10 @@ pri_version_seq = seq pri version pri_far version_sp_far
 -- ---- TIMESTAMP SP
 
 module _ (b lo hi : ℕ) (s : List ℕ) (at : ℕ) (t : Bool) (et : t ≡ is_at s at b) where
-  pub two_no : not t ≡ true → Stuck at ≡ two_at b lo hi s at
+  pub two_no : not t ≡ true → Err at ≡ two_at b lo hi s at
   two_no h = (leading (ranged lo hi) (ranged_far lo hi) b).no s at t et h
 
-  pub two_yes : not t ≡ false → (x : Went) → x ≡ ranged_at lo hi s (at + 1) → x ≡ two_at b lo hi s at
+  pub two_yes : not t ≡ false → (x : Result ℕ ℕ) → x ≡ ranged_at lo hi s (at + 1) → x ≡ two_at b lo hi s at
   two_yes h x e = (leading (ranged lo hi) (ranged_far lo hi) b).yes s at t et h x e
 
 pub ruleset two_laws = (two_no, two_yes)
@@ -59,40 +58,40 @@ pub zone_seq : Seq (ranged_at 0 23) (two_at 58 0 59) zone_at
 unfolding zone_by zone_far
 zone_seq = re_seq (same_walk zone zone_by zone_same zone_far) (seq (ranged 0 23) (two_in 58 0 59) (ranged_far 0 23) (two_in_far 58 0 59))
 
-nothing_here : {A : Type 0} (a : A) (s : List ℕ) (at : ℕ) → Past at ≡ went_at (always a) none_far s at
+nothing_here : {A : Type 0} (a : A) (s : List ℕ) (at : ℕ) → Ok at ≡ went_at (always a) none_far s at
 unfolding went_at
-nothing_here a s at = ap Past (let z : at ≡ at + 0 = omega arith in z)
+nothing_here a s at = ap Ok (let z : at ≡ at + 0 = omega arith in z)
 
 module _ (s : List ℕ) (at : ℕ) (t : Bool) (et : t ≡ is_at s at 46) where
-  pub secfrac_none : not t ≡ true → Past at ≡ secfrac_at s at
+  pub secfrac_none : not t ≡ true → Ok at ≡ secfrac_at s at
   unfolding secfrac secfrac_far
-  secfrac_none h = choose_no _ _ _ _ 46 s at t et (not-true t h) (Past at) (nothing_here none s at)
+  secfrac_none h = choose_no _ _ _ _ 46 s at t et (not-true t h) (Ok at) (nothing_here none s at)
 
-  pub secfrac_some : not t ≡ false → (x : Went) → x ≡ digits_at 6 s (at + 1) → x ≡ secfrac_at s at
+  pub secfrac_some : not t ≡ false → (x : Result ℕ ℕ) → x ≡ digits_at 6 s (at + 1) → x ≡ secfrac_at s at
   unfolding secfrac secfrac_far
   secfrac_some h x e = choose_yes _ _ _ _ 46 s at t et (not-false t h) x (e ∙ sym (into_walk some (repeat 6 is_digit) (repeat_far 6 is_digit) s (at + 1)))
 
 pub ruleset secfrac_laws = (secfrac_none, secfrac_some)
 
 module _ (s : List ℕ) (at : ℕ) (u : Bool) (eu : u ≡ is_at s at 43) where
-  pub signed_east : u ≡ true → (x : Went) → x ≡ zone_at s (at + 1) → x ≡ signed_at s at
+  pub signed_east : u ≡ true → (x : Result ℕ ℕ) → x ≡ zone_at s (at + 1) → x ≡ signed_at s at
   signed_east k x e = choose_yes _ _ _ _ 43 s at u eu k x (e ∙ sym (into_walk east_of zone zone_far s (at + 1)))
 
   module _ (k : u ≡ false) (v : Bool) (ev : v ≡ is_at s at 45) where
-    pub signed_west : v ≡ true → (x : Went) → x ≡ zone_at s (at + 1) → x ≡ signed_at s at
+    pub signed_west : v ≡ true → (x : Result ℕ ℕ) → x ≡ zone_at s (at + 1) → x ≡ signed_at s at
     signed_west l x e = choose_no _ _ _ _ 43 s at u eu k x (choose_yes _ _ _ _ 45 s at v ev l x (e ∙ sym (into_walk west_of zone zone_far s (at + 1))))
 
-    pub signed_none : v ≡ false → Stuck at ≡ signed_at s at
-    signed_none l = choose_no _ _ _ _ 43 s at u eu k (Stuck at) ((leading (into west_of zone) zone_far 45).no s at v ev (rw l))
+    pub signed_none : v ≡ false → Err at ≡ signed_at s at
+    signed_none l = choose_no _ _ _ _ 43 s at u eu k (Err at) ((leading (into west_of zone) zone_far 45).no s at v ev (rw l))
 
 pub ruleset signed_laws = (signed_east, signed_west, signed_none)
 
 module _ (s : List ℕ) (at : ℕ) (t : Bool) (et : t ≡ is_at s at 90) where
-  pub offset_utc : t ≡ true → Past (at + 1) ≡ offset_at s at
+  pub offset_utc : t ≡ true → Ok (at + 1) ≡ offset_at s at
   unfolding offset offset_far
-  offset_utc h = choose_yes _ _ _ _ 90 s at t et h (Past (at + 1)) (nothing_here _ s (at + 1))
+  offset_utc h = choose_yes _ _ _ _ 90 s at t et h (Ok (at + 1)) (nothing_here _ s (at + 1))
 
-  pub offset_signed : t ≡ false → (x : Went) → x ≡ signed_at s at → x ≡ offset_at s at
+  pub offset_signed : t ≡ false → (x : Result ℕ ℕ) → x ≡ signed_at s at → x ≡ offset_at s at
   unfolding offset offset_far
   offset_signed h x e = choose_no _ _ _ _ 90 s at t et h x e
 
@@ -111,10 +110,10 @@ full_seq =
     (seq date (clock next secfrac next offset) date_far (next_far clock clock_far (λ _. next_far secfrac secfrac_far (λ _. offset_far))))
 
 module _ (s : List ℕ) (at : ℕ) (t : Bool) (et : t ≡ is_at s at 45) where
-  pub stamp_nil : t ≡ true → Past (at + 1) ≡ stamp_at s at
-  stamp_nil h = choose_yes (always none) (into some full) none_far full_far 45 s at t et h (Past (at + 1)) (nothing_here none s (at + 1))
+  pub stamp_nil : t ≡ true → Ok (at + 1) ≡ stamp_at s at
+  stamp_nil h = choose_yes (always none) (into some full) none_far full_far 45 s at t et h (Ok (at + 1)) (nothing_here none s (at + 1))
 
-  pub stamp_full : t ≡ false → (x : Went) → x ≡ full_at s at → x ≡ stamp_at s at
+  pub stamp_full : t ≡ false → (x : Result ℕ ℕ) → x ≡ full_at s at → x ≡ stamp_at s at
   stamp_full h x e = choose_no (always none) (into some full) none_far full_far 45 s at t et h x (e ∙ sym (into_walk some full full_far s at))
 
 pub ruleset stamp_laws = (stamp_nil, stamp_full)
@@ -125,18 +124,18 @@ timestamp_closed = closing (choose 45 (always none) (into some full)) (choose_fa
 
 -- ---- the names
 
-module _ (most : ℕ) (s : List ℕ) (at : ℕ) (x : Went) (e : x ≡ printed_at most s at) where
+module _ (most : ℕ) (s : List ℕ) (at : ℕ) (x : Result ℕ ℕ) (e : x ≡ printed_at most s at) where
   closes : Closed (printed_at most) 32 (field_at most)
   closes = closing (repeat most print_us_ascii) (repeat_far most print_us_ascii) 32
 
-  pub field_stuck : (k : ℕ) → x ≡ Stuck k → x ≡ field_at most s at
+  pub field_stuck : (k : ℕ) → x ≡ Err k → x ≡ field_at most s at
   field_stuck = closes.stuck s at x e
 
-  module _ (n : ℕ) (h : x ≡ Past n) (t : Bool) (et : t ≡ is_at s n 32) where
-    pub field_missing : not t ≡ true → Stuck n ≡ field_at most s at
+  module _ (n : ℕ) (h : x ≡ Ok n) (t : Bool) (et : t ≡ is_at s n 32) where
+    pub field_missing : not t ≡ true → Err n ≡ field_at most s at
     field_missing = closes.missing s at x e n h t et
 
-    pub field_past : not t ≡ false → Past (n + 1) ≡ field_at most s at
+    pub field_past : not t ≡ false → Ok (n + 1) ≡ field_at most s at
     field_past = closes.past s at x e n h t et
 
 pub ruleset field_laws = (field_stuck, field_missing, field_past)

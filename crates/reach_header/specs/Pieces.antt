@@ -1,5 +1,5 @@
 -- For private contracts alone: what the walks over the pieces of a header answer.
-use Rattle.std.specs.Prelude.{ℕ, ◌≤◌, Bool, ◌&&◌, List, take, drop, leb, ltb}
+use Rattle.std.specs.Prelude.{ℕ, ◌≤◌, Bool, ◌&&◌, List, take, drop, leb, ltb, Result}
 use Rattle.std.proofs.Math.Option.{none, some}
 use Rattle.digits.specs.Digits.{decimal}
 use Rattle.base.specs.Runs.{run}
@@ -9,10 +9,9 @@ use Rattle.viable.specs.Far.{next_far, closed_far, choose_far, behind_far, none_
 use Rattle.viable.specs.Leaves.{repeat_far, prival_far, version_far, ranged, ranged_far}
 use Rattle.viable.specs.Reach.{pri_far, version_sp_far, two_in, two_in_far, date_far, clock_far, secfrac_far, zone_far, offset_far, full_far, timestamp_far, printable_far, names_far, header_far}
 use Rattle.viable.specs.Walks.{went_at}
-use Rattle.viable.specs.declared.Went.{Went}
 
 abbrev pub Walk : Type 0
-Walk = List ℕ → ℕ → Went
+Walk = List ℕ → ℕ → Result ℕ ℕ
 
 -- 1*most DIGIT
 abbrev pub digits_at : ℕ → Walk

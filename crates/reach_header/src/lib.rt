@@ -9,7 +9,6 @@ ghost use Rattle.grammar.specs.Abnf.{is_digit, print_us_ascii};
 ghost use Rattle.reach_header.specs.Pieces.{digits_at, is_over, prival_at, prival_end_at, pri_at, version_at, version_end_at, pri_version_at, ranged_at, two_at, date_at, minutes_at, clock_at, secfrac_at, zone_at, signed_at, offset_at, ending_at, time_at, full_at, stamp_at, timestamp_at, printed_at, field_at, ids_at, app_at, names_at, rest_at, header_at, Digits, Month};
 
 use base::is_at;
-use viable::Went;
 
 // The byte at a place, or 0 past the end.
 fn byte_at(s: &[u8], at: usize) -> u8
@@ -82,17 +81,17 @@ fn four_at(s: &[u8], at: usize) -> u32
 }
 
 // Up to `most` digits.
-fn digits_to(s: &[u8], at: usize, most: usize) -> Went
+fn digits_to(s: &[u8], at: usize, most: usize) -> Result<usize, usize>
     ensures { result ≡ digits_at most s.now at }
 {
     let end = digit_end(s, at);
     if end == at {
-        return Went::Stuck(at);
+        return Err(at);
     }
     if most < end - at {
-        return Went::Stuck(at + most);
+        return Err(at + most);
     }
-    Went::Past(end)
+    Ok(end)
 }
 
 // ---- PRI VERSION SP
@@ -108,108 +107,99 @@ fn is_over(s: &[u8], at: usize) -> bool
 }
 
 // A priority: up to three digits, no zero in front of others, at most 191.
-fn prival(s: &[u8], at: usize) -> Went
+fn prival(s: &[u8], at: usize) -> Result<usize, usize>
     ensures { result ≡ prival_at s.now at }
 {
     if is_at(s, at, b'0') {
         if is_digit(byte_at(s, at + 1)) {
-            return Went::Stuck(at + 1);
+            return Err(at + 1);
         }
-        return Went::Past(at + 1);
+        return Ok(at + 1);
     }
     if is_over(s, at) {
-        return Went::Stuck(at + 2);
+        return Err(at + 2);
     }
     digits_to(s, at, 3)
 }
 
-fn prival_end(s: &[u8], at: usize) -> Went
+fn prival_end(s: &[u8], at: usize) -> Result<usize, usize>
     ensures { result ≡ prival_end_at s.now at }
 {
-    let w = prival(s, at);
-    let Went::Past(n) = w else {
-        return w;
-    };
+    let n = prival(s, at)?;
     if !is_at(s, n, b'>') {
-        return Went::Stuck(n);
+        return Err(n);
     }
-    Went::Past(n + 1)
+    Ok(n + 1)
 }
 
-fn pri(s: &[u8], at: usize) -> Went
+fn pri(s: &[u8], at: usize) -> Result<usize, usize>
     ensures { result ≡ pri_at s.now at }
 {
     if !is_at(s, at, b'<') {
-        return Went::Stuck(at);
+        return Err(at);
     }
     prival_end(s, at + 1)
 }
 
 // A version: up to three digits, the first no zero.
-fn version(s: &[u8], at: usize) -> Went
+fn version(s: &[u8], at: usize) -> Result<usize, usize>
     ensures { result ≡ version_at s.now at }
 {
     if is_at(s, at, b'0') {
-        return Went::Stuck(at);
+        return Err(at);
     }
     digits_to(s, at, 3)
 }
 
-fn version_end(s: &[u8], at: usize) -> Went
+fn version_end(s: &[u8], at: usize) -> Result<usize, usize>
     ensures { result ≡ version_end_at s.now at }
 {
-    let w = version(s, at);
-    let Went::Past(n) = w else {
-        return w;
-    };
+    let n = version(s, at)?;
     if !is_at(s, n, b' ') {
-        return Went::Stuck(n);
+        return Err(n);
     }
-    Went::Past(n + 1)
+    Ok(n + 1)
 }
 
-fn pri_version(s: &[u8], at: usize) -> Went
+fn pri_version(s: &[u8], at: usize) -> Result<usize, usize>
     ensures { result ≡ pri_version_at s.now at }
 {
-    let w = pri(s, at);
-    let Went::Past(n) = w else {
-        return w;
-    };
+    let n = pri(s, at)?;
     version_end(s, n)
 }
 
 // ---- TIMESTAMP SP
 
 // Two digits that write a number from `low` to `high`.
-fn ranged(s: &[u8], at: usize, low: u8, high: u8) -> Went
+fn ranged(s: &[u8], at: usize, low: u8, high: u8) -> Result<usize, usize>
     ensures { result ≡ ranged_at low high s.now at }
 {
     let b = byte_at(s, at);
     if !is_digit(b) {
-        return Went::Stuck(at);
+        return Err(at);
     }
     let tens = (b - b'0') * 10;
     if (tens + 9 < low) | (high < tens) {
-        return Went::Stuck(at);
+        return Err(at);
     }
     let c = byte_at(s, at + 1);
     if !is_digit(c) {
-        return Went::Stuck(at + 1);
+        return Err(at + 1);
     }
     let value = tens + (c - b'0');
     if (value < low) | (high < value) {
-        return Went::Stuck(at + 1);
+        return Err(at + 1);
     }
-    Went::Past(at + 2)
+    Ok(at + 2)
 }
 
 // The byte `b` and two digits.
-fn two(s: &[u8], at: usize, b: u8, low: u8, high: u8) -> Went
+fn two(s: &[u8], at: usize, b: u8, low: u8, high: u8) -> Result<usize, usize>
     requires { 0 < b }
     ensures { result ≡ two_at b low high s.now at }
 {
     if !is_at(s, at, b) {
-        return Went::Stuck(at);
+        return Err(at);
     }
     ranged(s, at + 1, low, high)
 }
@@ -231,65 +221,53 @@ fn last_day(year: u32, month: u32) -> u8
     28
 }
 
-fn date(s: &[u8], at: usize) -> Went
+fn date(s: &[u8], at: usize) -> Result<usize, usize>
     ensures { result ≡ date_at s.now at }
 {
     let end = digit_end(s, at);
     if end - at < 4 {
-        return Went::Stuck(end);
+        return Err(end);
     }
-    let w = two(s, at + 4, b'-', 1, 12);
-    let Went::Past(n) = w else {
-        return w;
-    };
+    let n = two(s, at + 4, b'-', 1, 12)?;
     two(s, n, b'-', 1, last_day(four_at(s, at), two_at(s, at + 5)))
 }
 
 // Minute and second, each with its `:`.
-fn minutes(s: &[u8], at: usize) -> Went
+fn minutes(s: &[u8], at: usize) -> Result<usize, usize>
     ensures { result ≡ minutes_at s.now at }
 {
-    let w = two(s, at, b':', 0, 59);
-    let Went::Past(n) = w else {
-        return w;
-    };
+    let n = two(s, at, b':', 0, 59)?;
     two(s, n, b':', 0, 59)
 }
 
 // `T` and the clock.
-fn clock(s: &[u8], at: usize) -> Went
+fn clock(s: &[u8], at: usize) -> Result<usize, usize>
     ensures { result ≡ clock_at s.now at }
 {
-    let w = two(s, at, b'T', 0, 23);
-    let Went::Past(n) = w else {
-        return w;
-    };
+    let n = two(s, at, b'T', 0, 23)?;
     minutes(s, n)
 }
 
 // The fraction, where there is one.
-fn secfrac(s: &[u8], at: usize) -> Went
+fn secfrac(s: &[u8], at: usize) -> Result<usize, usize>
     ensures { result ≡ secfrac_at s.now at }
 {
     if !is_at(s, at, b'.') {
-        return Went::Past(at);
+        return Ok(at);
     }
     digits_to(s, at + 1, 6)
 }
 
 // The hour and the minute of an offset.
-fn zone(s: &[u8], at: usize) -> Went
+fn zone(s: &[u8], at: usize) -> Result<usize, usize>
     ensures { result ≡ zone_at s.now at }
 {
-    let w = ranged(s, at, 0, 23);
-    let Went::Past(n) = w else {
-        return w;
-    };
+    let n = ranged(s, at, 0, 23)?;
     two(s, n, b':', 0, 59)
 }
 
 // A sign and what it signs.
-fn signed(s: &[u8], at: usize) -> Went
+fn signed(s: &[u8], at: usize) -> Result<usize, usize>
     ensures { result ≡ signed_at s.now at }
 {
     if is_at(s, at, b'+') {
@@ -298,70 +276,58 @@ fn signed(s: &[u8], at: usize) -> Went
     if is_at(s, at, b'-') {
         return zone(s, at + 1);
     }
-    Went::Stuck(at)
+    Err(at)
 }
 
 // `Z`, or what is signed.
-fn offset(s: &[u8], at: usize) -> Went
+fn offset(s: &[u8], at: usize) -> Result<usize, usize>
     ensures { result ≡ offset_at s.now at }
 {
     if is_at(s, at, b'Z') {
-        return Went::Past(at + 1);
+        return Ok(at + 1);
     }
     signed(s, at)
 }
 
-fn ending(s: &[u8], at: usize) -> Went
+fn ending(s: &[u8], at: usize) -> Result<usize, usize>
     ensures { result ≡ ending_at s.now at }
 {
-    let w = secfrac(s, at);
-    let Went::Past(n) = w else {
-        return w;
-    };
+    let n = secfrac(s, at)?;
     offset(s, n)
 }
 
-fn time(s: &[u8], at: usize) -> Went
+fn time(s: &[u8], at: usize) -> Result<usize, usize>
     ensures { result ≡ time_at s.now at }
 {
-    let w = clock(s, at);
-    let Went::Past(n) = w else {
-        return w;
-    };
+    let n = clock(s, at)?;
     ending(s, n)
 }
 
-fn full(s: &[u8], at: usize) -> Went
+fn full(s: &[u8], at: usize) -> Result<usize, usize>
     ensures { result ≡ full_at s.now at }
 {
-    let w = date(s, at);
-    let Went::Past(n) = w else {
-        return w;
-    };
+    let n = date(s, at)?;
     time(s, n)
 }
 
 // The timestamp or `-`.
-fn stamp(s: &[u8], at: usize) -> Went
+fn stamp(s: &[u8], at: usize) -> Result<usize, usize>
     ensures { result ≡ stamp_at s.now at }
 {
     if is_at(s, at, b'-') {
-        return Went::Past(at + 1);
+        return Ok(at + 1);
     }
     full(s, at)
 }
 
-fn timestamp(s: &[u8], at: usize) -> Went
+fn timestamp(s: &[u8], at: usize) -> Result<usize, usize>
     ensures { result ≡ timestamp_at s.now at }
 {
-    let w = stamp(s, at);
-    let Went::Past(n) = w else {
-        return w;
-    };
+    let n = stamp(s, at)?;
     if !is_at(s, n, b' ') {
-        return Went::Stuck(n);
+        return Err(n);
     }
-    Went::Past(n + 1)
+    Ok(n + 1)
 }
 
 // ---- HOSTNAME SP APP-NAME SP PROCID SP MSGID SP
@@ -383,81 +349,63 @@ fn print_end(s: &[u8], at: usize) -> usize
 }
 
 // Up to `most` printable bytes.
-fn printed(s: &[u8], at: usize, most: usize) -> Went
+fn printed(s: &[u8], at: usize, most: usize) -> Result<usize, usize>
     ensures { result ≡ printed_at most s.now at }
 {
     let end = print_end(s, at);
     if end == at {
-        return Went::Stuck(at);
+        return Err(at);
     }
     if most < end - at {
-        return Went::Stuck(at + most);
+        return Err(at + most);
     }
-    Went::Past(end)
+    Ok(end)
 }
 
-fn field(s: &[u8], at: usize, most: usize) -> Went
+fn field(s: &[u8], at: usize, most: usize) -> Result<usize, usize>
     ensures { result ≡ field_at most s.now at }
 {
-    let w = printed(s, at, most);
-    let Went::Past(n) = w else {
-        return w;
-    };
+    let n = printed(s, at, most)?;
     if !is_at(s, n, b' ') {
-        return Went::Stuck(n);
+        return Err(n);
     }
-    Went::Past(n + 1)
+    Ok(n + 1)
 }
 
-fn ids(s: &[u8], at: usize) -> Went
+fn ids(s: &[u8], at: usize) -> Result<usize, usize>
     ensures { result ≡ ids_at s.now at }
 {
-    let w = field(s, at, 128);
-    let Went::Past(n) = w else {
-        return w;
-    };
+    let n = field(s, at, 128)?;
     field(s, n, 32)
 }
 
-fn app(s: &[u8], at: usize) -> Went
+fn app(s: &[u8], at: usize) -> Result<usize, usize>
     ensures { result ≡ app_at s.now at }
 {
-    let w = field(s, at, 48);
-    let Went::Past(n) = w else {
-        return w;
-    };
+    let n = field(s, at, 48)?;
     ids(s, n)
 }
 
-fn names(s: &[u8], at: usize) -> Went
+fn names(s: &[u8], at: usize) -> Result<usize, usize>
     ensures { result ≡ names_at s.now at }
 {
-    let w = field(s, at, 255);
-    let Went::Past(n) = w else {
-        return w;
-    };
+    let n = field(s, at, 255)?;
     app(s, n)
 }
 
 // ---- HEADER SP
 
-fn rest(s: &[u8], at: usize) -> Went
+fn rest(s: &[u8], at: usize) -> Result<usize, usize>
     ensures { result ≡ rest_at s.now at }
 {
-    let w = timestamp(s, at);
-    let Went::Past(n) = w else {
-        return w;
-    };
+    let n = timestamp(s, at)?;
     names(s, n)
 }
 
 // How far the header of a line goes, PRI to MSGID, with the space after it.
-pub fn header(line: &[u8]) -> Went
+pub fn header(line: &[u8]) -> Result<usize, usize>
     ensures { result ≡ header_at line.now 0 }
 {
-    let w = pri_version(line, 0);
-    let Went::Past(n) = w else {
-        return w;
-    };
+    let n = pri_version(line, 0)?;
     rest(line, n)
 }

@@ -1,4 +1,5 @@
 -- Worked examples, computed from the definitions.
+use Rattle.std.specs.Prelude.{None, Ok, Err}
 use mathlib.Core.Path.{◌≡◌, refl, ap}
 use mathlib.Core.Bool.{true, false, false≢true}
 use mathlib.Core.List.{[], ◌∷◌, map}
@@ -10,12 +11,8 @@ use Rattle.record.specs.Params.{row_of, blank}
 use Rattle.record.specs.declared.Place.{Place}
 use Rattle.record.specs.declared.Refusal.TheVariants.{LineTooLong, BadSetting, NotUtf8, NoReading, TooManyElements, TooManyParams, Unsuitable, NotFound, OutputShort, CellFull, BadCount, FrameTooLong, BadLength, UnknownVersion, BadField, WrongClaim, Unwritable}
 use Rattle.record.specs.declared.Protocol.TheVariants.{Rfc3164}
-use Rattle.record.specs.declared.Level.TheVariants.{Unset}
-use Rattle.record.specs.declared.Stamp.TheVariants.{Unstamped}
 use Rattle.record.specs.declared.Record.{Record}
-use Rattle.record.specs.declared.Reading.TheVariants.{Read, Whole, Refused}
-use Rattle.record.specs.declared.StrictReading.TheVariants as strict
-use Rattle.record.specs.declared.Written.TheVariants as written
+use Rattle.record.specs.declared.Reading.TheVariants.{Read, Whole}
 
 -- the cases in the order in which they are checked (RULES Numbers a), and their numbers
 numbers : map refusal_number (LineTooLong ∷ BadSetting ∷ NotUtf8 ∷ NoReading ∷ TooManyElements ∷ TooManyParams ∷ Unsuitable ∷ NotFound ∷ OutputShort ∷ CellFull ∷ BadCount ∷ FrameTooLong ∷ BadLength ∷ UnknownVersion ∷ BadField ∷ WrongClaim ∷ Unwritable ∷ [])
@@ -30,9 +27,9 @@ abbrev unread : Record
 unread =
     record {
       protocol = Rfc3164;
-      facility = Unset;
-      severity = Unset;
-      timestamp = Unstamped;
+      facility = None;
+      severity = None;
+      timestamp = None;
       host = nothing;
       app = nothing;
       procid = nothing;
@@ -41,36 +38,36 @@ unread =
     }
 
 -- a refusal returns its number, the empty record and zeros
-refused : (answer_of (Refused NotUtf8) ≡ record { number = 3; whole = false; reading = unread; elements = 0; params = 0 })
-    × (strict_answer_of (strict.Refused TooManyParams)
+refused : (answer_of (Err NotUtf8) ≡ record { number = 3; whole = false; reading = unread; elements = 0; params = 0 })
+    × (strict_answer_of (Err TooManyParams)
     ≡ record {
       number = 6;
       reading = record { common = unread; timestamp_text = nothing; has_message = false };
       elements = 0;
       params = 0;
     })
-    × (output_answer_of (written.Refused OutputShort) ≡ record { number = 8; len = 0 })
+    × (output_answer_of (Err OutputShort) ≡ record { number = 8; len = 0 })
 refused = (refl, refl, refl)
 
 -- what is done has the number 0, and its own values
-done : (answer_of (Read unread 2 3) ≡ record { number = 0; whole = false; reading = unread; elements = 2; params = 3 })
-    × (answer_of (Whole unread) ≡ record { number = 0; whole = true; reading = unread; elements = 0; params = 0 })
-    × (strict_answer_of (strict.Read (record { common = unread; timestamp_text = nothing; has_message = true }) 2 3)
+done : (answer_of (Ok (Read unread 2 3)) ≡ record { number = 0; whole = false; reading = unread; elements = 2; params = 3 })
+    × (answer_of (Ok (Whole unread)) ≡ record { number = 0; whole = true; reading = unread; elements = 0; params = 0 })
+    × (strict_answer_of (Ok (record { reading = record { common = unread; timestamp_text = nothing; has_message = true }; elements = 2; params = 3 }))
     ≡ record {
       number = 0;
       reading = record { common = unread; timestamp_text = nothing; has_message = true };
       elements = 2;
       params = 3;
     })
-    × (output_answer_of (written.Done 7) ≡ record { number = 0; len = 7 })
+    × (output_answer_of (Ok 7) ≡ record { number = 0; len = 7 })
 done = (refl, refl, refl, refl)
 
 -- a C caller gets 0 of both readings, and `whole` tells them apart
-told : map read_answer_of (Read unread 2 3 ∷ Whole unread ∷ Refused NotUtf8 ∷ [])
+told : map read_answer_of (Ok (Read unread 2 3) ∷ Ok (Whole unread) ∷ Err NotUtf8 ∷ [])
     ≡ record { number = 0; whole = 0; reach = 0 } ∷ record { number = 0; whole = 1; reach = 0 } ∷ record { number = 3; whole = 0; reach = 0 } ∷ []
 told = refl
 
-strict_told : map strict_read_answer_of (strict.Read (record { common = unread; timestamp_text = nothing; has_message = true }) 2 3 ∷ strict.Refused NoReading ∷ [])
+strict_told : map strict_read_answer_of (Ok (record { reading = record { common = unread; timestamp_text = nothing; has_message = true }; elements = 2; params = 3 }) ∷ Err NoReading ∷ [])
     ≡ record { number = 0; whole = 0; reach = 0 } ∷ record { number = 4; whole = 0; reach = 0 } ∷ []
 strict_told = refl
 

@@ -1,9 +1,7 @@
 -- The empty records, which a refusal returns, and the record with a message alone.
-use Rattle.std.specs.Prelude.{ℕ, false}
+use Rattle.std.specs.Prelude.{ℕ, false, None}
 use Rattle.record.specs.Places.{absent}
 use Rattle.record.specs.declared.Protocol.TheVariants.{Rfc3164}
-use Rattle.record.specs.declared.Level.TheVariants.{Unset}
-use Rattle.record.specs.declared.Stamp.TheVariants.{Unstamped}
 use Rattle.record.specs.declared.Record.{Record}
 use Rattle.record.specs.declared.StrictRecord.{StrictRecord}
 
@@ -12,9 +10,9 @@ abbrev pub message_alone : ℕ → Record
 message_alone len =
     record {
       protocol = Rfc3164;
-      facility = Unset;
-      severity = Unset;
-      timestamp = Unstamped;
+      facility = None;
+      severity = None;
+      timestamp = None;
       host = absent;
       app = absent;
       procid = absent;

@@ -26,17 +26,10 @@ pub struct Span {
     pub len: usize,
 }
 
-#[derive(Clone, Copy)]
+#[derive(Clone, Copy, PartialEq, Eq)]
 pub enum Protocol {
     Rfc3164,
     Rfc5424(u32),
-}
-
-// A facility or a severity.
-#[derive(Clone, Copy)]
-pub enum Level {
-    Unset,
-    Set(u8),
 }
 
 // An instant, in seconds since 1970-01-01T00:00:00Z and nanoseconds; how many digits its fraction had, 0 to 9; and the offset in minutes at which it is
@@ -50,17 +43,11 @@ pub struct Timestamp {
 }
 
 #[derive(Clone, Copy)]
-pub enum Stamp {
-    Unstamped,
-    Stamped(Timestamp),
-}
-
-#[derive(Clone, Copy)]
 pub struct Record {
     pub protocol: Protocol,
-    pub facility: Level,
-    pub severity: Level,
-    pub timestamp: Stamp,
+    pub facility: Option<u8>,
+    pub severity: Option<u8>,
+    pub timestamp: Option<Timestamp>,
     pub host: Place,
     pub app: Place,
     pub procid: Place,
@@ -88,7 +75,7 @@ pub struct Param {
 }
 
 // Why a call is refused, in the order in which it is checked (RULES Numbers).
-#[derive(Clone, Copy)]
+#[derive(Clone, Copy, PartialEq, Eq)]
 pub enum Refusal {
     LineTooLong,
     BadSetting,
@@ -109,26 +96,19 @@ pub enum Refusal {
     Unwritable,
 }
 
-// What the loose reader answers: the record and both counts; the whole line as the message, where the rules give no reading; or why not.
+// What the loose reader answers: the record and both counts; or the whole line as the message, where the rules give no reading.
 #[derive(Clone, Copy)]
 pub enum Reading {
     Read(Record, usize, usize),
     Whole(Record),
-    Refused(Refusal),
 }
 
-// What the strict reader answers.
+// What the strict reader answers: the record and both counts.
 #[derive(Clone, Copy)]
-pub enum StrictReading {
-    Read(StrictRecord, usize, usize),
-    Refused(Refusal),
-}
-
-// What printing and lookup answer: the length of what stands in the output, or why not.
-#[derive(Clone, Copy)]
-pub enum Written {
-    Done(usize),
-    Refused(Refusal),
+pub struct StrictReading {
+    pub reading: StrictRecord,
+    pub elements: usize,
+    pub params: usize,
 }
 
 // The same answers as a number (0: done) and values.
@@ -209,9 +189,9 @@ pub fn message_alone(len: usize) -> Record
     let none = absent();
     Record {
         protocol: Protocol::Rfc3164,
-        facility: Level::Unset,
-        severity: Level::Unset,
-        timestamp: Stamp::Unstamped,
+        facility: None,
+        severity: None,
+        timestamp: None,
         host: none,
         app: none,
         procid: none,
@@ -239,51 +219,53 @@ pub fn empty_strict() -> StrictRecord
 }
 
 // The number of a refusal (RULES Numbers).
-pub fn refusal_number(r: Refusal) -> u32
-    ensures { result ≡ refusal_number r }
-{
-    match r {
-        Refusal::LineTooLong => 1,
-        Refusal::BadSetting => 2,
-        Refusal::NotUtf8 => 3,
-        Refusal::NoReading => 4,
-        Refusal::TooManyElements => 5,
-        Refusal::TooManyParams => 6,
-        Refusal::Unsuitable => 7,
-        Refusal::NotFound => 9,
-        Refusal::OutputShort => 8,
-        Refusal::CellFull => 10,
-        Refusal::BadCount => 11,
-        Refusal::FrameTooLong => 12,
-        Refusal::BadLength => 13,
-        Refusal::UnknownVersion => 14,
-        Refusal::BadField => 15,
-        Refusal::WrongClaim => 16,
-        Refusal::Unwritable => 17,
+impl From<Refusal> for u32 {
+    ghost from_gives = { λ r n. n ≡ refusal_number r };
+
+    fn from(r: Refusal) -> u32 {
+        match r {
+            Refusal::LineTooLong => 1,
+            Refusal::BadSetting => 2,
+            Refusal::NotUtf8 => 3,
+            Refusal::NoReading => 4,
+            Refusal::TooManyElements => 5,
+            Refusal::TooManyParams => 6,
+            Refusal::Unsuitable => 7,
+            Refusal::NotFound => 9,
+            Refusal::OutputShort => 8,
+            Refusal::CellFull => 10,
+            Refusal::BadCount => 11,
+            Refusal::FrameTooLong => 12,
+            Refusal::BadLength => 13,
+            Refusal::UnknownVersion => 14,
+            Refusal::BadField => 15,
+            Refusal::WrongClaim => 16,
+            Refusal::Unwritable => 17,
+        }
     }
 }
 
 // A reading's number and values; a refusal has the empty record and zeros.
-pub fn answer_of(r: Reading) -> Answer
+pub fn answer_of(r: Result<Reading, Refusal>) -> Answer
     ensures { result ≡ answer_of r }
 {
     match r {
-        Reading::Read(reading, elements, params) => Answer {
+        Ok(Reading::Read(reading, elements, params)) => Answer {
             number: 0,
             whole: false,
             reading,
             elements,
             params,
         },
-        Reading::Whole(reading) => Answer {
+        Ok(Reading::Whole(reading)) => Answer {
             number: 0,
             whole: true,
             reading,
             elements: 0,
             params: 0,
         },
-        Reading::Refused(refusal) => Answer {
-            number: refusal_number(refusal),
+        Err(refusal) => Answer {
+            number: u32::from(refusal),
             whole: false,
             reading: empty_record(),
             elements: 0,
@@ -293,18 +275,24 @@ pub fn answer_of(r: Reading) -> Answer
 }
 
 // The same of a strict reading.
-pub fn strict_answer_of(r: StrictReading) -> StrictAnswer
+pub fn strict_answer_of(r: Result<StrictReading, Refusal>) -> StrictAnswer
     ensures { result ≡ strict_answer_of r }
 {
     match r {
-        StrictReading::Read(reading, elements, params) => StrictAnswer {
+        Ok(
+            StrictReading {
+                reading,
+                elements,
+                params,
+            },
+        ) => StrictAnswer {
             number: 0,
             reading,
             elements,
             params,
         },
-        StrictReading::Refused(refusal) => StrictAnswer {
-            number: refusal_number(refusal),
+        Err(refusal) => StrictAnswer {
+            number: u32::from(refusal),
             reading: empty_strict(),
             elements: 0,
             params: 0,
@@ -313,7 +301,7 @@ pub fn strict_answer_of(r: StrictReading) -> StrictAnswer
 }
 
 // What a C caller gets of a reading by value.
-pub fn read_answer_of(r: Reading) -> ReadAnswer
+pub fn read_answer_of(r: Result<Reading, Refusal>) -> ReadAnswer
     ensures { result ≡ read_answer_of r }
 {
     let a = answer_of(r);
@@ -325,7 +313,7 @@ pub fn read_answer_of(r: Reading) -> ReadAnswer
 }
 
 // The same of a strict reading.
-pub fn strict_read_answer_of(r: StrictReading) -> ReadAnswer
+pub fn strict_read_answer_of(r: Result<StrictReading, Refusal>) -> ReadAnswer
     ensures { result ≡ strict_read_answer_of r }
 {
     let a = strict_answer_of(r);
@@ -337,13 +325,13 @@ pub fn strict_read_answer_of(r: StrictReading) -> ReadAnswer
 }
 
 // The same of what printing and lookup answer.
-pub fn output_answer_of(w: Written) -> OutputAnswer
+pub fn output_answer_of(w: Result<usize, Refusal>) -> OutputAnswer
     ensures { result ≡ output_answer_of w }
 {
     match w {
-        Written::Done(len) => OutputAnswer { number: 0, len },
-        Written::Refused(refusal) => OutputAnswer {
-            number: refusal_number(refusal),
+        Ok(len) => OutputAnswer { number: 0, len },
+        Err(refusal) => OutputAnswer {
+            number: u32::from(refusal),
             len: 0,
         },
     }

@@ -1,4 +1,5 @@
 -- The lines of RULES Cases, and what runs showed of the Rust, computed from the definitions.
+use Rattle.std.specs.Prelude.{Option, Some, None}
 use Prim.Native.Nat.{ℕ}
 use mathlib.Core.Path.{◌≡◌, refl}
 use mathlib.Core.List.{[], ◌∷◌, map}
@@ -14,11 +15,7 @@ use Rattle.calendar.specs.Calendar.{leap, month_days, valid_date, valid_time, va
 use Rattle.calendar.specs.Instant.{local_seconds, seconds_of}
 use Rattle.record.specs.Places.{absent, place}
 use Rattle.record.specs.declared.Place.{Place}
-use Rattle.record.specs.declared.Stamp.{Stamp}
 use Rattle.record.specs.declared.Protocol.TheVariants.{Rfc3164}
-use Rattle.record.specs.declared.Level.{Level}
-use Rattle.record.specs.declared.Level.TheVariants.{Unset, Set}
-use Rattle.record.specs.declared.Stamp.TheVariants.{Unstamped, Stamped}
 use Rattle.pri.specs.Pri.{pri_at}
 use Rattle.parsers.specs.Parsers.{host_at, tag_len, tag_at}
 use Rattle.parsers.specs.Steps.{some_blanks_from, byte_from, number_from, host_from, tag_from}
@@ -33,15 +30,15 @@ use Rattle.draft.specs.Outcome.{Outcome}
 use Rattle.draft.specs.Outcome.Outcome.{no_reading, is_reading}
 use Rattle.rfc3164.specs.Names.{split_at, split_of, host_and_tag}
 use Rattle.rfc3164.specs.Rfc3164.{spaced_host, spaced_tag, tag_end, header_from, body_from, rfc3164}
-use Rattle.rfc3164.specs.declared.Split.TheVariants.{Whole, Parts}
+use Rattle.record.specs.declared.Timestamp.{Timestamp}
 
 splits : map split_at (bytes "a[1]" ∷ bytes "[1]" ∷ bytes "a[[1]" ∷ bytes "a" ∷ bytes "a[]" ∷ bytes "a[1" ∷ bytes "a[1]b" ∷ bytes "a[1]b]" ∷ bytes "a:b[1]" ∷ [])
-    ≡ Parts 1 1 ∷ Parts 0 1 ∷ Parts 1 2 ∷ Whole ∷ Whole ∷ Whole ∷ Whole ∷ Whole ∷ Whole ∷ []
+    ≡ Some (1, 1) ∷ Some (0, 1) ∷ Some (1, 2) ∷ None ∷ None ∷ None ∷ None ∷ None ∷ None ∷ []
 unfolding split_at run
 splits = refl
 
 -- a reading by the places of host, app and process id, the message's start and length, the position of the structured data, and its rows
-abbrev read : Level → Level → Stamp → Place → Place → Place → ℕ → ℕ → ℕ → Rows → Outcome
+abbrev read : Option ℕ → Option ℕ → Option Timestamp → Place → Place → Place → ℕ → ℕ → ℕ → Rows → Outcome
 read facility severity stamp host app procid start len at rows =
     is_reading
     (record {
@@ -59,18 +56,18 @@ read facility severity stamp host app procid start len at rows =
     rows
 
 abbrev bare : Place → Place → Place → ℕ → ℕ → ℕ → Rows → Outcome
-bare = read Unset Unset Unstamped
+bare = read None None None
 
 -- 10:01:02 on 5 February 2023 at +60
-abbrev morning : Stamp
-morning = Stamped (record { seconds = pos 1675587662; nanos = 0; digits = 0; offset = pos 60 })
+abbrev morning : Option Timestamp
+morning = Some (record { seconds = pos 1675587662; nanos = 0; digits = 0; offset = pos 60 })
 
 abbrev reading : ℕ → String → Outcome
 reading start line = rfc3164 2023 (pos 60) (bytes line) start
 
-lines : (reading 0 "<13>Feb  5 10:01:02 gate7 reader[42]: tap ok" ≡ read (Set 1) (Set 5) morning (place 20 5) (place 26 6) (place 33 2) 38 6 38 (end_at 38))
+lines : (reading 0 "<13>Feb  5 10:01:02 gate7 reader[42]: tap ok" ≡ read (Some 1) (Some 5) morning (place 20 5) (place 26 6) (place 33 2) 38 6 38 (end_at 38))
     -- no fraction and no zone: the message is `Z h t: m`
-    × (reading 0 "Feb 5 10:01:02Z h t: m" ≡ read Unset Unset morning absent absent absent 14 8 14 (end_at 14))
+    × (reading 0 "Feb 5 10:01:02Z h t: m" ≡ read None None morning absent absent absent 14 8 14 (end_at 14))
     -- the places are those of the line, wherever the text starts
     × (reading 2 "  - h t: m" ≡ bare (place 4 1) (place 6 1) absent 9 1 9 (end_at 9))
     -- structured data, and what is none: `[x]` stays in the message, so does a hyphen, and a tag takes `[a`

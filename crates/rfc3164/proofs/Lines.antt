@@ -1,4 +1,5 @@
 -- A line, step by step.
+use Rattle.std.specs.Prelude.{Option, Some, None}
 use Prim.Native.Nat.{ℕ, ◌+◌, ◌-◌, ◌^◌, ◌≤◌, ◌<◌}
 use mathlib.Core.Path.{◌≡◌, refl, sym, ◌∙◌}
 use mathlib.Core.List.{List}
@@ -10,41 +11,35 @@ use mir.Val.{Fits, SFits, to_z, of_z}
 use mir.ValLaws.{to_z-of_z}
 use Rattle.record.specs.Places.{absent}
 use Rattle.record.specs.declared.Place.{Place}
-use Rattle.record.specs.declared.Stamp.{Stamp}
 use Rattle.record.specs.declared.Span.{Span}
 use Rattle.record.specs.declared.Protocol.TheVariants.{Rfc3164}
 use Rattle.record.specs.declared.Record.{Record}
 use Rattle.pri.specs.Pri.{pri_at}
 use Rattle.pri.specs.declared.Pri.{Pri}
 use Rattle.pri.proofs.Readers.{pri_next}
-use Rattle.parsers.specs.Steps.{blanks_from, colon_from, on_field}
-use Rattle.parsers.specs.declared.Field.{Field}
-use Rattle.parsers.specs.declared.Field.TheVariants.{NoField, IsField}
+use Rattle.parsers.specs.Steps.{blanks_from, colon_from, on_read}
 use Rattle.parsers.proofs.Steps as steps
 use Rattle.parsers.proofs.Steps.{blanks_within}
 use Rattle.timestamp.specs.Timestamp.{rfc3164_from}
-use Rattle.timestamp.specs.declared.Stamping.{Stamping}
-use Rattle.timestamp.specs.declared.Stamping.TheVariants.{NoStamp, IsStamp}
 use Rattle.timestamp.proofs.Answers.{rfc3164_within}
 use Rattle.structured_data.specs.Data.{Data, data_from, rows_or}
 use Rattle.structured_data.specs.Data.Data.{no_data, is_data}
 use Rattle.structured_data.specs.Tables.{counts_of}
 use Rattle.structured_data.specs.declared.Rules.TheVariants.{Rfc3164Rules}
 use Rattle.structured_data.specs.declared.Counts.{Counts}
-use Rattle.structured_data.specs.declared.Counts.TheVariants.{NoData, IsData}
 use Rattle.draft.specs.Outcome.Outcome.{no_reading}
 use Rattle.draft.specs.Drafts.{draft_of}
 use Rattle.draft.specs.declared.Draft.{Draft}
-use Rattle.draft.specs.declared.Draft.TheVariants.{NoDraft, IsDraft}
 use Rattle.draft.proofs.Outcomes.{RowsIn}
 use Rattle.rfc3164.specs.Names.{no_names, host_and_tag}
-use Rattle.rfc3164.specs.Rfc3164.{spaced_host, spaced_tag, behind_field, tag_end, tagged_from, header_from, body_from, on_stamping, rfc3164}
+use Rattle.rfc3164.specs.Rfc3164.{spaced_host, spaced_tag, behind_field, tag_end, tagged_from, header_from, body_from, rfc3164}
 use Rattle.rfc3164.specs.Steps.{rest_of, rest_from, record_of}
 use Rattle.rfc3164.specs.declared.Names.{Names}
 use Rattle.rfc3164.specs.declared.Header.{Header}
 use Rattle.rfc3164.specs.declared.Rest.{Rest}
 use Rattle.rfc3164.proofs.Spaced.{behind_tag, behind_host}
 use Rattle.structured_data.proofs.Within.{data_within}
+use Rattle.record.specs.declared.Timestamp.{Timestamp}
 
 -- behind the tag
 module _ (s : List ℕ) (at a b : ℕ) (ea : a ≡ blanks_from s at) (eb : b ≡ colon_from s a) where
@@ -62,29 +57,29 @@ unfolding tag_end
 end_within s at h n e = blanks_within s _ n e (colon_within s at _ _ refl refl h)
 
 -- host and tag
-pub tagged_is : (s : List ℕ) (at : ℕ) (host : Place) (tag : Field) → tag ≡ spaced_tag s at → (a : ℕ) → a ≡ behind_field at tag
+pub tagged_is : (s : List ℕ) (at : ℕ) (host : Place) (tag : Option (Place × ℕ)) → tag ≡ spaced_tag s at → (a : ℕ) → a ≡ behind_field at tag
     → (names : Names) → names ≡ host_and_tag s host tag → record { names = names; next = a } ≡ tagged_from s host at
 tagged_is s at host tag et a ea names e = rw (e, ea, et)
 
 module _ (s : List ℕ) (at : ℕ) where
-  module _ (f : Field) (ef : f ≡ spaced_host s at) where
-    pub header_none : f ≡ NoField → (names : Names) → names ≡ no_names → record { names = names; next = at } ≡ header_from s at
+  module _ (f : Option (Place × ℕ)) (ef : f ≡ spaced_host s at) where
+    pub header_none : f ≡ None → (names : Names) → names ≡ no_names → record { names = names; next = at } ≡ header_from s at
     unfolding header_from
     header_none z names e = rw (e, ← ef, z)
 
-    pub header_is : (host : Place) (a : ℕ) → f ≡ IsField host a → (r : Header) → r ≡ tagged_from s host a → r ≡ header_from s at
+    pub header_is : (host : Place) (a : ℕ) → f ≡ Some (host, a) → (r : Header) → r ≡ tagged_from s host a → r ≡ header_from s at
     unfolding header_from
     header_is host a z r e = e ∙ rw (← ef, z)
 
   -- a case at the host
-  pub by_header : (P : Header → Type 0) → (spaced_host s at ≡ NoField → P (record { names = no_names; next = at }))
-      → ((host : Place) (a : ℕ) → spaced_host s at ≡ IsField host a → P (tagged_from s host a)) → P (header_from s at)
+  pub by_header : (P : Header → Type 0) → (spaced_host s at ≡ None → P (record { names = no_names; next = at }))
+      → ((host : Place) (a : ℕ) → spaced_host s at ≡ Some (host, a) → P (tagged_from s host a)) → P (header_from s at)
   unfolding header_from
   by_header P none some = go (spaced_host s at) refl
     where
-      go : (f : Field) → spaced_host s at ≡ f → P (on_field f (record { names = no_names; next = at }) (λ host a. tagged_from s host a))
-      go NoField z = none z
-      go (IsField host a) z = some host a z
+      go : (f : Option (Place × ℕ)) → spaced_host s at ≡ f → P (on_read f (record { names = no_names; next = at }) (λ host a. tagged_from s host a))
+      go None z = none z
+      go (Some x) z = some x.0 x.1 z
 
   header_next_lem : at ≤ length s → (header_from s at).next ≤ length s
   header_next_lem h =
@@ -97,40 +92,38 @@ module _ (s : List ℕ) (at : ℕ) where
 pub ruleset header_laws = (header_none, header_is)
 
 -- structured data and message
-module _ (s : List ℕ) (at : ℕ) (g : Counts) (eg : g ≡ counts_of (data_from Rfc3164Rules s at)) where
-  pub rest_none : g ≡ NoData → (m : ℕ) → m ≡ blanks_from s at → record { elements = 0; params = 0; message = m } ≡ rest_from s at
+module _ (s : List ℕ) (at : ℕ) (g : Option Counts) (eg : g ≡ counts_of (data_from Rfc3164Rules s at)) where
+  pub rest_none : g ≡ None → (m : ℕ) → m ≡ blanks_from s at → record { elements = 0; params = 0; message = m } ≡ rest_from s at
   rest_none z m em = rw em (go (data_from Rfc3164Rules s at) (sym eg ∙ z))
     where
-      go : (d : Data) → counts_of d ≡ NoData → record { elements = 0; params = 0; message = blanks_from s at } ≡ rest_of s (rows_or at d)
+      go : (d : Data) → counts_of d ≡ None → record { elements = 0; params = 0; message = blanks_from s at } ≡ rest_of s (rows_or at d)
       go no_data q = refl
       go (is_data rows) q = let m : ◌≡◌ {A = ℕ} 0 1 = cc in absurd (omega arith)
 
-  module _ (e p n : ℕ) (z : g ≡ IsData e p n) where
-    pub rest_some : (m : ℕ) → m ≡ blanks_from s n → record { elements = e; params = p; message = m } ≡ rest_from s at
+  module _ (c : Counts) (z : g ≡ Some c) where
+    pub rest_some : (m : ℕ) → m ≡ blanks_from s c.next → record { elements = c.elements; params = c.params; message = m } ≡ rest_from s at
     rest_some m em = rw em (go (data_from Rfc3164Rules s at) (sym eg ∙ z))
       where
-        go : (d : Data) → counts_of d ≡ IsData e p n → record { elements = e; params = p; message = blanks_from s n } ≡ rest_of s (rows_or at d)
+        go : (d : Data) → counts_of d ≡ Some c → record { elements = c.elements; params = c.params; message = blanks_from s c.next } ≡ rest_of s (rows_or at d)
         go no_data q = let m : ◌≡◌ {A = ℕ} 0 1 = cc in absurd (omega arith)
         go (is_data rows) q =
-            let a : e ≡ length rows.elements = cc in
-            let b : p ≡ length rows.params = cc in
-            let c : n ≡ rows.next = cc in
-            rw (a, b, c)
+            let k : ◌≡◌ {A = Counts} c (record { elements = length rows.elements; params = length rows.params; next = rows.next }) = cc in
+            rw k refl
 
-    pub rest_within : at ≤ length s → n ≤ length s
-    rest_within h = data_within Rfc3164Rules s at h g eg e p n z
+    pub rest_within : at ≤ length s → c.next ≤ length s
+    rest_within h = data_within Rfc3164Rules s at h g eg c z
 
 pub ruleset rest_laws = (rest_none, rest_some, rest_within)
 
 pub message_within : (s : List ℕ) (at : ℕ) → at ≤ length s → (r : Rest) → r ≡ rest_from s at → r.message ≤ length s
-message_within s at h r e = rw e (go (data_from Rfc3164Rules s at) (λ e p n z. data_within Rfc3164Rules s at h _ refl e p n z))
+message_within s at h r e = rw e (go (data_from Rfc3164Rules s at) (λ c z. data_within Rfc3164Rules s at h _ refl c z))
   where
-    go : (d : Data) → ((e p n : ℕ) → counts_of d ≡ IsData e p n → n ≤ length s) → (rest_of s (rows_or at d)).message ≤ length s
+    go : (d : Data) → ((c : Counts) → counts_of d ≡ Some c → c.next ≤ length s) → (rest_of s (rows_or at d)).message ≤ length s
     go no_data i = blanks_within s at _ refl h
-    go (is_data rows) i = blanks_within s rows.next _ refl (i _ _ _ refl)
+    go (is_data rows) i = blanks_within s rows.next _ refl (i _ refl)
 
 -- behind the timestamp
-pub record_is : (pri : Pri) (stamp : Stamp) (names : Names) (message : Span) (n : Place) → n ≡ absent
+pub record_is : (pri : Pri) (stamp : Option Timestamp) (names : Names) (message : Span) (n : Place) → n ≡ absent
     → record {
       protocol = Rfc3164;
       facility = pri.facility;
@@ -145,9 +138,9 @@ pub record_is : (pri : Pri) (stamp : Stamp) (names : Names) (message : Span) (n 
     ≡ record_of pri stamp names message
 record_is pri stamp names message n e = rw e
 
-pub body_is : (pri : Pri) (stamp : Stamp) (s : List ℕ) (at : ℕ) (h : Header) → h ≡ header_from s at → (b : ℕ) → b ≡ tag_end s h.next → (r : Rest) → r ≡ rest_from s b
+pub body_is : (pri : Pri) (stamp : Option Timestamp) (s : List ℕ) (at : ℕ) (h : Header) → h ≡ header_from s at → (b : ℕ) → b ≡ tag_end s h.next → (r : Rest) → r ≡ rest_from s b
     → (x : Record) → x ≡ record_of pri stamp h.names (record { start = r.message; len = length s - r.message })
-    → IsDraft Rfc3164Rules x b r.elements r.params ≡ draft_of (body_from pri stamp s at)
+    → Some (record { rules = Rfc3164Rules; read = x; at = b; elements = r.elements; params = r.params }) ≡ draft_of (body_from pri stamp s at)
 unfolding body_from
 body_is pri stamp s at h eh b eb r er x ex = rw (ex, er, eb, eh)
 
@@ -165,19 +158,19 @@ module _ (year : ℕ) (o : ℤ) (s : List ℕ) (start : ℕ) (u : List ℕ) (eu 
     pub stamp_at_lem : start ≤ length s → n ≤ length s
     stamp_at_lem h = blanks_within s _ n en (pri_within h)
 
-    module _ (f : SFits w32 o) (g : Stamping) (eg : g ≡ rfc3164_from year (to_z w32 (of_z w32 o)) s n) where
+    module _ (f : SFits w32 o) (g : Option (Option Timestamp × ℕ)) (eg : g ≡ rfc3164_from year (to_z w32 (of_z w32 o)) s n) where
       stamping : g ≡ rfc3164_from year o s n
       stamping = eg ∙ rw (to_z-of_z w32 o f)
 
-      pub line_none : g ≡ NoStamp → NoDraft ≡ draft_of (rfc3164 year o s start)
+      pub line_none : g ≡ None → None ≡ draft_of (rfc3164 year o s start)
       unfolding rfc3164
       line_none z = rw (← eu, ← ep, ← en, ← stamping, z)
 
-      module _ (t : Stamp) (a : ℕ) (z : g ≡ IsStamp t a) where
+      module _ (t : Option Timestamp) (a : ℕ) (z : g ≡ Some (t, a)) where
         pub stamp_within : a ≤ length s
         stamp_within = rfc3164_within s n g t a z year o stamping
 
-        pub line_is : (r : Draft) → r ≡ draft_of (body_from pri t s a) → r ≡ draft_of (rfc3164 year o s start)
+        pub line_is : (r : Option Draft) → r ≡ draft_of (body_from pri t s a) → r ≡ draft_of (rfc3164 year o s start)
         unfolding rfc3164
         line_is r e = e ∙ rw (← eu, ← ep, ← en, ← stamping, z)
 
@@ -188,6 +181,6 @@ pub line_rows : (year : ℕ) (o : ℤ) (s : List ℕ) (start : ℕ) → RowsIn s
 unfolding rfc3164 body_from
 line_rows year o s start = go (rfc3164_from year o s (blanks_from s (start + (pri_at (drop start s)).next)))
   where
-    go : (g : Stamping) → RowsIn s (on_stamping g no_reading (λ stamp a. body_from (pri_at (drop start s)) stamp s a))
-    go NoStamp = tt
-    go (IsStamp t a) = refl
+    go : (g : Option (Option Timestamp × ℕ)) → RowsIn s (on_read g no_reading (λ stamp a. body_from (pri_at (drop start s)) stamp s a))
+    go None = tt
+    go (Some x) = refl

@@ -1,56 +1,53 @@
 -- One space and a field, and that both lie in the line.
+use Rattle.std.specs.Prelude.{Option, Some, None}
 use Prim.Native.Nat.{ℕ, ◌+◌, ◌≤◌}
 use mathlib.Core.Path.{◌≡◌, refl, sym, ◌∙◌}
 use mathlib.Core.List.{List}
 use native.Mathlib.Omega.{arith}
 use lib.ListN.{length}
 use Rattle.record.specs.declared.Place.{Place}
-use Rattle.parsers.specs.Steps.{byte_from, host_from, tag_from, on_pos}
-use Rattle.parsers.specs.declared.Pos.{Pos}
-use Rattle.parsers.specs.declared.Pos.TheVariants.{NoPos, IsPos}
-use Rattle.parsers.specs.declared.Field.{Field}
-use Rattle.parsers.specs.declared.Field.TheVariants.{NoField, IsField}
+use Rattle.parsers.specs.Steps.{byte_from, host_from, tag_from, on_some}
 use Rattle.parsers.proofs.Steps.{byte_within}
 use Rattle.parsers.proofs.Fields.{FieldIn, host_place_lem, tag_place}
 use Rattle.rfc3164.specs.Rfc3164.{spaced_host, spaced_tag, behind_field}
 use Rattle.rfc3164.specs.Steps.{FieldWithin}
 
-module _ (s : List ℕ) (at : ℕ) (g : Pos) (e : g ≡ byte_from s at 32) where
-  module _ (z : g ≡ NoPos) where
-    pub no_host : NoField ≡ spaced_host s at
+module _ (s : List ℕ) (at : ℕ) (g : Option ℕ) (e : g ≡ byte_from s at 32) where
+  module _ (z : g ≡ None) where
+    pub no_host : None ≡ spaced_host s at
     unfolding spaced_host
     no_host = rw (← e, z)
 
-    pub no_tag : NoField ≡ spaced_tag s at
+    pub no_tag : None ≡ spaced_tag s at
     unfolding spaced_tag
     no_tag = rw (← e, z)
 
-  module _ (a : ℕ) (z : g ≡ IsPos a) where
+  module _ (a : ℕ) (z : g ≡ Some a) where
     pub space_within : a ≤ length s
     space_within = byte_within s at 32 (omega arith) g e a z
 
-    pub host_is : (r : Field) → r ≡ host_from s a → r ≡ spaced_host s at
+    pub host_is : (r : Option (Place × ℕ)) → r ≡ host_from s a → r ≡ spaced_host s at
     unfolding spaced_host
     host_is r q = q ∙ rw (← e, z)
 
-    pub tag_is : (r : Field) → r ≡ tag_from s a → r ≡ spaced_tag s at
+    pub tag_is : (r : Option (Place × ℕ)) → r ≡ tag_from s a → r ≡ spaced_tag s at
     unfolding spaced_tag
     tag_is r q = q ∙ rw (← e, z)
 
 pub ruleset spaced_laws = (no_host, no_tag, space_within, host_is, tag_is)
 
-abbrev Lies : List ℕ → Field → Type 0
-Lies s NoField = Unit {0}
-Lies s (IsField p n) = FieldIn (length s) p n
+abbrev Lies : List ℕ → Option (Place × ℕ) → Type 0
+Lies s None = Unit {0}
+Lies s (Some x) = FieldIn (length s) x.0 x.1
 
 module _ (s : List ℕ) where
-  lies : (f : Field) → ((p : Place) (n : ℕ) → f ≡ IsField p n → FieldIn (length s) p n) → Lies s f
-  lies NoField h = tt
-  lies (IsField p n) h = h p n refl
+  lies : (f : Option (Place × ℕ)) → ((p : Place) (n : ℕ) → f ≡ Some (p, n) → FieldIn (length s) p n) → Lies s f
+  lies None h = tt
+  lies (Some x) h = h x.0 x.1 refl
 
-  spaced_lies : (g : Pos) (k : ℕ → Field) → ((a : ℕ) → Lies s (k a)) → Lies s (on_pos g NoField k)
-  spaced_lies NoPos k h = tt
-  spaced_lies (IsPos a) k h = h a
+  spaced_lies : (g : Option ℕ) (k : ℕ → Option (Place × ℕ)) → ((a : ℕ) → Lies s (k a)) → Lies s (on_some g None k)
+  spaced_lies None k h = tt
+  spaced_lies (Some a) k h = h a
 
   host_lies : (at : ℕ) → Lies s (spaced_host s at)
   unfolding spaced_host
@@ -60,16 +57,16 @@ module _ (s : List ℕ) where
   unfolding spaced_tag
   tag_lies at = spaced_lies (byte_from s at 32) _ (λ a. lies _ (λ p n z. tag_place s a _ p n z refl))
 
-  field_within : (f : Field) → Lies s f → FieldWithin s f
-  field_within NoField i = tt
-  field_within (IsField p n) i = omega (arith, i.ends, i.within_line)
+  field_within : (f : Option (Place × ℕ)) → Lies s f → FieldWithin s f
+  field_within None i = tt
+  field_within (Some x) i = omega (arith, i.ends, i.within_line)
 
-  behind_within : (at : ℕ) → at ≤ length s → (f : Field) → Lies s f → behind_field at f ≤ length s
-  behind_within at h NoField i = h
-  behind_within at h (IsField p n) i = i.within_line
+  behind_within : (at : ℕ) → at ≤ length s → (f : Option (Place × ℕ)) → Lies s f → behind_field at f ≤ length s
+  behind_within at h None i = h
+  behind_within at h (Some x) i = i.within_line
 
-  module _ (at : ℕ) (f : Field) where
-    module _ (e : f ≡ spaced_host s at) (p : Place) (n : ℕ) (z : f ≡ IsField p n) where
+  module _ (at : ℕ) (f : Option (Place × ℕ)) where
+    module _ (e : f ≡ spaced_host s at) (p : Place) (n : ℕ) (z : f ≡ Some (p, n)) where
       there : FieldIn (length s) p n
       there = rw (sym e ∙ z) at (host_lies at)
 

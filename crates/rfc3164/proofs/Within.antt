@@ -1,4 +1,5 @@
 -- What is read lies in the line: its places, and the position of the structured data.
+use Rattle.std.specs.Prelude.{Option, Some, None}
 use Prim.Native.Nat.{ℕ, ◌+◌, ◌≤◌}
 use mathlib.Core.Path.{◌≡◌, refl}
 use mathlib.Core.List.{List}
@@ -6,22 +7,18 @@ use native.Mathlib.Omega.{arith}
 use lib.ListN.{length}
 use Rattle.base.proofs.Tests.{by_if}
 use Rattle.record.specs.declared.Place.{Place}
-use Rattle.record.specs.declared.Stamp.{Stamp}
 use Rattle.record.specs.declared.Record.{Record}
 use Rattle.pri.specs.declared.Pri.{Pri}
-use Rattle.parsers.specs.declared.Field.{Field}
-use Rattle.parsers.specs.declared.Field.TheVariants.{NoField, IsField}
 use Rattle.draft.specs.Outcome.{Outcome}
 use Rattle.draft.specs.Outcome.Outcome.{no_reading, is_reading}
 use Rattle.rfc3164.specs.Names.{split_of, no_names, with_tag, only_field, host_and_tag}
 use Rattle.rfc3164.specs.Rfc3164.{spaced_host, spaced_tag, tag_end, header_from, body_from}
 use Rattle.rfc3164.specs.Steps.{FieldWithin, rest_from}
-use Rattle.rfc3164.specs.declared.Split.{Split}
-use Rattle.rfc3164.specs.declared.Split.TheVariants.{Whole, Parts}
 use Rattle.rfc3164.specs.declared.Names.{Names}
 use Rattle.rfc3164.proofs.Splits.{parts_within}
 use Rattle.rfc3164.proofs.Spaced.{host_within, tag_within}
 use Rattle.rfc3164.proofs.Lines.{by_header, header_within, end_within, message_within}
+use Rattle.record.specs.declared.Timestamp.{Timestamp}
 
 abbrev pub PlaceIn : ℕ → Place → Type 0
 PlaceIn n p = p.start + p.len ≤ n
@@ -36,22 +33,22 @@ none_in : (n : ℕ) → NamesIn n no_names
 none_in n = record { host_in = omega arith; app_in = omega arith; procid_in = omega arith }
 
 module _ (s : List ℕ) where
-  tagged_in : (host tag : Place) → PlaceIn (length s) host → PlaceIn (length s) tag → (g : Split) → g ≡ split_of s tag → NamesIn (length s) (with_tag host tag g)
-  tagged_in host tag h t Whole e = record { host_in = h; app_in = t; procid_in = omega arith }
-  tagged_in host tag h t (Parts a p) e =
-      let l = parts_within s tag (Parts a p) e a p refl t in
+  tagged_in : (host tag : Place) → PlaceIn (length s) host → PlaceIn (length s) tag → (g : Option (ℕ × ℕ)) → g ≡ split_of s tag → NamesIn (length s) (with_tag host tag g)
+  tagged_in host tag h t None e = record { host_in = h; app_in = t; procid_in = omega arith }
+  tagged_in host tag h t (Some x) e =
+      let l = parts_within s tag (Some (x.0, x.1)) e x.0 x.1 refl t in
       record { host_in = h; app_in = omega arith; procid_in = omega arith }
 
-  only_in : (f : Place) → PlaceIn (length s) f → (g : Split) → g ≡ split_of s f → NamesIn (length s) (only_field f g)
-  only_in f h Whole e = record { host_in = h; app_in = omega arith; procid_in = omega arith }
-  only_in f h (Parts a p) e =
-      let l = parts_within s f (Parts a p) e a p refl h in
+  only_in : (f : Place) → PlaceIn (length s) f → (g : Option (ℕ × ℕ)) → g ≡ split_of s f → NamesIn (length s) (only_field f g)
+  only_in f h None e = record { host_in = h; app_in = omega arith; procid_in = omega arith }
+  only_in f h (Some x) e =
+      let l = parts_within s f (Some (x.0, x.1)) e x.0 x.1 refl h in
       record { host_in = omega arith; app_in = omega arith; procid_in = omega arith }
 
-  names_in : (host : Place) (tag : Field) → PlaceIn (length s) host → FieldWithin s tag → NamesIn (length s) (host_and_tag s host tag)
+  names_in : (host : Place) (tag : Option (Place × ℕ)) → PlaceIn (length s) host → FieldWithin s tag → NamesIn (length s) (host_and_tag s host tag)
   unfolding host_and_tag
-  names_in h (IsField t m) a b = by_if (NamesIn (length s)) t.present _ _ (λ q. tagged_in h t a b (split_of s t) refl) (λ q. none_in (length s))
-  names_in h NoField a b = by_if (NamesIn (length s)) h.present _ _ (λ q. only_in h a (split_of s h) refl) (λ q. none_in (length s))
+  names_in h (Some x) a b = by_if (NamesIn (length s)) x.0.present _ _ (λ q. tagged_in h x.0 a b (split_of s x.0) refl) (λ q. none_in (length s))
+  names_in h None a b = by_if (NamesIn (length s)) h.present _ _ (λ q. only_in h a (split_of s h) refl) (λ q. none_in (length s))
 
   header_in : (at : ℕ) → NamesIn (length s) (header_from s at).names
   header_in at =
@@ -71,7 +68,7 @@ abbrev OutcomeIn : ℕ → Outcome → Type 0
 OutcomeIn n no_reading = Unit {0}
 OutcomeIn n (is_reading r at rows) = RecordIn n r at
 
-pub body_in : (pri : Pri) (stamp : Stamp) (s : List ℕ) (at : ℕ) → at ≤ length s → OutcomeIn (length s) (body_from pri stamp s at)
+pub body_in : (pri : Pri) (stamp : Option Timestamp) (s : List ℕ) (at : ℕ) → at ≤ length s → OutcomeIn (length s) (body_from pri stamp s at)
 unfolding body_from
 body_in pri stamp s at h =
     let names = header_in s at in

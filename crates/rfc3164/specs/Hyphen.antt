@@ -1,12 +1,12 @@
 -- A hyphen where the structured data would stand belongs to the message: RFC 3164 has no mark for the absence of elements. (To be read: no contract rests on it.)
-use Rattle.std.specs.Prelude.{ℕ, ◌-◌, ◌≡◌, true, List, length}
+use Rattle.std.specs.Prelude.{ℕ, ◌-◌, ◌≡◌, true, List, length, Option}
 use Rattle.base.specs.Choose.{is_at}
-use Rattle.record.specs.declared.Stamp.{Stamp}
 use Rattle.pri.specs.declared.Pri.{Pri}
 use Rattle.structured_data.specs.Data.{end_at}
 use Rattle.draft.specs.Outcome.{Outcome}
 use Rattle.draft.specs.Outcome.Outcome.{no_reading, is_reading}
 use Rattle.rfc3164.specs.Rfc3164.{tag_end, header_from, body_from}
+use Rattle.record.specs.declared.Timestamp.{Timestamp}
 
 -- a reading with no elements, whose message is all of the text from `at` on
 abbrev pub MessageFrom : List ℕ → ℕ → Outcome → Type 0
@@ -15,6 +15,6 @@ MessageFrom s at (is_reading r b rows) = (r.message ≡ record { start = at; len
 
 abbrev pub HyphenKept : Type 0
 HyphenKept =
-    (pri : Pri) (stamp : Stamp) (s : List ℕ) (at : ℕ)
+    (pri : Pri) (stamp : Option Timestamp) (s : List ℕ) (at : ℕ)
     → let b = tag_end s (header_from s at).next in
     is_at s b 45 ≡ true → MessageFrom s b (body_from pri stamp s at)

@@ -9,18 +9,9 @@ ghost use Rattle.rfc3164.specs.Rfc3164.{spaced_host, spaced_tag, behind_field, t
 ghost use Rattle.rfc3164.specs.Steps.{closes_at, FieldWithin, rest_from, record_of};
 
 use draft::Draft;
-use parsers::{Field, Pos};
 use pri::Pri;
-use record::{Place, Protocol, Record, Span, Stamp};
-use structured_data::{Counts, Rules};
-use timestamp::Stamping;
-
-// A field that is `app[pid]`, by the lengths of both, or whole.
-#[derive(Clone, Copy)]
-pub enum Split {
-    Whole,
-    Parts(usize, usize),
-}
+use record::{Place, Protocol, Record, Span, Timestamp};
+use structured_data::Rules;
 
 // What host and tag give.
 #[derive(Clone, Copy)]
@@ -76,26 +67,26 @@ fn closes_at(s: &[u8], end: usize) -> bool
 }
 
 // Whether the whole field `s` is `app[pid]`.
-fn split_at(s: &[u8]) -> Split
+fn split_at(s: &[u8]) -> Option<(usize, usize)>
     ensures { result ≡ split_at s.now }
 {
     let app = app_run(s);
     if !base::is_at(s, app, b'[') {
-        return Split::Whole;
+        return None;
     }
     let start = app + 1;
     let pid = parsers::inside_run(base::past(s, start));
     if pid == 0 {
-        return Split::Whole;
+        return None;
     }
     if !closes_at(s, start + pid) {
-        return Split::Whole;
+        return None;
     }
-    Split::Parts(app, pid)
+    Some((app, pid))
 }
 
 // The same of a place of the line.
-fn split_of(s: &[u8], p: Place) -> Split
+fn split_of(s: &[u8], p: Place) -> Option<(usize, usize)>
     requires { p.start + p.len ≤ length s.now }
     ensures { result ≡ split_of s.now p }
 {
@@ -123,7 +114,7 @@ fn with_tag(s: &[u8], host: Place, tag: Place) -> Names
     if !tag.present {
         return no_names();
     }
-    let Split::Parts(app, pid) = split_of(s, tag) else {
+    let Some((app, pid)) = split_of(s, tag) else {
         return Names {
             host,
             app: tag,
@@ -147,7 +138,7 @@ fn only_field(s: &[u8], field: Place) -> Names
         return no_names();
     }
     let none = record::absent();
-    let Split::Parts(app, pid) = split_of(s, field) else {
+    let Some((app, pid)) = split_of(s, field) else {
         return Names {
             host: field,
             app: none,
@@ -163,43 +154,39 @@ fn only_field(s: &[u8], field: Place) -> Names
 }
 
 // What a host and the tag after it give.
-fn host_and_tag(s: &[u8], host: Place, tag: Field) -> Names
+fn host_and_tag(s: &[u8], host: Place, tag: Option<(Place, usize)>) -> Names
     requires len_in_bounds { host.start + host.len ≤ length s.now }
     requires field_within { FieldWithin s.now tag }
     ensures { result ≡ host_and_tag s.now host tag }
 {
     match tag {
-        Field::IsField(t, _) => with_tag(s, host, t),
-        Field::NoField => only_field(s, host),
+        Some((t, _)) => with_tag(s, host, t),
+        None => only_field(s, host),
     }
 }
 
 // One space and a field.
-fn spaced_host(s: &[u8], at: usize) -> Field
+fn spaced_host(s: &[u8], at: usize) -> Option<(Place, usize)>
     ensures { result ≡ spaced_host s.now at }
 {
-    let Pos::IsPos(a) = parsers::byte_from(s, at, b' ') else {
-        return Field::NoField;
-    };
+    let a = parsers::byte_from(s, at, b' ')?;
     parsers::host_from(s, a)
 }
 
-fn spaced_tag(s: &[u8], at: usize) -> Field
+fn spaced_tag(s: &[u8], at: usize) -> Option<(Place, usize)>
     ensures { result ≡ spaced_tag s.now at }
 {
-    let Pos::IsPos(a) = parsers::byte_from(s, at, b' ') else {
-        return Field::NoField;
-    };
+    let a = parsers::byte_from(s, at, b' ')?;
     parsers::tag_from(s, a)
 }
 
 // Where reading goes on.
-fn behind_field(at: usize, field: Field) -> usize
+fn behind_field(at: usize, field: Option<(Place, usize)>) -> usize
     ensures { result ≡ behind_field at field }
 {
     match field {
-        Field::NoField => at,
-        Field::IsField(_, next) => next,
+        None => at,
+        Some((_, next)) => next,
     }
 }
 
@@ -232,7 +219,7 @@ fn header_from(s: &[u8], at: usize) -> Header
     requires { at ≤ length s.now }
     ensures { result ≡ header_from s.now at }
 {
-    let Field::IsField(host, next) = spaced_host(s, at) else {
+    let Some((host, next)) = spaced_host(s, at) else {
         return Header {
             names: no_names(),
             next: at,
@@ -246,27 +233,21 @@ fn rest_from(s: &[u8], at: usize) -> Rest
     requires { at ≤ length s.now }
     ensures { result ≡ rest_from s.now at }
 {
-    let Counts::IsData {
-        elements,
-        params,
-        next,
-    } = structured_data::count_data(Rules::Rfc3164Rules, s, at)
-    else {
+    let Some(counts) = structured_data::count_data(Rules::Rfc3164Rules, s, at) else {
         return Rest {
             elements: 0,
             params: 0,
             message: parsers::blanks_from(s, at),
         };
     };
-    let text = parsers::blanks_from(s, next);
     Rest {
-        elements,
-        params,
-        message: text,
+        elements: counts.elements,
+        params: counts.params,
+        message: parsers::blanks_from(s, counts.next),
     }
 }
 
-fn record_of(pri: Pri, stamp: Stamp, names: Names, message: Span) -> Record
+fn record_of(pri: Pri, stamp: Option<Timestamp>, names: Names, message: Span) -> Record
     ensures { result ≡ record_of pri stamp names message }
 {
     let facility = pri.facility;
@@ -288,7 +269,7 @@ fn record_of(pri: Pri, stamp: Stamp, names: Names, message: Span) -> Record
 }
 
 // After the timestamp.
-fn body_from(pri: Pri, stamp: Stamp, s: &[u8], at: usize) -> Draft
+fn body_from(pri: Pri, stamp: Option<Timestamp>, s: &[u8], at: usize) -> Option<Draft>
     requires { at ≤ length s.now }
     ensures { result ≡ draft_of (body_from pri stamp s.now at) }
 {
@@ -302,24 +283,22 @@ fn body_from(pri: Pri, stamp: Stamp, s: &[u8], at: usize) -> Draft
         len: s.len() - start,
     };
     let read = record_of(pri, stamp, names, message);
-    Draft::IsDraft {
+    Some(Draft {
         rules: Rules::Rfc3164Rules,
         read,
         at: data,
         elements: rest.elements,
         params: rest.params,
-    }
+    })
 }
 
 // The line from `start` on.
-pub fn rfc3164(s: &[u8], start: usize, year: u32, offset: i32) -> Draft
+pub fn rfc3164(s: &[u8], start: usize, year: u32, offset: i32) -> Option<Draft>
     requires { start ≤ length s.now }
     ensures { result ≡ draft_of (rfc3164 year offset s.now start) }
 {
     let pri = pri::read_pri(base::past(s, start));
     let next = parsers::blanks_from(s, start + pri.next);
-    let Stamping::IsStamp(stamp, at) = timestamp::rfc3164_from(s, next, year, offset) else {
-        return Draft::NoDraft;
-    };
+    let (stamp, at) = timestamp::rfc3164_from(s, next, year, offset)?;
     body_from(pri, stamp, s, at)
 }

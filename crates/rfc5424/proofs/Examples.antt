@@ -1,4 +1,5 @@
 -- RULES Rfc5424 as worked examples, computed from the definition.
+use Rattle.std.specs.Prelude.{Option, Some, None}
 use Prim.Native.Nat.{ℕ}
 use mathlib.Core.Path.{◌≡◌, refl}
 use mathlib.Core.List.{List, [], ◌∷◌, map}
@@ -13,11 +14,7 @@ use Rattle.calendar.specs.Calendar.{leap, month_days, valid_date, valid_time, va
 use Rattle.calendar.specs.Instant.{local_seconds, seconds_of}
 use Rattle.record.specs.Places.{absent, place}
 use Rattle.record.specs.declared.Place.{Place}
-use Rattle.record.specs.declared.Stamp.{Stamp}
-use Rattle.record.specs.declared.Stamp.TheVariants.{Unstamped, Stamped}
 use Rattle.record.specs.declared.Protocol.TheVariants.{Rfc5424}
-use Rattle.record.specs.declared.Level.{Level}
-use Rattle.record.specs.declared.Level.TheVariants.{Unset, Set}
 use Rattle.pri.specs.Pri.{pri_at}
 use Rattle.parsers.specs.Parsers.{plain_at, host_at}
 use Rattle.parsers.specs.Steps.{some_blanks_from, byte_from, number_from, plain_from, host_from}
@@ -28,9 +25,10 @@ use Rattle.structured_data.specs.Data.{item_from, elements_from, data_from}
 use Rattle.draft.specs.Outcome.{Outcome}
 use Rattle.draft.specs.Outcome.Outcome.{no_reading, is_reading}
 use Rattle.rfc5424.specs.Rfc5424.{blank_host, blank_plain, start_from, four_from, body_from, rfc5424}
+use Rattle.record.specs.declared.Timestamp.{Timestamp}
 
 -- priority, version, timestamp, host, app, process id and message id; where the structured data stands, its rows and its end; the message
-abbrev reading : Level → Level → ℕ → Stamp → Place → Place → Place → Place → ℕ → List (List ℕ) → List (List ℕ) → ℕ → ℕ → ℕ → Outcome
+abbrev reading : Option ℕ → Option ℕ → ℕ → Option Timestamp → Place → Place → Place → Place → ℕ → List (List ℕ) → List (List ℕ) → ℕ → ℕ → ℕ → Outcome
 reading facility severity version stamp host app procid msgid at elements params next start len =
     is_reading
     (record {
@@ -63,16 +61,16 @@ lines : map (λ t. rfc5424 t 0)
     ∷ bytes "1 - h a p m"
     ∷ bytes "1 - h a p m [x"
     ∷ [])
-    ≡ reading (Set 1) (Set 5) 1 Unstamped (place 8 1) (place 10 1) (place 12 1) (place 14 1) 16 [] [] 25 25 5
-    ∷ reading Unset (Set 0) 1 Unstamped (place 9 1) (place 11 1) (place 13 1) (place 15 1) 17 [] [] 18 19 1
-    ∷ reading Unset Unset 7 Unstamped (place 6 1) (place 8 1) (place 10 1) (place 12 1) 14 [] [] 15 18 1
-    ∷ reading Unset Unset 1 Unstamped absent absent absent absent 12 [] [] 13 13 0
-    ∷ reading Unset Unset 1 Unstamped (place 4 1) (place 6 1) (place 8 1) (place 10 1) 12 ((13 ∷ 1 ∷ []) ∷ []) [] 15 16 1
-    ∷ reading Unset Unset 1 Unstamped (place 4 1) (place 7 1) (place 9 1) (place 11 1) 13
+    ≡ reading (Some 1) (Some 5) 1 None (place 8 1) (place 10 1) (place 12 1) (place 14 1) 16 [] [] 25 25 5
+    ∷ reading None (Some 0) 1 None (place 9 1) (place 11 1) (place 13 1) (place 15 1) 17 [] [] 18 19 1
+    ∷ reading None None 7 None (place 6 1) (place 8 1) (place 10 1) (place 12 1) 14 [] [] 15 18 1
+    ∷ reading None None 1 None absent absent absent absent 12 [] [] 13 13 0
+    ∷ reading None None 1 None (place 4 1) (place 6 1) (place 8 1) (place 10 1) 12 ((13 ∷ 1 ∷ []) ∷ []) [] 15 16 1
+    ∷ reading None None 1 None (place 4 1) (place 7 1) (place 9 1) (place 11 1) 13
     ((14 ∷ 1 ∷ []) ∷ (30 ∷ 1 ∷ []) ∷ [])
     ((0 ∷ 16 ∷ 1 ∷ 19 ∷ 1 ∷ []) ∷ (0 ∷ 22 ∷ 1 ∷ 26 ∷ 1 ∷ []) ∷ (1 ∷ 32 ∷ 1 ∷ 35 ∷ 0 ∷ []) ∷ [])
     37 37 1
-    ∷ reading Unset Unset 1 (Stamped (record { seconds = pos 1709202662; nanos = 500000000; digits = 1; offset = negsuc 29 })) (place 30 1) (place 32 1) (place 34 1) (place 36 1) 38 [] [] 39 40 1
+    ∷ reading None None 1 (Some (record { seconds = pos 1709202662; nanos = 500000000; digits = 1; offset = negsuc 29 })) (place 30 1) (place 32 1) (place 34 1) (place 36 1) 38 [] [] 39 40 1
     ∷ no_reading
     ∷ no_reading
     ∷ no_reading

@@ -1,4 +1,5 @@
 -- The header: version and timestamp, and the four fields, by what decides each; and that they and the positions behind them lie in the line.
+use Rattle.std.specs.Prelude.{Option, Some, None}
 use Prim.Native.Nat.{ℕ, ◌+◌, ◌≤◌}
 use mathlib.Core.Path.{◌≡◌, refl, ◌∙◌}
 use mathlib.Core.List.{List}
@@ -6,38 +7,28 @@ use native.Mathlib.Omega.{arith}
 use lib.ListN.{length}
 use Rattle.calendar.specs.Calendar.{offset_limit}
 use Rattle.record.specs.declared.Place.{Place}
-use Rattle.record.specs.declared.Stamp.{Stamp}
-use Rattle.parsers.specs.Steps.{some_blanks_from, number_from, host_from, plain_from, on_pos, on_field}
-use Rattle.parsers.specs.declared.Num.{Num}
-use Rattle.parsers.specs.declared.Num.TheVariants.{NoNum, IsNum}
-use Rattle.parsers.specs.declared.Pos.{Pos}
-use Rattle.parsers.specs.declared.Pos.TheVariants.{NoPos, IsPos}
-use Rattle.parsers.specs.declared.Field.{Field}
-use Rattle.parsers.specs.declared.Field.TheVariants.{NoField, IsField}
+use Rattle.parsers.specs.Steps.{some_blanks_from, number_from, host_from, plain_from, on_some, on_read}
 use Rattle.parsers.proofs.Steps.{some_within, number_within}
 use Rattle.parsers.proofs.Fields.{FieldIn, host_place_lem, plain_place}
 use Rattle.timestamp.specs.Rfc3339.{rfc3339_from}
-use Rattle.timestamp.specs.declared.Stamping.{Stamping}
-use Rattle.timestamp.specs.declared.Stamping.TheVariants.{NoStamp, IsStamp}
 use Rattle.timestamp.proofs.Onward.{on_num_lem, on_pos_lem}
 use Rattle.timestamp.proofs.Answers.{StampIn, rfc3339_within, rfc3339_stamp}
 use Rattle.rfc5424.specs.Rfc5424.{blank_host, blank_plain, start_of, start_from, four_from}
 use Rattle.rfc5424.specs.declared.Start.{Start}
-use Rattle.rfc5424.specs.declared.Start.TheVariants.{NoStart, IsStart}
 use Rattle.rfc5424.specs.declared.Four.{Four}
-use Rattle.rfc5424.specs.declared.Four.TheVariants.{NoFour, IsFour}
+use Rattle.record.specs.declared.Timestamp.{Timestamp}
 
 -- Blanks and a field
-module _ (s : List ℕ) (at : ℕ) (g : Pos) (e : g ≡ some_blanks_from s at) where
-  pub host_joined : g ≡ NoPos → NoField ≡ blank_host s at
+module _ (s : List ℕ) (at : ℕ) (g : Option ℕ) (e : g ≡ some_blanks_from s at) where
+  pub host_joined : g ≡ None → None ≡ blank_host s at
   unfolding blank_host
   host_joined z = rw (← e, z)
 
-  pub plain_joined : g ≡ NoPos → NoField ≡ blank_plain s at
+  pub plain_joined : g ≡ None → None ≡ blank_plain s at
   unfolding blank_plain
   plain_joined z = rw (← e, z)
 
-  module _ (a : ℕ) (z : g ≡ IsPos a) (f : Field) where
+  module _ (a : ℕ) (z : g ≡ Some a) (f : Option (Place × ℕ)) where
     pub host_behind : f ≡ host_from s a → f ≡ blank_host s at
     unfolding blank_host
     host_behind q = q ∙ rw (← e, z)
@@ -49,35 +40,35 @@ module _ (s : List ℕ) (at : ℕ) (g : Pos) (e : g ≡ some_blanks_from s at) w
 pub ruleset blank_laws = (host_joined, plain_joined, host_behind, plain_behind, some_within)
 
 -- Version and timestamp
-module _ (s : List ℕ) (at : ℕ) (v : Num) (e : v ≡ number_from s at) where
-  pub start_unversioned : v ≡ NoNum → NoStart ≡ start_from s at
+module _ (s : List ℕ) (at : ℕ) (v : Option (ℕ × ℕ)) (e : v ≡ number_from s at) where
+  pub start_unversioned : v ≡ None → None ≡ start_from s at
   unfolding start_from
   start_unversioned z = rw (← e, z)
 
-  module _ (version a : ℕ) (z : v ≡ IsNum version a) (g : Pos) (eg : g ≡ some_blanks_from s a) where
-    pub start_joined : g ≡ NoPos → NoStart ≡ start_from s at
+  module _ (version a : ℕ) (z : v ≡ Some (version, a)) (g : Option ℕ) (eg : g ≡ some_blanks_from s a) where
+    pub start_joined : g ≡ None → None ≡ start_from s at
     unfolding start_from
     start_joined q = rw (← e, z, ← eg, q)
 
-    module _ (b : ℕ) (q : g ≡ IsPos b) (t : Stamping) (et : t ≡ rfc3339_from s b) where
-      pub start_unstamped : t ≡ NoStamp → NoStart ≡ start_from s at
+    module _ (b : ℕ) (q : g ≡ Some b) (t : Option (Option Timestamp × ℕ)) (et : t ≡ rfc3339_from s b) where
+      pub start_unstamped : t ≡ None → None ≡ start_from s at
       unfolding start_from
       start_unstamped p = rw (← e, z, ← eg, q, ← et, p)
 
-      pub start_is : (stamp : Stamp) (next : ℕ) → t ≡ IsStamp stamp next → IsStart version stamp next ≡ start_from s at
+      pub start_is : (stamp : Option Timestamp) (next : ℕ) → t ≡ Some (stamp, next) → Some (record { version = version; timestamp = stamp }, next) ≡ start_from s at
       unfolding start_from
       start_is stamp next p = rw (← e, z, ← eg, q, ← et, p)
 
 pub ruleset start_laws = (start_unversioned, start_joined, start_unstamped, start_is, number_within, some_within)
 
 -- What is read lies in the line, and so do the positions behind it; the timestamp is one that can be shown
-abbrev FieldWithin : ℕ → Field → Type 0
-FieldWithin n NoField = Unit {0}
-FieldWithin n (IsField p k) = FieldIn n p k
+abbrev FieldWithin : ℕ → Option (Place × ℕ) → Type 0
+FieldWithin n None = Unit {0}
+FieldWithin n (Some x) = FieldIn n x.0 x.1
 
-abbrev StartWithin : ℕ → Start → Type 0
-StartWithin n NoStart = Unit {0}
-StartWithin n (IsStart v t k) = StampIn offset_limit t × (k ≤ n)
+abbrev StartWithin : ℕ → Option (Start × ℕ) → Type 0
+StartWithin n None = Unit {0}
+StartWithin n (Some x) = StampIn offset_limit x.0.timestamp × (x.1 ≤ n)
 
 pub record FourIn (n : ℕ) (h a p m : Place) (k : ℕ) : Type 0 where
   pub host_in : h.start + h.len ≤ n
@@ -86,23 +77,23 @@ pub record FourIn (n : ℕ) (h a p m : Place) (k : ℕ) : Type 0 where
   pub msgid_in : m.start + m.len ≤ n
   pub within_line : k ≤ n
 
-abbrev FourWithin : ℕ → Four → Type 0
-FourWithin n NoFour = Unit {0}
-FourWithin n (IsFour h a p m k) = FourIn n h a p m k
+abbrev FourWithin : ℕ → Option (Four × ℕ) → Type 0
+FourWithin n None = Unit {0}
+FourWithin n (Some x) = FourIn n x.0.host x.0.app x.0.procid x.0.msgid x.1
 
-on_field_lem : {R : Type 0} (P : R → Type 0) (x : Field) (r : R) (k : Place → ℕ → R) → P r → ((p : Place) (n : ℕ) → x ≡ IsField p n → P (k p n)) → P (on_field x r k)
-on_field_lem P NoField r k a b = a
-on_field_lem P (IsField p n) r k a b = b p n refl
+on_field_lem : {R : Type 0} (P : R → Type 0) (x : Option (Place × ℕ)) (r : R) (k : Place → ℕ → R) → P r → ((p : Place) (n : ℕ) → x ≡ Some (p, n) → P (k p n)) → P (on_read x r k)
+on_field_lem P None r k a b = a
+on_field_lem P (Some x) r k a b = b x.0 x.1 refl
 
 module _ (s : List ℕ) (at : ℕ) where
   -- whatever is read behind blanks
-  blank_in : (read : ℕ → Field) → ((a : ℕ) (p : Place) (n : ℕ) → read a ≡ IsField p n → FieldIn (length s) p n)
-      → FieldWithin (length s) (on_pos (some_blanks_from s at) NoField read)
+  blank_in : (read : ℕ → Option (Place × ℕ)) → ((a : ℕ) (p : Place) (n : ℕ) → read a ≡ Some (p, n) → FieldIn (length s) p n)
+      → FieldWithin (length s) (on_some (some_blanks_from s at) None read)
   blank_in read h = on_pos_lem (FieldWithin (length s)) (some_blanks_from s at) _ _ tt (λ a e. go (read a) (h a))
     where
-      go : (f : Field) → ((p : Place) (n : ℕ) → f ≡ IsField p n → FieldIn (length s) p n) → FieldWithin (length s) f
-      go NoField h = tt
-      go (IsField p n) h = h p n refl
+      go : (f : Option (Place × ℕ)) → ((p : Place) (n : ℕ) → f ≡ Some (p, n) → FieldIn (length s) p n) → FieldWithin (length s) f
+      go None h = tt
+      go (Some x) h = h x.0 x.1 refl
 
   start_in : StartWithin (length s) (start_from s at)
   unfolding start_from
@@ -111,18 +102,18 @@ module _ (s : List ℕ) (at : ℕ) where
       on_pos_lem (StartWithin (length s)) (some_blanks_from s a) _ _ tt λ b f.
       go v (rfc3339_from s b) (λ t n z. (rfc3339_stamp s b _ t n z refl, rfc3339_within s b _ t n z refl))
     where
-      go : (v : ℕ) (r : Stamping) → ((t : Stamp) (n : ℕ) → r ≡ IsStamp t n → StampIn offset_limit t × (n ≤ length s)) → StartWithin (length s) (start_of v r)
-      go v NoStamp h = tt
-      go v (IsStamp t n) h = h t n refl
+      go : (v : ℕ) (r : Option (Option Timestamp × ℕ)) → ((t : Option Timestamp) (n : ℕ) → r ≡ Some (t, n) → StampIn offset_limit t × (n ≤ length s)) → StartWithin (length s) (start_of v r)
+      go v None h = tt
+      go v (Some x) h = h x.0 x.1 refl
 
-  module _ (g : Start) (e : g ≡ start_from s at) (v : ℕ) (t : Stamp) (n : ℕ) (z : g ≡ IsStart v t n) where
+  module _ (g : Option (Start × ℕ)) (e : g ≡ start_from s at) (v : ℕ) (t : Option Timestamp) (n : ℕ) (z : g ≡ Some (record { version = v; timestamp = t }, n)) where
     pub start_stamp : StampIn offset_limit t
     start_stamp = (rw (← e, z) at start_in).0
 
     pub start_within : n ≤ length s
     start_within = (rw (← e, z) at start_in).1
 
-  module _ (g : Field) (p : Place) (n : ℕ) (z : g ≡ IsField p n) where
+  module _ (g : Option (Place × ℕ)) (p : Place) (n : ℕ) (z : g ≡ Some (p, n)) where
     blank_host_place : g ≡ blank_host s at → FieldIn (length s) p n
     unfolding blank_host
     blank_host_place e = rw (← e, z) at (blank_in (host_from s) (λ a q m f. host_place_lem s a (host_from s a) q m f refl))
@@ -157,7 +148,7 @@ module _ (s : List ℕ) (at : ℕ) where
         within_line = i4.within_line;
       }
 
-  module _ (g : Four) (e : g ≡ four_from s at) (h a p m : Place) (n : ℕ) (z : g ≡ IsFour h a p m n) where
+  module _ (g : Option (Four × ℕ)) (e : g ≡ four_from s at) (h a p m : Place) (n : ℕ) (z : g ≡ Some (record { host = h; app = a; procid = p; msgid = m }, n)) where
     pub four_places : FourIn (length s) h a p m n
     four_places = rw (← e, z) at four_in
 
@@ -165,27 +156,27 @@ module _ (s : List ℕ) (at : ℕ) where
     four_within = four_places.within_line
 
 -- The four fields
-module _ (s : List ℕ) (at : ℕ) (f : Field) (e : f ≡ blank_host s at) where
-  pub four_no_host : f ≡ NoField → NoFour ≡ four_from s at
+module _ (s : List ℕ) (at : ℕ) (f : Option (Place × ℕ)) (e : f ≡ blank_host s at) where
+  pub four_no_host : f ≡ None → None ≡ four_from s at
   unfolding four_from
   four_no_host z = rw (← e, z)
 
-  module _ (host : Place) (a : ℕ) (z : f ≡ IsField host a) (g : Field) (eg : g ≡ blank_plain s a) where
-    pub four_no_app : g ≡ NoField → NoFour ≡ four_from s at
+  module _ (host : Place) (a : ℕ) (z : f ≡ Some (host, a)) (g : Option (Place × ℕ)) (eg : g ≡ blank_plain s a) where
+    pub four_no_app : g ≡ None → None ≡ four_from s at
     unfolding four_from
     four_no_app q = rw (← e, z, ← eg, q)
 
-    module _ (app : Place) (b : ℕ) (y : g ≡ IsField app b) (h : Field) (eh : h ≡ blank_plain s b) where
-      pub four_no_procid : h ≡ NoField → NoFour ≡ four_from s at
+    module _ (app : Place) (b : ℕ) (y : g ≡ Some (app, b)) (h : Option (Place × ℕ)) (eh : h ≡ blank_plain s b) where
+      pub four_no_procid : h ≡ None → None ≡ four_from s at
       unfolding four_from
       four_no_procid q = rw (← e, z, ← eg, y, ← eh, q)
 
-      module _ (procid : Place) (c : ℕ) (x : h ≡ IsField procid c) (k : Field) (ek : k ≡ blank_plain s c) where
-        pub four_no_msgid : k ≡ NoField → NoFour ≡ four_from s at
+      module _ (procid : Place) (c : ℕ) (x : h ≡ Some (procid, c)) (k : Option (Place × ℕ)) (ek : k ≡ blank_plain s c) where
+        pub four_no_msgid : k ≡ None → None ≡ four_from s at
         unfolding four_from
         four_no_msgid q = rw (← e, z, ← eg, y, ← eh, x, ← ek, q)
 
-        pub four_is : (msgid : Place) (d : ℕ) → k ≡ IsField msgid d → IsFour host app procid msgid d ≡ four_from s at
+        pub four_is : (msgid : Place) (d : ℕ) → k ≡ Some (msgid, d) → Some (record { host = host; app = app; procid = procid; msgid = msgid }, d) ≡ four_from s at
         unfolding four_from
         four_is msgid d q = rw (← e, z, ← eg, y, ← eh, x, ← ek, q)
 

@@ -1,68 +1,62 @@
 -- rfc5424.rs: priority, at once the version (32 bits), then timestamp, host, app, process id, message id, each after at least one blank, then
 -- optional blanks, structured data, optional blanks, message. The text ends where the trimmed line ends; `start` is where that starts.
-use Rattle.std.specs.Prelude.{ℕ, ◌+◌, ◌-◌, List, length, drop}
+use Rattle.std.specs.Prelude.{ℕ, ◌+◌, ◌-◌, List, length, drop, Option, Some, None}
 use Rattle.record.specs.declared.Place.{Place}
-use Rattle.record.specs.declared.Stamp.{Stamp}
 use Rattle.record.specs.declared.Protocol.TheVariants.{Rfc5424}
 use Rattle.pri.specs.Pri.{pri_at}
 use Rattle.pri.specs.declared.Pri.{Pri}
-use Rattle.parsers.specs.Steps.{blanks_from, some_blanks_from, number_from, host_from, plain_from, on_pos, on_num, on_field}
-use Rattle.parsers.specs.declared.Field.{Field}
-use Rattle.parsers.specs.declared.Field.TheVariants.{NoField}
+use Rattle.parsers.specs.Steps.{blanks_from, some_blanks_from, number_from, host_from, plain_from, on_some, on_read}
 use Rattle.timestamp.specs.Rfc3339.{rfc3339_from}
-use Rattle.timestamp.specs.declared.Stamping.{Stamping}
-use Rattle.timestamp.specs.declared.Stamping.TheVariants.{NoStamp, IsStamp}
 use Rattle.structured_data.specs.Data.{Data, Rows, data_from}
 use Rattle.structured_data.specs.Data.Data.{no_data, is_data}
 use Rattle.structured_data.specs.declared.Rules.TheVariants.{Rfc5424Rules}
 use Rattle.draft.specs.Outcome.{Outcome}
 use Rattle.draft.specs.Outcome.Outcome.{no_reading, is_reading}
 use Rattle.rfc5424.specs.declared.Start.{Start}
-use Rattle.rfc5424.specs.declared.Start.TheVariants.{NoStart, IsStart}
 use Rattle.rfc5424.specs.declared.Four.{Four}
-use Rattle.rfc5424.specs.declared.Four.TheVariants.{NoFour, IsFour}
+use Rattle.record.specs.declared.Timestamp.{Timestamp}
 
 -- at least one blank, and a field
-unfoldable pub blank_host : List ℕ → ℕ → Field
-blank_host s at = on_pos (some_blanks_from s at) NoField (λ a. host_from s a)
+unfoldable pub blank_host : List ℕ → ℕ → Option (Place × ℕ)
+blank_host s at = on_some (some_blanks_from s at) None (λ a. host_from s a)
 
-unfoldable pub blank_plain : List ℕ → ℕ → Field
-blank_plain s at = on_pos (some_blanks_from s at) NoField (λ a. plain_from s a)
+unfoldable pub blank_plain : List ℕ → ℕ → Option (Place × ℕ)
+blank_plain s at = on_some (some_blanks_from s at) None (λ a. plain_from s a)
 
-abbrev pub start_of : ℕ → Stamping → Start
-start_of version NoStamp = NoStart
-start_of version (IsStamp stamp next) = IsStart version stamp next
+abbrev pub start_of : ℕ → Option (Option Timestamp × ℕ) → Option (Start × ℕ)
+start_of version None = None
+start_of version (Some x) = Some (record { version = version; timestamp = x.0 }, x.1)
 
 -- version and timestamp
-unfoldable pub start_from : List ℕ → ℕ → Start
+unfoldable pub start_from : List ℕ → ℕ → Option (Start × ℕ)
 start_from s at =
-    on_num (number_from s at) NoStart λ version a.
-    on_pos (some_blanks_from s a) NoStart λ b.
+    on_read (number_from s at) None λ version a.
+    on_some (some_blanks_from s a) None λ b.
     start_of version (rfc3339_from s b)
 
-abbrev pub on_start : {R : Type 0} → Start → R → (ℕ → Stamp → ℕ → R) → R
-on_start NoStart r k = r
-on_start (IsStart v t n) r k = k v t n
+abbrev pub on_start : {R : Type 0} → Option (Start × ℕ) → R → (ℕ → Option Timestamp → ℕ → R) → R
+on_start None r k = r
+on_start (Some x) r k = k x.0.version x.0.timestamp x.1
 
 -- host, app, process id, message id
-unfoldable pub four_from : List ℕ → ℕ → Four
+unfoldable pub four_from : List ℕ → ℕ → Option (Four × ℕ)
 four_from s at =
-    on_field (blank_host s at) NoFour λ host a.
-    on_field (blank_plain s a) NoFour λ app b.
-    on_field (blank_plain s b) NoFour λ procid c.
-    on_field (blank_plain s c) NoFour λ msgid d.
-    IsFour host app procid msgid d
+    on_read (blank_host s at) None λ host a.
+    on_read (blank_plain s a) None λ app b.
+    on_read (blank_plain s b) None λ procid c.
+    on_read (blank_plain s c) None λ msgid d.
+    Some (record { host = host; app = app; procid = procid; msgid = msgid }, d)
 
-abbrev pub on_four : {R : Type 0} → Four → R → (Place → Place → Place → Place → ℕ → R) → R
-on_four NoFour r k = r
-on_four (IsFour h a p m n) r k = k h a p m n
+abbrev pub on_four : {R : Type 0} → Option (Four × ℕ) → R → (Place → Place → Place → Place → ℕ → R) → R
+on_four None r k = r
+on_four (Some x) r k = k x.0.host x.0.app x.0.procid x.0.msgid x.1
 
 abbrev pub on_data : {R : Type 0} → Data → R → (Rows → R) → R
 on_data no_data r k = r
 on_data (is_data rows) r k = k rows
 
 -- after the timestamp
-unfoldable pub body_from : Pri → ℕ → Stamp → List ℕ → ℕ → Outcome
+unfoldable pub body_from : Pri → ℕ → Option Timestamp → List ℕ → ℕ → Outcome
 body_from pri version stamp s at =
     on_four (four_from s at) no_reading λ host app procid msgid a.
     let b = blanks_from s a in

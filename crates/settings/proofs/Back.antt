@@ -1,5 +1,5 @@
 -- What is written is read back, settings that were read write their record, and the other records do not matter.
-use Rattle.std.specs.Prelude.{if◌then◌else◌}
+use Rattle.std.specs.Prelude.{if◌then◌else◌, Result, Ok, Err}
 use Prim.Native.Nat.{ℕ, ◌+◌, ◌-◌, ◌*◌, ◌/◌, ◌≤◌, ◌<◌}
 use mathlib.Core.Path.{◌≡◌, refl, sym, ap, subst, ◌∙◌}
 use mathlib.Core.Bool.{Bool, true, false, not}
@@ -15,11 +15,7 @@ use Rattle.base.specs.Texts.{text_at}
 use Rattle.base.proofs.Tests.{clash, by_test}
 use Rattle.record.specs.declared.Refusal.{Refusal}
 use Rattle.record.specs.declared.Refusal.TheVariants.{OutputShort, UnknownVersion, BadField}
-use Rattle.record.specs.declared.Written.{Written}
-use Rattle.record.specs.declared.Written.TheVariants as written
 use Rattle.settings.specs.declared.Settings.{Settings}
-use Rattle.settings.specs.declared.SettingsRead.{SettingsRead}
-use Rattle.settings.specs.declared.SettingsRead.TheVariants.{Read, Refused}
 use Rattle.settings.specs.Record.{Meaning, last_version, is_version, in_range, record_size, record_of, Holds}
 use Rattle.settings.specs.File.{IsWhole, record_count, record_at, version_of, gate_of, NoneOf, Chosen, host_place, settings_of, Reads}
 use Rattle.settings.specs.File.Reads.{bad_length, no_record, unknown_version, bad_field, taken}
@@ -35,31 +31,31 @@ pub record Put (m : Meaning) (n : ℕ) (new : List ℕ) : Type 0 where
   pub holds : Holds (record_of m) m
   pub front : take n new ≡ record_of m
 
-is_done : Written → Bool
-is_done (written.Done n) = true
-is_done (written.Refused f) = false
+is_done : Result ℕ Refusal → Bool
+is_done (Ok n) = true
+is_done (Err f) = false
 
-len_of : Written → ℕ
-len_of (written.Done n) = n
-len_of (written.Refused f) = 0
+len_of : Result ℕ Refusal → ℕ
+len_of (Ok n) = n
+len_of (Err f) = 0
 
-never : {A : Type 0} {n : ℕ} {f : Refusal} → written.Done n ≡ written.Refused f → A
+never : {A : Type 0} {n : ℕ} {f : Refusal} → Ok n ≡ Err f → A
 unfolding is_done
 never e = clash (ap is_done e)
 
-tests : (m : Meaning) (n room : ℕ) → written.Done n ≡ writing m room → (n ≡ record_size) × (is_version last_version m.version ≡ true) × (in_range m ≡ true)
+tests : (m : Meaning) (n room : ℕ) → Ok n ≡ writing m room → (n ≡ record_size) × (is_version last_version m.version ≡ true) × (in_range m ≡ true)
 unfolding writing len_of
 tests m n room =
-    by_test (λ t. written.Done n ≡ (if not t then written.Refused UnknownVersion else if not (in_range m) then written.Refused BadField
-    else if ltb room record_size then written.Refused OutputShort else written.Done record_size) → (n ≡ record_size) × (t ≡ true) × (in_range m ≡ true)) (is_version last_version m.version)
-    (λ _. by_test (λ t. written.Done n ≡ (if not t then written.Refused BadField else if ltb room record_size then written.Refused OutputShort else written.Done record_size)
+    by_test (λ t. Ok n ≡ (if not t then Err UnknownVersion else if not (in_range m) then Err BadField
+    else if ltb room record_size then Err OutputShort else Ok record_size) → (n ≡ record_size) × (t ≡ true) × (in_range m ≡ true)) (is_version last_version m.version)
+    (λ _. by_test (λ t. Ok n ≡ (if not t then Err BadField else if ltb room record_size then Err OutputShort else Ok record_size)
     → (n ≡ record_size) × (true ≡ true) × (t ≡ true)) (in_range m)
-    (λ _. by_test (λ t. written.Done n ≡ (if t then written.Refused OutputShort else written.Done record_size) → (n ≡ record_size) × (true ≡ true) × (true ≡ true)) (ltb room record_size)
+    (λ _. by_test (λ t. Ok n ≡ (if t then Err OutputShort else Ok record_size) → (n ≡ record_size) × (true ≡ true) × (true ≡ true)) (ltb room record_size)
     (λ _ h. never h) (λ _ h. (ap len_of h, refl, refl)))
     (λ _ h. never h))
     (λ _ h. never h)
 
-pub put_holds : (m : Meaning) (old : List ℕ) (n : ℕ) (new : List ℕ) → Writes m old (written.Done n) new → Put m n new
+pub put_holds : (m : Meaning) (old : List ℕ) (n : ℕ) (new : List ℕ) → Writes m old (Ok n) new → Put m n new
 put_holds m old n new w =
     let (e, k, r) = tests m n (length old) w.answer in
     record {
@@ -134,7 +130,7 @@ module _ (file : List ℕ) (i : ℕ) (inside : i < record_count file) (m : Meani
       ∙ holds_host (record_at file i) m h
 
 module _ (m : Meaning) (b front back : List ℕ) (h : Holds b m) (wf : IsWhole front) (n : NoneOf m.gate back) where
-  back_is : (r : SettingsRead) → Reads last_version (front ++ (b ++ back)) m.gate r → BackAs m (front ++ (b ++ back)) (length front + host_place) r
+  back_is : (r : Result Settings Refusal) → Reads last_version (front ++ (b ++ back)) m.gate r → BackAs m (front ++ (b ++ back)) (length front + host_place) r
   back_is r k =
       let l = holds_length b m h in
       let i = length front / 32 in
@@ -143,8 +139,8 @@ module _ (m : Meaning) (b front back : List ℕ) (h : Holds b m) (wf : IsWhole f
       let s : i * record_size + host_place ≡ length front + host_place = ap (λ (x : ℕ). x + 8) (start_is m.gate front b back wf l) in
       let g : Holds (record_at file i) m = subst (λ (x : List ℕ). Holds x m) (sym (own_record m.gate front b back wf l)) h in
       record {
-        answer = one_answer last_version file m.gate r (Read (settings_of m (i * record_size + host_place))) k (taken i m c h.known g refl)
-            ∙ ap (λ (x : ℕ). Read (settings_of m x)) s;
+        answer = one_answer last_version file m.gate r (Ok (settings_of m (i * record_size + host_place))) k (taken i m c h.known g refl)
+            ∙ ap (λ (x : ℕ). Ok (settings_of m x)) s;
         host_is = ap (λ (x : ℕ). text_at file x (length m.host)) (sym s) ∙ host_there file i c.inside m g;
       }
 
@@ -156,24 +152,24 @@ reads_back m old new front back n r w wf o k =
 
 -- ---- one text
 
-inside_of : SettingsRead → Settings
-inside_of (Read s) = s
-inside_of (Refused f) = record { version = 0; gate = 0; year = 0; offset = pos 0; variant = 0; host = record { start = 0; len = 0 } }
+inside_of : Result Settings Refusal → Settings
+inside_of (Ok s) = s
+inside_of (Err f) = record { version = 0; gate = 0; year = 0; offset = pos 0; variant = 0; host = record { start = 0; len = 0 } }
 
-is_read : SettingsRead → Bool
-is_read (Read s) = true
-is_read (Refused f) = false
+is_read : Result Settings Refusal → Bool
+is_read (Ok s) = true
+is_read (Err f) = false
 
-unread : {A : Type 0} {s : Settings} {f : Refusal} → Read s ≡ Refused f → A
+unread : {A : Type 0} {s : Settings} {f : Refusal} → Ok s ≡ Err f → A
 unfolding is_read
 unread e = clash (ap is_read e)
 
-same_settings : {s s' : Settings} → Read s ≡ Read s' → s ≡ s'
+same_settings : {s s' : Settings} → ◌≡◌ {A = Result Settings Refusal} (Ok s) (Ok s') → s ≡ s'
 unfolding inside_of
 same_settings e = ap inside_of e
 
 -- settings that a record holds write it
-writes_it : (b : List ℕ) (m : Meaning) → Holds b m → (old : List ℕ) → record_size ≤ length old → Writes m old (written.Done record_size) (filled b old)
+writes_it : (b : List ℕ) (m : Meaning) → Holds b m → (old : List ℕ) → record_size ≤ length old → Writes m old (Ok record_size) (filled b old)
 unfolding writing
 writes_it b m h old l = record { answer = rw (h.known, h.in_range_lem, le-ltb (length old) record_size l); output = ap (λ (x : List ℕ). filled x old) h.bytes_are }
 
@@ -191,7 +187,7 @@ one_text greatest file gate s (taken i m c v h q) =
 alone_record : (c : List ℕ) → length c ≡ record_size → record_at c 0 ≡ c
 alone_record c l = take_all 32 c (omega arith)
 
-module _ (greatest gate : ℕ) (front c back : List ℕ) (r alone : SettingsRead) (wf : IsWhole front) (l : length c ≡ record_size) (g : gate_of c ≡ gate) (n : NoneOf gate back)
+module _ (greatest gate : ℕ) (front c back : List ℕ) (r alone : Result Settings Refusal) (wf : IsWhole front) (l : length c ≡ record_size) (g : gate_of c ≡ gate) (n : NoneOf gate back)
     (k : Reads greatest (front ++ (c ++ back)) gate r) (i : ℕ) (d : Chosen gate c i) where
   abbrev all : List ℕ
   all = front ++ (c ++ back)
@@ -207,18 +203,18 @@ module _ (greatest gate : ℕ) (front c back : List ℕ) (r alone : SettingsRead
       let z : 0 ≡ i = omega (arith, d.inside) in
       own_record gate front c back wf l ∙ sym (alone_record c l) ∙ ap (record_at c) z
 
-  not_known : is_version greatest (version_of (record_at c i)) ≡ false → alone ≡ Refused UnknownVersion → r ≡ moved (length front) alone
-  not_known v q = rw q (one_answer greatest all gate r (Refused UnknownVersion) k (unknown_version at among (rw same_record v) refl))
+  not_known : is_version greatest (version_of (record_at c i)) ≡ false → alone ≡ Err UnknownVersion → r ≡ moved (length front) alone
+  not_known v q = rw q (one_answer greatest all gate r (Err UnknownVersion) k (unknown_version at among (rw same_record v) refl))
 
-  not_held : is_version greatest (version_of (record_at c i)) ≡ true → ((m : Meaning) → Holds (record_at c i) m → ⊥) → alone ≡ Refused BadField → r ≡ moved (length front) alone
+  not_held : is_version greatest (version_of (record_at c i)) ≡ true → ((m : Meaning) → Holds (record_at c i) m → ⊥) → alone ≡ Err BadField → r ≡ moved (length front) alone
   not_held v o q =
-      rw q (one_answer greatest all gate r (Refused BadField) k (bad_field at among (rw same_record v) (λ m h. o m (subst (λ (x : List ℕ). Holds x m) same_record h)) refl))
+      rw q (one_answer greatest all gate r (Err BadField) k (bad_field at among (rw same_record v) (λ m h. o m (subst (λ (x : List ℕ). Holds x m) same_record h)) refl))
 
-  held : (m : Meaning) → is_version greatest m.version ≡ true → Holds (record_at c i) m → alone ≡ Read (settings_of m (i * record_size + host_place)) → r ≡ moved (length front) alone
+  held : (m : Meaning) → is_version greatest m.version ≡ true → Holds (record_at c i) m → alone ≡ Ok (settings_of m (i * record_size + host_place)) → r ≡ moved (length front) alone
   held m v h q =
       let s : at * 32 + 8 ≡ length front + (i * 32 + 8) = omega (arith, d.inside, start_is gate front c back wf l) in
-      rw q (one_answer greatest all gate r (Read (settings_of m (at * record_size + host_place))) k (taken at m among v (subst (λ (x : List ℕ). Holds x m) (sym same_record) h) refl)
-      ∙ ap (λ (x : ℕ). Read (settings_of m x)) s)
+      rw q (one_answer greatest all gate r (Ok (settings_of m (at * record_size + host_place))) k (taken at m among v (subst (λ (x : List ℕ). Holds x m) (sym same_record) h) refl)
+      ∙ ap (λ (x : ℕ). Ok (settings_of m x)) s)
 
 pub others_not_judged : OthersNotJudged
 others_not_judged greatest gate front c back r alone wf l g n k (bad_length h q) = absurd (h (omega arith))

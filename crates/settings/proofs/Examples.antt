@@ -1,4 +1,5 @@
 -- Worked examples, computed from the definitions: every number of a settings file from both sides.
+use Rattle.std.specs.Prelude.{Ok, Err}
 use Prim.Native.Nat.{ℕ}
 use mathlib.Core.Path.{◌≡◌, refl, sym, ap, ◌∙◌}
 use mathlib.Core.Bool.{true, false}
@@ -9,8 +10,6 @@ use lib.ListN.{replicate}
 use Rattle.base.specs.Bytes.{bytes}
 use Rattle.base.specs.Runs.{run}
 use Rattle.record.specs.declared.Refusal.TheVariants.{NotFound, BadLength, OutputShort, UnknownVersion, BadField}
-use Rattle.record.specs.declared.Written.TheVariants as written
-use Rattle.settings.specs.declared.SettingsRead.TheVariants.{Read, Refused}
 use Rattle.settings.specs.Record.{Meaning, meant, last_version, is_version, is_variant, all_within, is_host, in_range, pair, bits, record_of}
 use Rattle.settings.specs.File.{record_count, record_at, version_of, gate_of, Chosen, settings_of, Reads}
 use Rattle.settings.specs.File.Reads.{bad_length, no_record, unknown_version, taken}
@@ -106,35 +105,35 @@ chosen =
           omega arith;
     }
 
-read_some : Reads last_version some 7 (Read (record { version = 2; gate = 7; year = 2024; offset = negsuc 59; variant = 1; host = record { start = 72; len = 1 } }))
+read_some : Reads last_version some 7 (Ok (record { version = 2; gate = 7; year = 2024; offset = negsuc 59; variant = 1; host = record { start = 72; len = 1 } }))
 unfolding record_of in_range all_within run
 read_some = taken 2 later chosen refl (record { known = refl; in_range_lem = refl; bytes_are = refl }) refl
 
 -- the reader of version 1 says that it does not know version 2
-read_old : Reads 1 some 7 (Refused UnknownVersion)
+read_old : Reads 1 some 7 (Err UnknownVersion)
 unfolding record_of
 read_old = unknown_version 2 chosen refl refl
 
 -- the empty file has no record, and 31 or 33 bytes are no whole ones
-read_empty : (gate : ℕ) → Reads last_version [] gate (Refused NotFound)
+read_empty : (gate : ℕ) → Reads last_version [] gate (Err NotFound)
 read_empty gate = no_record (record { whole = refl; none = λ i l e. omega arith }) refl
 
-read_uneven : (gate : ℕ) → (Reads last_version (replicate 31 0) gate (Refused BadLength)) × (Reads last_version (replicate 33 0) gate (Refused BadLength))
+read_uneven : (gate : ℕ) → (Reads last_version (replicate 31 0) gate (Err BadLength)) × (Reads last_version (replicate 33 0) gate (Err BadLength))
 read_uneven gate = (bad_length (λ h. omega arith) refl, bad_length (λ h. omega arith) refl)
 
 -- ---- writing: 14, 15, 8 in this order
 
-writes : map (writing first) (0 ∷ 31 ∷ 32 ∷ 33 ∷ []) ≡ written.Refused OutputShort ∷ written.Refused OutputShort ∷ written.Done 32 ∷ written.Done 32 ∷ []
+writes : map (writing first) (0 ∷ 31 ∷ 32 ∷ 33 ∷ []) ≡ Err OutputShort ∷ Err OutputShort ∷ Ok 32 ∷ Ok 32 ∷ []
 unfolding writing in_range all_within run
 writes = refl
 
 writes_order : map (λ (m : Meaning). writing m 0) (meant 3 65536 0 (pos 0) 9 [] ∷ meant 0 0 0 (pos 0) 0 [] ∷ meant 1 0 0 (pos 0) 1 [] ∷ meant 2 0 0 (pos 0) 1 [] ∷ [])
-    ≡ written.Refused UnknownVersion ∷ written.Refused UnknownVersion ∷ written.Refused BadField ∷ written.Refused OutputShort ∷ []
+    ≡ Err UnknownVersion ∷ Err UnknownVersion ∷ Err BadField ∷ Err OutputShort ∷ []
 unfolding writing in_range all_within run
 writes_order = refl
 
 -- ---- in numbers
 
-numbers : (settings_answer_of (Read (settings_of later 72)) ≡ record { number = 0; version = 2; gate = 7; year = 2024; offset = negsuc 59; variant = 1; host_start = 72; host_len = 1 })
-    × (settings_answer_of (Refused BadField) ≡ record { number = 15; version = 0; gate = 0; year = 0; offset = pos 0; variant = 0; host_start = 0; host_len = 0 })
+numbers : (settings_answer_of (Ok (settings_of later 72)) ≡ record { number = 0; version = 2; gate = 7; year = 2024; offset = negsuc 59; variant = 1; host_start = 72; host_len = 1 })
+    × (settings_answer_of (Err BadField) ≡ record { number = 15; version = 0; gate = 0; year = 0; offset = pos 0; variant = 0; host_start = 0; host_len = 0 })
 numbers = (refl, refl)

@@ -1,4 +1,5 @@
 -- The laws of specs/Laws.antt that are of readers alone: one answer, and the reader of version 1. The others are in Back.
+use Rattle.std.specs.Prelude.{Result, Ok, Err}
 use Prim.Native.Nat.{ℕ, ◌+◌, ◌*◌, ◌≤◌}
 use mathlib.Core.Path.{◌≡◌, refl, sym, ap, subst, ◌∙◌}
 use mathlib.Core.Bool.{true, false}
@@ -9,10 +10,7 @@ use borrow.Author.Tests.{le-leb}
 use Rattle.base.proofs.Ranges.{orders}
 use Rattle.base.proofs.Tests.{clash, by_test}
 use Rattle.record.specs.declared.Refusal.TheVariants.{NotFound, BadLength, UnknownVersion}
-use Rattle.record.specs.declared.Written.{Written}
 use Rattle.output.specs.Output.{output_after}
-use Rattle.settings.specs.declared.SettingsRead.{SettingsRead}
-use Rattle.settings.specs.declared.SettingsRead.TheVariants.{Read, Refused}
 use Rattle.settings.specs.Record.{Meaning, last_version, is_version, record_size, record_of, Holds}
 use Rattle.settings.specs.File.{IsWhole, record_at, version_of, NoneOf, Chosen, host_place, settings_of, Reads}
 use Rattle.settings.specs.File.Reads.{bad_length, no_record, unknown_version, bad_field, taken}
@@ -21,6 +19,8 @@ use Rattle.settings.specs.Laws.OldAs.{same, newer}
 use Rattle.settings.specs.Steps.{Takes}
 use Rattle.settings.specs.Steps.Takes.{unknown, bad, takes}
 use Rattle.settings.proofs.Fields.{holds_meaning, holds_one}
+use Rattle.record.specs.declared.Refusal.{Refusal}
+use Rattle.settings.specs.declared.Settings.{Settings}
 
 -- ---- one answer
 
@@ -31,7 +31,7 @@ module _ (greatest : ℕ) (b : List ℕ) (start : ℕ) where
   known_by : (m : Meaning) → Holds b m → is_version greatest m.version ≡ true → is_version greatest (version_of b) ≡ true
   known_by m h v = rw (holds_version b m h) v
 
-  takes_one : {r r' : SettingsRead} → Takes greatest b start r → Takes greatest b start r' → r ≡ r'
+  takes_one : {r r' : (Result Settings Refusal)} → Takes greatest b start r → Takes greatest b start r' → r ≡ r'
   takes_one (unknown v q) (unknown v' q') = q ∙ sym q'
   takes_one (unknown v q) (bad v' n' q') = clash (sym v' ∙ v)
   takes_one (unknown v q) (takes m v' h q') = clash (sym (known_by m h v') ∙ v)
@@ -40,22 +40,22 @@ module _ (greatest : ℕ) (b : List ℕ) (start : ℕ) where
   takes_one (bad v n q) (takes m v' h q') = absurd (n m h)
   takes_one (takes m v h q) (unknown v' q') = clash (sym (known_by m h v) ∙ v')
   takes_one (takes m v h q) (bad v' n' q') = absurd (n' m h)
-  takes_one (takes m v h q) (takes m' v' h' q') = q ∙ ap (λ (x : Meaning). Read (settings_of x (start + host_place))) (holds_one b m m' h h') ∙ sym q'
+  takes_one (takes m v h q) (takes m' v' h' q') = q ∙ ap (λ (x : Meaning). Ok (settings_of x (start + host_place))) (holds_one b m m' h h') ∙ sym q'
 
 -- the answer by the record that is chosen
-data Goes (greatest : ℕ) (file : List ℕ) (gate : ℕ) (r : SettingsRead) : Type 0 where
-  uneven : (IsWhole file → ⊥) → r ≡ Refused BadLength → Goes greatest file gate r
-  nowhere : NoneOf gate file → r ≡ Refused NotFound → Goes greatest file gate r
+data Goes (greatest : ℕ) (file : List ℕ) (gate : ℕ) (r : Result Settings Refusal) : Type 0 where
+  uneven : (IsWhole file → ⊥) → r ≡ Err BadLength → Goes greatest file gate r
+  nowhere : NoneOf gate file → r ≡ Err NotFound → Goes greatest file gate r
   by_record : (i : ℕ) → Chosen gate file i → Takes greatest (record_at file i) (i * record_size) r → Goes greatest file gate r
 
-goes : {greatest : ℕ} {file : List ℕ} {gate : ℕ} {r : SettingsRead} → Reads greatest file gate r → Goes greatest file gate r
+goes : {greatest : ℕ} {file : List ℕ} {gate : ℕ} {r : (Result Settings Refusal)} → Reads greatest file gate r → Goes greatest file gate r
 goes (bad_length h q) = Goes.uneven h q
 goes (no_record n q) = Goes.nowhere n q
 goes (unknown_version i c v q) = Goes.by_record i c (unknown v q)
 goes (bad_field i c v n q) = Goes.by_record i c (bad v n q)
 goes (taken i m c v h q) = Goes.by_record i c (takes m v h q)
 
-comes : {greatest : ℕ} {file : List ℕ} {gate : ℕ} {r : SettingsRead} (i : ℕ) → Chosen gate file i → Takes greatest (record_at file i) (i * record_size) r → Reads greatest file gate r
+comes : {greatest : ℕ} {file : List ℕ} {gate : ℕ} {r : (Result Settings Refusal)} (i : ℕ) → Chosen gate file i → Takes greatest (record_at file i) (i * record_size) r → Reads greatest file gate r
 comes i c (unknown v q) = unknown_version i c v q
 comes i c (bad v n q) = bad_field i c v n q
 comes i c (takes m v h q) = taken i m c v h q
@@ -69,7 +69,7 @@ module _ {gate : ℕ} {file : List ℕ} where
       go (no p) q = absurd (d.last i (omega arith) c.inside c.own)
       go (yes p) (no q) = absurd (c.last k (omega arith) d.inside d.own)
 
-  goes_one : {greatest : ℕ} {r r' : SettingsRead} → Goes greatest file gate r → Goes greatest file gate r' → r ≡ r'
+  goes_one : {greatest : ℕ} {r r' : (Result Settings Refusal)} → Goes greatest file gate r → Goes greatest file gate r' → r ≡ r'
   goes_one (Goes.uneven h q) (Goes.uneven h' q') = q ∙ sym q'
   goes_one (Goes.uneven h q) (Goes.nowhere n q') = absurd (h n.whole)
   goes_one (Goes.uneven h q) (Goes.by_record i c t) = absurd (h c.whole)
@@ -87,7 +87,7 @@ one_answer greatest file gate r r' h k = goes_one (goes h) (goes k)
 pub one_result : OneResult
 one_result m old new new' w w' h k =
     let e : w ≡ w' = h.answer ∙ sym k.answer in
-    (e, h.output ∙ ap (λ (x : Written). output_after x (record_of m) old) e ∙ sym k.output)
+    (e, h.output ∙ ap (λ (x : Result ℕ Refusal). output_after x (record_of m) old) e ∙ sym k.output)
 
 -- ---- the reader of version 1
 
@@ -104,12 +104,12 @@ version_2 v k e = let (x, y) = orders 1 last_version v k in go x y (dec_le v 1)
     go x y (yes z) = clash (sym (rw (le-leb 1 v x, le-leb v 1 z)) ∙ e)
     go x y (no z) = omega arith
 
-module _ (file : List ℕ) (gate : ℕ) (old new : SettingsRead) (h : Reads 1 file gate old) where
+module _ (file : List ℕ) (gate : ℕ) (old new : Result Settings Refusal) (h : Reads 1 file gate old) where
   as_it_does : Reads 1 file gate new → OldAs file gate old new
   as_it_does k = same (one_answer 1 file gate old new h k)
 
   not_known : (i : ℕ) → Chosen gate file i → is_version last_version (version_of (record_at file i)) ≡ true → is_version 1 (version_of (record_at file i)) ≡ false → OldAs file gate old new
-  not_known i c v e = newer i c (version_2 _ v e) (one_answer 1 file gate old (Refused UnknownVersion) h (unknown_version i c e refl))
+  not_known i c v e = newer i c (version_2 _ v e) (one_answer 1 file gate old (Err UnknownVersion) h (unknown_version i c e refl))
 
   old_as : Reads last_version file gate new → OldAs file gate old new
   old_as (bad_length x q) = as_it_does (bad_length x q)

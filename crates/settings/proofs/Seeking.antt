@@ -1,4 +1,5 @@
 -- The walk from the end to the last record of a gate, and what is then answered.
+use Rattle.std.specs.Prelude.{Option, Some, None, Result, Err}
 use Prim.Native.Nat.{ℕ, ◌+◌, ◌-◌, ◌*◌, ◌/◌, ◌%◌, ◌^◌, ◌≤◌, ◌<◌}
 use mathlib.Core.Path.{◌≡◌, refl, sym, ap, ◌∙◌}
 use mathlib.Core.List.{List}
@@ -10,14 +11,12 @@ use mir.Syntax.{w64}
 use mir.Val.{Fits}
 use Rattle.base.proofs.Texts.{part_text_lem}
 use Rattle.record.specs.declared.Refusal.TheVariants.{NotFound, BadLength}
-use Rattle.settings.specs.declared.Found.{Found}
-use Rattle.settings.specs.declared.Found.TheVariants.{Nowhere, At}
-use Rattle.settings.specs.declared.SettingsRead.{SettingsRead}
-use Rattle.settings.specs.declared.SettingsRead.TheVariants.{Refused}
 use Rattle.settings.specs.File.{IsWhole, record_count, record_at, gate_of, Chosen, Reads}
 use Rattle.settings.specs.File.Reads.{bad_length, no_record, unknown_version, bad_field, taken}
 use Rattle.settings.specs.Steps.{pair_number, PairAt, Seeks, Takes}
 use Rattle.settings.specs.Steps.Takes.{unknown, bad, takes}
+use Rattle.record.specs.declared.Refusal.{Refusal}
+use Rattle.settings.specs.declared.Settings.{Settings}
 
 -- the gate of record `i`, by its place in the file
 pub gate_at : (file : List ℕ) (i : ℕ) → gate_of (record_at file i) ≡ pair_number file (i * 32 + 6)
@@ -38,7 +37,7 @@ module _ (gate : ℕ) (file : List ℕ) where
   pub sought_start : IsWhole file → Sought gate file (length file / 32)
   sought_start h = record { whole = h; inside = omega arith; none_behind = λ k l m e. omega arith }
 
-  pub sought_none : (i : ℕ) → Sought gate file i → i ≤ 0 → Seeks gate file Nowhere
+  pub sought_none : (i : ℕ) → Sought gate file i → i ≤ 0 → Seeks gate file None
   sought_none i w z = record { is = record { whole = w.whole; none = λ k l. w.none_behind k (omega arith) l } }
 
   module _ (i : ℕ) (w : Sought gate file i) (p : 0 < i) where
@@ -46,7 +45,7 @@ module _ (gate : ℕ) (file : List ℕ) where
     sought_inside = omega (arith, w.inside)
 
     module _ (n : ℕ) (q : PairAt file ((i - 1) * 32 + 6) n) where
-      pub sought_at : n ≡ gate → Seeks gate file (At (i - 1))
+      pub sought_at : n ≡ gate → Seeks gate file (Some (i - 1))
       sought_at e =
           record {
             is = record {
@@ -75,13 +74,13 @@ pub ruleset sought_laws = (sought_start, sought_none, sought_inside, sought_at, 
 
 -- ---- the answer
 
-pub read_length : (greatest : ℕ) (file : List ℕ) (gate : ℕ) → (length file % 32 ≡ 0 → ⊥) → Reads greatest file gate (Refused BadLength)
+pub read_length : (greatest : ℕ) (file : List ℕ) (gate : ℕ) → (length file % 32 ≡ 0 → ⊥) → Reads greatest file gate (Err BadLength)
 read_length greatest file gate h = bad_length h refl
 
-pub read_none : (greatest : ℕ) (file : List ℕ) (gate : ℕ) (f : Found) → Seeks gate file f → f ≡ Nowhere → Reads greatest file gate (Refused NotFound)
+pub read_none : (greatest : ℕ) (file : List ℕ) (gate : ℕ) (f : Option ℕ) → Seeks gate file f → f ≡ None → Reads greatest file gate (Err NotFound)
 read_none greatest file gate f w e = no_record (rw e at w.is) refl
 
-module _ (greatest : ℕ) (file : List ℕ) (gate : ℕ) (f : Found) (w : Seeks gate file f) (i : ℕ) (e : f ≡ At i) where
+module _ (greatest : ℕ) (file : List ℕ) (gate : ℕ) (f : Option ℕ) (w : Seeks gate file f) (i : ℕ) (e : f ≡ Some i) where
   chosen : Chosen gate file i
   chosen = rw e at w.is
 
@@ -101,7 +100,7 @@ module _ (greatest : ℕ) (file : List ℕ) (gate : ℕ) (f : Found) (w : Seeks 
   pub chosen_length : length (take (i * 32 + 32 - i * 32) (drop (i * 32) file)) ≡ 32
   chosen_length = rw (part_text_lem file (i * 32) 32) (length-take-le 32 (drop (i * 32) file) (omega (arith, chosen_inside, length-drop (i * 32) file)))
 
-  pub read_chosen : (r : SettingsRead) → Takes greatest (take (i * 32 + 32 - i * 32) (drop (i * 32) file)) (i * 32) r → Reads greatest file gate r
+  pub read_chosen : (r : Result Settings Refusal) → Takes greatest (take (i * 32 + 32 - i * 32) (drop (i * 32) file)) (i * 32) r → Reads greatest file gate r
   read_chosen r t = go (rw (part_text_lem file (i * 32) 32) at t)
     where
       go : Takes greatest (record_at file i) (i * 32) r → Reads greatest file gate r

@@ -1,5 +1,5 @@
 -- What is answered of the chosen record, by the tests of its fields.
-use Rattle.std.specs.Prelude.{if◌then◌else◌}
+use Rattle.std.specs.Prelude.{if◌then◌else◌, Ok, Err}
 use Prim.Native.Nat.{ℕ, zero, suc, ◌+◌, ◌-◌, ◌*◌, ◌≤◌, ◌<◌}
 use mathlib.Core.Path.{◌≡◌, refl, sym, ap, ◌∙◌}
 use mathlib.Core.Bool.{Bool, true, false, not, ◌&&◌}
@@ -20,7 +20,6 @@ use Rattle.base.proofs.Ranges.{orders}
 use Rattle.record.specs.declared.Refusal.TheVariants.{UnknownVersion, BadField}
 use Rattle.calendar.specs.Calendar.{last_year, valid_offset}
 use Rattle.settings.specs.declared.Settings.{Settings}
-use Rattle.settings.specs.declared.SettingsRead.TheVariants.{Read, Refused}
 use Rattle.settings.specs.Record.{Meaning, meant, last_version, is_version, is_variant, host_room, all_within, in_range, record_size, Holds}
 use Rattle.settings.specs.File.{version_of, host_place, settings_of}
 use Rattle.settings.specs.Steps.{pair_number, PairAt, signed, meaning_at, FieldsAt, sound, Takes}
@@ -143,14 +142,14 @@ module _ (b : List ℕ) (start : ℕ) (s : Settings) (f : FieldsAt b start s) wh
     version_is : is_version greatest (version_of b) ≡ t
     version_is = sym (et ∙ ap (λ (x : Settings). is_version greatest x.version) f.are)
 
-    pub take_unknown : not t ≡ true → Takes greatest b start (Refused UnknownVersion)
+    pub take_unknown : not t ≡ true → Takes greatest b start (Err UnknownVersion)
     take_unknown q = unknown (version_is ∙ not-true t q) refl
 
     module _ (q : not t ≡ false) (u : Bool) (eu : u ≡ sound b s) where
       version_ok : is_version greatest (version_of b) ≡ true
       version_ok = version_is ∙ not-false t q
 
-      pub take_bad : not u ≡ true → Takes greatest b start (Refused BadField)
+      pub take_bad : not u ≡ true → Takes greatest b start (Err BadField)
       take_bad p = bad version_ok (λ m h. clash (sym (holds_sound m h) ∙ sym eu ∙ not-true u p)) refl
 
       version_known : is_version last_version s.version ≡ true
@@ -158,10 +157,10 @@ module _ (b : List ℕ) (start : ℕ) (s : Settings) (f : FieldsAt b start s) wh
           let (x, y) = orders 1 greatest s.version (sym et ∙ not-false t q) in
           rw (le-leb 1 s.version x, le-leb s.version last_version (omega arith))
 
-      pub take_read : not u ≡ false → Takes greatest b start (Read s)
+      pub take_read : not u ≡ false → Takes greatest b start (Ok s)
       take_read p =
           let w = passes b s (sym eu ∙ not-false u p) in
-          takes (meaning_at b) version_ok (sound_holds l version_known w) (ap Read (sound_settings l version_known w))
+          takes (meaning_at b) version_ok (sound_holds l version_known w) (ap Ok (sound_settings l version_known w))
 
 pub ruleset sound_laws = (unsound_long, sound_is)
 

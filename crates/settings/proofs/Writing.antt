@@ -1,5 +1,5 @@
 -- Writing a record: zeros, its pieces, and the refusals.
-use Rattle.std.specs.Prelude.{if◌then◌else◌}
+use Rattle.std.specs.Prelude.{if◌then◌else◌, Ok, Err}
 use Prim.Native.Nat.{ℕ, suc, ◌+◌, ◌-◌, ◌≤◌, ◌<◌}
 use mathlib.Core.Path.{◌≡◌, refl, sym, ◌∙◌}
 use mathlib.Core.Bool.{Bool, true, false, not}
@@ -8,7 +8,7 @@ use native.Mathlib.Omega.{arith}
 use lib.Dec.{leb, eqb}
 use lib.IntN.{ℤ}
 use lib.ListN.{length, set, replicate, length-replicate}
-use mir.Syntax.{w8, w32}
+use mir.Syntax.{w8, w16, w32}
 use mir.Val as val
 use mir.ValLaws.{to_z-of_z}
 use borrow.Author.Tests.{lt-ltb, le-ltb, leb-true, not-true, not-false}
@@ -17,7 +17,6 @@ use Rattle.base.proofs.Ranges.{orders}
 use Rattle.base.proofs.Tests.{by_test}
 use Rattle.calendar.specs.Calendar.{valid_offset}
 use Rattle.record.specs.declared.Refusal.TheVariants.{OutputShort, UnknownVersion, BadField}
-use Rattle.record.specs.declared.Written.TheVariants.{Done, Refused}
 use Rattle.output.specs.Fits.{Fits}
 use Rattle.output.specs.Output.{Wrote}
 use Rattle.output.proofs.Writes.{Owes, owes_all, owes_more, owes_none, written_front}
@@ -43,10 +42,11 @@ module _ (o : List ℕ) (at n : ℕ) where
         let s : n - i ≡ suc (n - (i + 1)) = omega arith in
         rw (← e) (owes_more o at (zeros n) p (at + i) 0 (zeros (n - (i + 1))) (rw s at w) (omega (arith, w.same)))
 
-    pub zeros_all : i ≤ n → n ≤ i → Wrote o at (zeros n) (at + i) p
+    pub zeros_all : i ≤ n → n ≤ i → Wrote o at (zeros n) (at + n) p
     zeros_all l h =
         let z : n - i ≡ 0 = omega arith in
-        owes_none o at (zeros n) p (at + i) (at + i) (rw z at w) (omega (arith, length-replicate {A = ℕ} n 0))
+        let e : i ≡ n = omega arith in
+        owes_none o at (zeros n) p (at + n) (at + n) (rw (z, e) at w) (omega (arith, length-replicate {A = ℕ} n 0))
 
     pub zeros_inside : i < n → at + i < length p
     zeros_inside h = omega (arith, w.same)
@@ -77,6 +77,12 @@ module _ (version gate year variant : ℕ) (offset : ℤ) (host : List ℕ) (ok 
 
   pub variant_byte : val.Fits w8 variant
   variant_byte = record { fits = omega (arith, variant_to version variant of_range.variant_ok) }
+
+  pub year_fits : val.Fits w16 year
+  year_fits = record { fits = omega (arith, of_range.year_to) }
+
+  pub gate_fits : val.Fits w16 gate
+  gate_fits = record { fits = omega (arith, of_range.gate_to) }
 
   pub offset_valid : val.SFits w32 offset → valid_offset (val.to_z w32 (val.of_z w32 offset)) ≡ true
   offset_valid f = rw (to_z-of_z w32 offset f) of_range.offset_ok
@@ -117,7 +123,7 @@ module _ (version gate year variant : ℕ) (offset : ℤ) (host : List ℕ) (ok 
         pub record_done : (y : ℕ) (r : List ℕ) → Wrote q x (end_text variant) y r → r ≡ filled (record_of m) o
         record_done y r u = (three_are all_fits front_wrote v u pieces).holds ∙ written_front o (record_of m)
 
-pub ruleset record_laws = (host_short, host_byte, variant_byte, offset_valid, host_fits, end_fits, record_done)
+pub ruleset record_laws = (host_short, host_byte, variant_byte, year_fits, gate_fits, offset_valid, host_fits, end_fits, record_done)
 
 pub version_byte : (version : ℕ) → is_version last_version version ≡ true → val.Fits w8 version
 version_byte version h = record { fits = omega (arith, (orders 1 last_version version h).1) }
@@ -132,7 +138,7 @@ module _ (version gate year variant : ℕ) (offset : ℤ) (f : val.SFits w32 off
   abbrev given : Meaning
   given = meant version gate year (val.to_z w32 (val.of_z w32 offset)) variant host
 
-  pub write_unknown : not t ≡ true → Writes told old (Refused UnknownVersion) old
+  pub write_unknown : not t ≡ true → Writes told old (Err UnknownVersion) old
   unfolding writing
   write_unknown q = record { answer = rw (← et, not-true t q); output = refl }
 
@@ -140,16 +146,16 @@ module _ (version gate year variant : ℕ) (offset : ℤ) (f : val.SFits w32 off
     range_is : in_range told ≡ u
     range_is = sym (rw (to_z-of_z w32 offset f) at eu)
 
-    pub write_bad : not u ≡ true → Writes told old (Refused BadField) old
+    pub write_bad : not u ≡ true → Writes told old (Err BadField) old
     unfolding writing
     write_bad p = record { answer = rw (← et, not-false t q, range_is, not-true u p); output = refl }
 
     module _ (p : not u ≡ false) where
-      pub write_short : length old < record_size → Writes told old (Refused OutputShort) old
+      pub write_short : length old < record_size → Writes told old (Err OutputShort) old
       unfolding writing
       write_short l = record { answer = rw (← et, not-false t q, range_is, not-false u p, lt-ltb (length old) record_size l); output = refl }
 
-      pub write_done : record_size ≤ length old → (new : List ℕ) → new ≡ filled (record_of given) old → Writes told old (Done 32) new
+      pub write_done : record_size ≤ length old → (new : List ℕ) → new ≡ filled (record_of given) old → Writes told old (Ok 32) new
       unfolding writing
       write_done l new e =
           record {

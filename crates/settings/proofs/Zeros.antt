@@ -1,12 +1,17 @@
 -- Texts of one range of bytes, and of zeros.
+use Rattle.std.specs.Prelude.{if◌then◌else◌}
 use Prim.Native.Nat.{ℕ, zero, suc, ◌+◌, ◌≤◌}
 use mathlib.Core.Path.{◌≡◌, refl, sym, ap, subst, ◌∙◌}
-use mathlib.Core.Bool.{true}
+use mathlib.Core.Bool.{Bool, true, ◌&&◌}
 use mathlib.Core.List.{List, [], ◌∷◌, ◌++◌, append-nil}
 use native.Mathlib.Omega.{arith}
 use lib.ListN.{length, drop, replicate, length-drop, take-append-drop}
 use lib.Seq.{take_all, length-take-le, drop-drop}
 use borrow.Author.Tests.{eq-eqb, eqb-true}
+use lib.Dec.{eqb}
+use Rattle.std.proofs.Math.Dec.{eqb-suc-suc, eqb-zero-suc}
+use Rattle.std.specs.List.{list_all}
+use Rattle.base.proofs.Tests.{by_test}
 use Rattle.base.specs.Choose.{within}
 use Rattle.base.specs.Runs.{run, All}
 use Rattle.base.specs.Texts.{text_at}
@@ -23,6 +28,16 @@ within_all lo hi t h =
 pub all_within_lem : (lo hi : ℕ) (t : List ℕ) → All (within lo hi) t → all_within lo hi t ≡ true
 unfolding all_within
 all_within_lem lo hi t a = eq-eqb _ _ (ap (run (within lo hi)) (sym (append-nil t)) ∙ run_text (within lo hi) t [] a (run_none (within lo hi)))
+
+-- what a chain asks of each byte
+run_all_listed : (p : ℕ → Bool) (s : List ℕ) → list_all p s ≡ eqb (run p s) (length s)
+unfolding run
+run_all_listed p [] = refl
+run_all_listed p (b ∷ s) = let m = run_all_listed p s in by_test (λ t. (t && list_all p s) ≡ eqb (if t then suc (run p s) else 0) (suc (length s))) (p b) (λ _. m ∙ sym (eqb-suc-suc (run p s) (length s))) (λ _. sym (eqb-zero-suc (length s)))
+
+pub all_listed : (lo hi : ℕ) (s : List ℕ) → list_all (within lo hi) s ≡ all_within lo hi s
+unfolding all_within
+all_listed lo hi s = run_all_listed (within lo hi) s
 
 all_zeros : (t : List ℕ) → All (within 0 0) t → t ≡ replicate (length t) 0
 all_zeros [] a = refl

@@ -1,11 +1,10 @@
 -- A settings file: records one behind the other, of which the last of a gate counts. What a reader up to a version answers.
-use Rattle.std.specs.Prelude.{ℕ, ◌+◌, ◌*◌, ◌/◌, ◌%◌, ◌<◌, ◌≡◌, true, false, List, length, get_or}
+use Rattle.std.specs.Prelude.{ℕ, ◌+◌, ◌*◌, ◌/◌, ◌%◌, ◌<◌, ◌≡◌, true, false, List, length, get_or, Result, Ok, Err}
 use Rattle.base.specs.Texts.{text_at}
 use Rattle.record.specs.declared.Refusal.TheVariants.{NotFound, BadLength, UnknownVersion, BadField}
 use Rattle.settings.specs.declared.Settings.{Settings}
-use Rattle.settings.specs.declared.SettingsRead.{SettingsRead}
-use Rattle.settings.specs.declared.SettingsRead.TheVariants.{Read, Refused}
 use Rattle.settings.specs.Record.{Meaning, is_version, record_size, Holds}
+use Rattle.record.specs.declared.Refusal.{Refusal}
 
 -- ---- records
 
@@ -61,11 +60,11 @@ settings_of m start =
     }
 
 -- A call of a reader that knows the versions up to `greatest`: 13, 9, 14, 15 in this order, or the settings.
-pub data Reads (greatest : ℕ) (file : List ℕ) (gate : ℕ) (r : SettingsRead) : Type 0 where
-  bad_length : (IsWhole file → ⊥) → r ≡ Refused BadLength → Reads greatest file gate r
-  no_record : NoneOf gate file → r ≡ Refused NotFound → Reads greatest file gate r
-  unknown_version : (i : ℕ) → Chosen gate file i → is_version greatest (version_of (record_at file i)) ≡ false → r ≡ Refused UnknownVersion → Reads greatest file gate r
+pub data Reads (greatest : ℕ) (file : List ℕ) (gate : ℕ) (r : Result Settings Refusal) : Type 0 where
+  bad_length : (IsWhole file → ⊥) → r ≡ Err BadLength → Reads greatest file gate r
+  no_record : NoneOf gate file → r ≡ Err NotFound → Reads greatest file gate r
+  unknown_version : (i : ℕ) → Chosen gate file i → is_version greatest (version_of (record_at file i)) ≡ false → r ≡ Err UnknownVersion → Reads greatest file gate r
   bad_field : (i : ℕ) → Chosen gate file i → is_version greatest (version_of (record_at file i)) ≡ true → ((m : Meaning) → Holds (record_at file i) m → ⊥)
-      → r ≡ Refused BadField → Reads greatest file gate r
+      → r ≡ Err BadField → Reads greatest file gate r
   taken : (i : ℕ) (m : Meaning) → Chosen gate file i → is_version greatest m.version ≡ true → Holds (record_at file i) m
-      → r ≡ Read (settings_of m (i * record_size + host_place)) → Reads greatest file gate r
+      → r ≡ Ok (settings_of m (i * record_size + host_place)) → Reads greatest file gate r

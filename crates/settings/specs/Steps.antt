@@ -1,14 +1,11 @@
 -- For private contracts alone: a record by its fields and by its pieces, and the steps of a reader.
-use Rattle.std.specs.Prelude.{ℕ, ◌+◌, ◌-◌, ◌*◌, ◌/◌, ◌%◌, ◌<◌, ◌≡◌, Bool, true, false, ◌&&◌, List, [], ◌∷◌, ◌++◌, ltb, ℤ, pos, negsuc, length, get_or, replicate, if◌then◌else◌}
+use Rattle.std.specs.Prelude.{ℕ, ◌+◌, ◌-◌, ◌*◌, ◌/◌, ◌%◌, ◌<◌, ◌≡◌, Bool, true, false, ◌&&◌, List, [], ◌∷◌, ◌++◌, ltb, ℤ, pos, negsuc, length, get_or, replicate, if◌then◌else◌, Option, Some, None, Result, Ok, Err}
 use Rattle.base.specs.Texts.{text_at}
 use Rattle.record.specs.declared.Refusal.TheVariants.{UnknownVersion, BadField}
-use Rattle.settings.specs.declared.Found.{Found}
-use Rattle.settings.specs.declared.Found.TheVariants.{Nowhere, At}
 use Rattle.settings.specs.declared.Settings.{Settings}
-use Rattle.settings.specs.declared.SettingsRead.{SettingsRead}
-use Rattle.settings.specs.declared.SettingsRead.TheVariants.{Read, Refused}
 use Rattle.settings.specs.Record.{Meaning, meant, is_version, host_room, all_within, in_range, pair, Holds}
 use Rattle.settings.specs.File.{version_of, NoneOf, Chosen, host_place, settings_of}
+use Rattle.record.specs.declared.Refusal.{Refusal}
 
 -- ---- the fields of a record, whatever they hold
 
@@ -59,18 +56,18 @@ sound bytes s =
 -- ---- the steps of a reader
 
 -- the last record of a gate
-abbrev pub SoughtAs : ℕ → List ℕ → Found → Type 0
-SoughtAs gate file Nowhere = NoneOf gate file
-SoughtAs gate file (At i) = Chosen gate file i
+abbrev pub SoughtAs : ℕ → List ℕ → Option ℕ → Type 0
+SoughtAs gate file None = NoneOf gate file
+SoughtAs gate file (Some i) = Chosen gate file i
 
-pub record Seeks (gate : ℕ) (file : List ℕ) (f : Found) : Type 0 where
+pub record Seeks (gate : ℕ) (file : List ℕ) (f : Option ℕ) : Type 0 where
   pub is : SoughtAs gate file f
 
 -- what is answered of the chosen record
-pub data Takes (greatest : ℕ) (bytes : List ℕ) (start : ℕ) (r : SettingsRead) : Type 0 where
-  unknown : is_version greatest (version_of bytes) ≡ false → r ≡ Refused UnknownVersion → Takes greatest bytes start r
-  bad : is_version greatest (version_of bytes) ≡ true → ((m : Meaning) → Holds bytes m → ⊥) → r ≡ Refused BadField → Takes greatest bytes start r
-  takes : (m : Meaning) → is_version greatest m.version ≡ true → Holds bytes m → r ≡ Read (settings_of m (start + host_place)) → Takes greatest bytes start r
+pub data Takes (greatest : ℕ) (bytes : List ℕ) (start : ℕ) (r : Result Settings Refusal) : Type 0 where
+  unknown : is_version greatest (version_of bytes) ≡ false → r ≡ Err UnknownVersion → Takes greatest bytes start r
+  bad : is_version greatest (version_of bytes) ≡ true → ((m : Meaning) → Holds bytes m → ⊥) → r ≡ Err BadField → Takes greatest bytes start r
+  takes : (m : Meaning) → is_version greatest m.version ≡ true → Holds bytes m → r ≡ Ok (settings_of m (start + host_place)) → Takes greatest bytes start r
 
 -- ---- the pieces of a record
 

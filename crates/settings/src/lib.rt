@@ -14,7 +14,7 @@ ghost use Rattle.settings.specs.Writes.{Writes};
 ghost use Rattle.settings.specs.Numbers.{settings_answer_of, ReadsNumbers, WritesNumbers};
 ghost use Rattle.settings.specs.Steps.{signed, PairAt, Seeks, FieldsAt, sound, Takes, front_text, host_text, end_text};
 
-use record::{OutputAnswer, Refusal, Span, Written};
+use record::{OutputAnswer, Refusal, Span};
 
 // The settings of a gate. The host is a place in the file, of length 0 where there is none.
 #[derive(Clone, Copy)]
@@ -25,13 +25,6 @@ pub struct Settings {
     pub offset: i32,
     pub variant: u32,
     pub host: Span,
-}
-
-// What a reader answers.
-#[derive(Clone, Copy)]
-pub enum SettingsRead {
-    Read(Settings),
-    Refused(Refusal),
 }
 
 // The same as a C caller gets it: a number (0: read) and the settings, zeros where it is refused.
@@ -46,13 +39,6 @@ pub struct SettingsAnswer {
     pub variant: u32,
     pub host_start: usize,
     pub host_len: usize,
-}
-
-// The number of the last record of a gate.
-#[derive(Clone, Copy)]
-enum Found {
-    Nowhere,
-    At(usize),
 }
 
 // How many bytes a record has.
@@ -88,30 +74,17 @@ fn is_variant(version: u32, variant: u32) -> bool
     ensures { result ≡ is_variant version variant }
 {
     if version == 1 {
-        return variant == 0;
+        variant == 0
+    } else {
+        variant <= 2
     }
-    variant <= 2
 }
 
-// How many bytes in front are in the range.
-fn run_within(low: u8, high: u8, s: &[u8]) -> usize
-    ensures { result ≡ run (within low high) s.now }
-{
-    let mut i = 0;
-    while i < s.len() {
-        if !base::in_range(low, high, s[i]) {
-            return i;
-        }
-        i += 1;
-    }
-    i
-}
-
-// Whether all are.
+// Whether every byte is in the range.
 fn all_within(low: u8, high: u8, s: &[u8]) -> bool
     ensures { result ≡ all_within low high s.now }
 {
-    run_within(low, high, s) == s.len()
+    s.iter().all(|b| base::in_range(low, high, *b))
 }
 
 // Whether every field but the version is in its range.
@@ -127,44 +100,32 @@ fn is_in_range(version: u32, gate: u32, year: u32, offset: i32, variant: u32, ho
 
 // ---- reading
 
-fn wide(b: u8) -> u32
-    ensures { (result ≡ b) × (result < 256) }
-{
-    b as u32
-}
-
 // The number of the two bytes from `at` on, the low one first.
-fn pair_at(s: &[u8], at: usize) -> u32
+fn pair_at(s: &[u8], at: usize) -> u16
     requires { at + 2 ≤ length s.now }
     ensures { PairAt s.now at result }
 {
-    wide(s[at]) + 256 * wide(s[at + 1])
+    u16::from_le_bytes([s[at], s[at + 1]])
 }
 
 // The last record of the gate, sought from the end.
-fn last_of(file: &[u8], gate: u32) -> Found
+fn last_of(file: &[u8], gate: u32) -> Option<usize>
     requires { IsWhole file.now }
     ensures { Seeks gate file.now result }
 {
-    let mut i = file.len() / RECORD_SIZE;
-    while 0 < i {
-        i -= 1;
-        if pair_at(file, i * RECORD_SIZE + GATE_PLACE) == gate {
-            return Found::At(i);
+    for i in (0..file.len() / RECORD_SIZE).rev() {
+        if u32::from(pair_at(file, i * RECORD_SIZE + GATE_PLACE)) == gate {
+            return Some(i);
         }
     }
-    Found::Nowhere
+    None
 }
 
 // A signed number of 16 bits.
-fn offset_of(n: u32) -> i32
-    requires { n < 65536 }
+fn offset_of(n: u16) -> i32
     ensures { result ≡ signed n }
 {
-    if n < 32768 {
-        return base::narrow(base::join(n as u64, 0));
-    }
-    base::narrow(base::negative(65535 - n as u64))
+    i32::from(n.cast_signed())
 }
 
 // The fields of a record that starts at `start` in its file, whatever they hold.
@@ -173,21 +134,15 @@ fn fields_at(bytes: &[u8], start: usize) -> Settings
     requires record_size_bound { start + record_size < 2 ^ 64 }
     ensures { FieldsAt bytes.now start result }
 {
-    let version = wide(bytes[0]);
-    let len = wide(bytes[1]) as usize;
-    let year = pair_at(bytes, YEAR_PLACE);
-    let offset = offset_of(pair_at(bytes, OFFSET_PLACE));
-    let gate = pair_at(bytes, GATE_PLACE);
-    let variant = wide(bytes[VARIANT_PLACE]);
     Settings {
-        version,
-        gate,
-        year,
-        offset,
-        variant,
+        version: u32::from(bytes[0]),
+        gate: u32::from(pair_at(bytes, GATE_PLACE)),
+        year: u32::from(pair_at(bytes, YEAR_PLACE)),
+        offset: offset_of(pair_at(bytes, OFFSET_PLACE)),
+        variant: u32::from(bytes[VARIANT_PLACE]),
         host: Span {
             start: start + HOST_PLACE,
-            len,
+            len: usize::from(bytes[1]),
         },
     }
 }
@@ -214,7 +169,7 @@ fn is_sound(bytes: &[u8], s: Settings) -> bool
 }
 
 // What is answered of the chosen record, which starts at `start` in its file.
-fn take_record(bytes: &[u8], start: usize, greatest: u32) -> SettingsRead
+fn take_record(bytes: &[u8], start: usize, greatest: u32) -> Result<Settings, Refusal>
     requires greatest_le_last_version { greatest ≤ last_version }
     requires bytes_len { length bytes.now ≡ record_size }
     requires record_size_bound { start + record_size < 2 ^ 64 }
@@ -222,23 +177,23 @@ fn take_record(bytes: &[u8], start: usize, greatest: u32) -> SettingsRead
 {
     let s = fields_at(bytes, start);
     if !is_version(greatest, s.version) {
-        return SettingsRead::Refused(Refusal::UnknownVersion);
+        Err(Refusal::UnknownVersion)
+    } else if !is_sound(bytes, s) {
+        Err(Refusal::BadField)
+    } else {
+        Ok(s)
     }
-    if !is_sound(bytes, s) {
-        return SettingsRead::Refused(Refusal::BadField);
-    }
-    SettingsRead::Read(s)
 }
 
-fn read_up_to(greatest: u32, file: &[u8], gate: u32) -> SettingsRead
+fn read_up_to(greatest: u32, file: &[u8], gate: u32) -> Result<Settings, Refusal>
     requires { greatest ≤ last_version }
     ensures { Reads greatest file.now gate result }
 {
     if file.len() % RECORD_SIZE != 0 {
-        return SettingsRead::Refused(Refusal::BadLength);
+        return Err(Refusal::BadLength);
     }
-    let Found::At(i) = last_of(file, gate) else {
-        return SettingsRead::Refused(Refusal::NotFound);
+    let Some(i) = last_of(file, gate) else {
+        return Err(Refusal::NotFound);
     };
     let start = i * RECORD_SIZE;
     let end = start + RECORD_SIZE;
@@ -246,14 +201,14 @@ fn read_up_to(greatest: u32, file: &[u8], gate: u32) -> SettingsRead
 }
 
 // The settings of a gate: those of its last record.
-pub fn read(file: &[u8], gate: u32) -> SettingsRead
+pub fn read(file: &[u8], gate: u32) -> Result<Settings, Refusal>
     ensures { Reads last_version file.now gate result }
 {
     read_up_to(LAST_VERSION, file, gate)
 }
 
 // The same by the reader that knows version 1 alone.
-pub fn read_version_1(file: &[u8], gate: u32) -> SettingsRead
+pub fn read_version_1(file: &[u8], gate: u32) -> Result<Settings, Refusal>
     ensures { Reads 1 file.now gate result }
 {
     read_up_to(1, file, gate)
@@ -262,26 +217,21 @@ pub fn read_version_1(file: &[u8], gate: u32) -> SettingsRead
 // ---- writing
 
 // An offset as 16 bits, two's complement.
-fn to_bits(offset: i32) -> u32
+fn to_bits(offset: i32) -> u16
     requires { valid_offset offset ≡ true }
     ensures { result ≡ bits offset }
 {
-    let d = base::split(base::widen(offset));
-    if d.down == 0 {
-        return d.up as u32;
-    }
-    65535 - (d.down - 1) as u32
+    (offset as i16).cast_unsigned()
 }
 
-fn put_pair(out: &mut [u8], at: usize, n: u32) -> usize
+fn put_pair(out: &mut [u8], at: usize, n: u16) -> usize
     requires { Fits out.old at (pair n) }
     ensures { Wrote out.old at (pair n) result out.new }
 {
-    let next = output::put(out, at, (n % 256) as u8);
-    output::put(out, next, (n / 256 % 256) as u8)
+    output::put_text(out, at, &n.to_le_bytes())
 }
 
-fn put_pairs(out: &mut [u8], at: usize, a: u32, b: u32, c: u32) -> usize
+fn put_pairs(out: &mut [u8], at: usize, a: u16, b: u16, c: u16) -> usize
     requires { Fits out.old at (pair a ++ pair b ++ pair c) }
     ensures { Wrote out.old at (pair a ++ pair b ++ pair c) result out.new }
 {
@@ -291,7 +241,7 @@ fn put_pairs(out: &mut [u8], at: usize, a: u32, b: u32, c: u32) -> usize
 }
 
 // What stands before the host.
-fn put_front(out: &mut [u8], version: u8, len: u8, year: u32, bits: u32, gate: u32) -> usize
+fn put_front(out: &mut [u8], version: u8, len: u8, year: u16, bits: u16, gate: u16) -> usize
     requires { record_size ≤ length out.old }
     ensures { Wrote out.old 0 (front_text version len year bits gate) result out.new }
 {
@@ -304,12 +254,10 @@ fn put_zeros(out: &mut [u8], at: usize, n: usize) -> usize
     requires { at + n ≤ length out.old }
     ensures { Wrote out.old at (replicate n 0) result out.new }
 {
-    let mut i = 0;
-    while i < n {
+    for i in 0..n {
         out[at + i] = 0;
-        i += 1;
     }
-    at + i
+    at + n
 }
 
 // The host, and zeros behind it.
@@ -345,8 +293,15 @@ fn put_record(
     requires record_size_in_bounds { record_size ≤ length out.old }
     ensures { out.new ≡ filled (record_of (meant version gate year offset variant host.now)) out.old }
 {
-    let n = host.len();
-    let next = put_front(out, version as u8, n as u8, year, to_bits(offset), gate);
+    let len = host.len() as u8;
+    let next = put_front(
+        out,
+        version as u8,
+        len,
+        year as u16,
+        to_bits(offset),
+        gate as u16,
+    );
     let last = put_host(out, next, host);
     put_end(out, last, variant as u8);
 }
@@ -360,46 +315,40 @@ pub fn write(
     variant: u32,
     host: &[u8],
     output: &mut [u8],
-) -> Written
+) -> Result<usize, Refusal>
     ensures { Writes (meant version gate year offset variant host.now) output.old result output.new }
 {
     if !is_version(LAST_VERSION, version) {
-        return Written::Refused(Refusal::UnknownVersion);
+        return Err(Refusal::UnknownVersion);
     }
     if !is_in_range(version, gate, year, offset, variant, host) {
-        return Written::Refused(Refusal::BadField);
+        return Err(Refusal::BadField);
     }
     if output.len() < RECORD_SIZE {
-        return Written::Refused(Refusal::OutputShort);
+        return Err(Refusal::OutputShort);
     }
     put_record(output, version, gate, year, offset, variant, host);
-    Written::Done(RECORD_SIZE)
+    Ok(RECORD_SIZE)
 }
 
 // ---- for C
 
-fn told_of(s: Settings) -> SettingsAnswer
-    ensures { result ≡ settings_answer_of (SettingsRead.Read s) }
-{
-    SettingsAnswer {
-        number: 0,
-        version: s.version,
-        gate: s.gate,
-        year: s.year,
-        offset: s.offset,
-        variant: s.variant,
-        host_start: s.host.start,
-        host_len: s.host.len,
-    }
-}
-
-fn settings_answer_of(r: SettingsRead) -> SettingsAnswer
+fn settings_answer_of(r: Result<Settings, Refusal>) -> SettingsAnswer
     ensures { result ≡ settings_answer_of r }
 {
     match r {
-        SettingsRead::Read(s) => told_of(s),
-        SettingsRead::Refused(f) => SettingsAnswer {
-            number: record::refusal_number(f),
+        Ok(s) => SettingsAnswer {
+            number: 0,
+            version: s.version,
+            gate: s.gate,
+            year: s.year,
+            offset: s.offset,
+            variant: s.variant,
+            host_start: s.host.start,
+            host_len: s.host.len,
+        },
+        Err(f) => SettingsAnswer {
+            number: u32::from(f),
             version: 0,
             gate: 0,
             year: 0,

@@ -1,4 +1,5 @@
 -- What is shown of a record: its gate, whether it counts, and that its host is within it.
+use Rattle.std.specs.Prelude.{Result}
 use Prim.Native.Nat.{ℕ, ◌+◌, ◌*◌, ◌≤◌, ◌<◌}
 use mathlib.Core.Path.{◌≡◌, refl, sym}
 use mathlib.Core.Bool.{true, false}
@@ -8,13 +9,14 @@ use lib.Dec.{eqb}
 use lib.ListN.{get_or}
 use Rattle.base.proofs.Tests.{clash}
 use Rattle.settings.specs.declared.SettingsAnswer.{SettingsAnswer}
-use Rattle.settings.specs.declared.SettingsRead.{SettingsRead}
 use Rattle.settings.specs.Record.{last_version, host_room}
 use Rattle.settings.specs.File.{NoneOf, Chosen, gate_of, Reads}
 use Rattle.settings.specs.File.Reads.{bad_length, no_record, unknown_version, bad_field, taken}
 use Rattle.settings.specs.Numbers.{settings_answer_of, ReadsNumbers}
 use Rattle.settings.proofs.Fields.{ranges}
 use Rattle.settings_words.specs.Words.{Last}
+use Rattle.record.specs.declared.Refusal.{Refusal}
+use Rattle.settings.specs.declared.Settings.{Settings}
 
 -- ---- the gate
 
@@ -32,7 +34,7 @@ replaced gate rest n = record { counts = λ e. clash (sym e); alone = λ m. absu
 not_none : (gate : ℕ) (rest : List ℕ) (i : ℕ) → Chosen gate rest i → NoneOf gate rest → ⊥
 not_none gate rest i c n = n.none i c.inside c.own
 
-last_of : (gate : ℕ) (rest : List ℕ) (r : SettingsRead) → Reads last_version rest gate r → Last gate rest (eqb (settings_answer_of r).number 9)
+last_of : (gate : ℕ) (rest : List ℕ) (r : Result Settings Refusal) → Reads last_version rest gate r → Last gate rest (eqb (settings_answer_of r).number 9)
 last_of gate rest r (bad_length w e) = rw e (replaced gate rest (λ n. w n.whole))
 last_of gate rest r (no_record n e) = rw e (counting gate rest n)
 last_of gate rest r (unknown_version i c v e) = rw e (replaced gate rest (not_none gate rest i c))
@@ -44,7 +46,7 @@ last_is gate rest a h = rw h.told (last_of gate rest h.read h.reads)
 
 -- ---- the host
 
-room_of : (gate : ℕ) (file : List ℕ) (r : SettingsRead) → Reads last_version file gate r → (settings_answer_of r).host_len ≤ host_room
+room_of : (gate : ℕ) (file : List ℕ) (r : Result Settings Refusal) → Reads last_version file gate r → (settings_answer_of r).host_len ≤ host_room
 room_of gate file r (bad_length w e) = rw e (omega arith)
 room_of gate file r (no_record n e) = rw e (omega arith)
 room_of gate file r (unknown_version i c v e) = rw e (omega arith)

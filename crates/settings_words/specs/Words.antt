@@ -1,11 +1,9 @@
 -- Which record of a file counts, what a word writes, and which word is wrong.
-use Rattle.std.specs.Prelude.{ℕ, ◌≡◌, Bool, true, not, List, eqb, ltb, ℤ, length, drop, if◌then◌else◌}
+use Rattle.std.specs.Prelude.{ℕ, ◌≡◌, Bool, true, not, List, eqb, ltb, ℤ, length, drop, if◌then◌else◌, Option, Some, None}
 use Rattle.std.proofs.Math.IntN.{sub_ℕ}
 use Rattle.base.specs.Choose.{is_at}
 use Rattle.calendar.specs.Calendar.{last_year, valid_offset}
 use Rattle.digits.specs.Digits.{number_at}
-use Rattle.digits.specs.declared.Number.{Number}
-use Rattle.digits.specs.declared.Number.TheVariants.{Nothing, Value}
 use Rattle.settings.specs.Record.{last_version, is_version}
 use Rattle.settings.specs.File.{NoneOf}
 use Rattle.settings_words.specs.declared.Field.{Field}
@@ -22,9 +20,9 @@ abbrev pub no_number : ℕ
 no_number = 4294967295
 
 -- a number that all of a word writes
-abbrev pub whole : ℕ → Number → ℕ
-whole len Nothing = no_number
-whole len (Value v n) = if ltb n len then no_number else v
+abbrev pub whole : ℕ → Option (ℕ × ℕ) → ℕ
+whole len None = no_number
+whole len (Some x) = if ltb x.1 len then no_number else x.0
 
 -- the number that a word of at most ten digits writes
 unfoldable pub number_of : List ℕ → ℕ

@@ -7,9 +7,7 @@ ghost use Rattle.settings.specs.Record.{record_size, host_room};
 ghost use Rattle.settings.specs.File.{gate_of};
 ghost use Rattle.settings_words.specs.Words.{Last, number_of, sign_len, no_offset, minutes_of, offset_of, last_variant, first_bad};
 
-use digits::Number;
 use program::{Process, Status, Takes, Wish};
-use record::Written;
 use settings::SettingsAnswer;
 
 // A word of `./settings-write`.
@@ -44,18 +42,12 @@ const NO_OFFSET: u32 = 1440;
 
 // ---- showing
 
-fn wide(b: u8) -> u32
-    ensures { (result ≡ b) × (result < 256) }
-{
-    b as u32
-}
-
 // The gate of a record, whatever else it holds.
 fn gate_of(bytes: &[u8]) -> u32
     requires { length bytes.now ≡ record_size }
     ensures { result ≡ gate_of bytes.now }
 {
-    wide(bytes[6]) + 256 * wide(bytes[7])
+    u32::from(u16::from_le_bytes([bytes[6], bytes[7]]))
 }
 
 // Whether no record of the gate stands in the rest of a file, so that the one before it counts.
@@ -74,13 +66,10 @@ fn say_named(process: &mut Process, name: &[u8], n: u32) {
 // Minutes with their sign, if they are negative.
 fn say_offset(process: &mut Process, offset: i32) {
     program::say(process, b" offset ");
-    let minutes = base::split(base::widen(offset));
-    if 0 < minutes.down {
+    if offset < 0 {
         program::say(process, b"-");
-        program::say_decimal(process, minutes.down);
-        return;
     }
-    program::say_decimal(process, minutes.up);
+    program::say_decimal(process, u64::from(offset.unsigned_abs()));
 }
 
 // The host of a record. None has words of its own: a host may be `-`.
@@ -90,10 +79,10 @@ fn say_host(process: &mut Process, bytes: &[u8], len: usize)
 {
     if len == 0 {
         program::say(process, b" no host");
-        return;
+    } else {
+        program::say(process, b" host ");
+        program::say(process, &bytes[8..8 + len]);
     }
-    program::say(process, b" host ");
-    program::say(process, &bytes[8..8 + len]);
 }
 
 fn say_settings(process: &mut Process, bytes: &[u8], s: SettingsAnswer)
@@ -136,16 +125,10 @@ fn show_record(process: &mut Process, number: usize, bytes: &[u8], rest: &[u8])
 }
 
 fn show_records(process: &mut Process, file: &[u8]) {
-    let mut at = 0;
-    while settings::RECORD_SIZE <= file.len() - at {
+    for i in 0..file.len() / settings::RECORD_SIZE {
+        let at = i * settings::RECORD_SIZE;
         let end = at + settings::RECORD_SIZE;
-        show_record(
-            process,
-            end / settings::RECORD_SIZE,
-            &file[at..end],
-            &file[end..],
-        );
-        at = end;
+        show_record(process, i + 1, &file[at..end], &file[end..]);
     }
 }
 
@@ -211,7 +194,7 @@ fn number_of(text: &[u8]) -> u32
     if 10 < text.len() {
         return NO_NUMBER;
     }
-    let Number::Value { value, len } = digits::digits(text, NO_NUMBER) else {
+    let Some((value, len)) = digits::digits(text, NO_NUMBER) else {
         return NO_NUMBER;
     };
     if len < text.len() {
@@ -225,13 +208,11 @@ fn sign_len(text: &[u8]) -> usize
     ensures value { result ≡ sign_len text.now }
     ensures upper_bound { result ≤ length text.now }
 {
-    if base::is_at(text, 0, b'-') {
-        return 1;
+    if base::is_at(text, 0, b'-') | base::is_at(text, 0, b'+') {
+        1
+    } else {
+        0
     }
-    if base::is_at(text, 0, b'+') {
-        return 1;
-    }
-    0
 }
 
 // The minutes that a word writes behind its sign.
@@ -239,40 +220,26 @@ fn minutes_of(text: &[u8]) -> u32
     ensures value { result ≡ minutes_of text.now }
     ensures upper_bound { result ≤ no_offset }
 {
-    let n = number_of(base::past(text, sign_len(text)));
-    if NO_OFFSET < n {
-        return NO_OFFSET;
-    }
-    n
-}
-
-// The offset of so many minutes east, less so many west.
-fn minutes_east(east: u32, west: u32) -> i32
-    requires { (east ≤ no_offset) × (west ≤ no_offset) }
-    ensures { result ≡ sub_ℕ east west }
-{
-    base::narrow(base::join(east as u64, west as u64))
+    number_of(base::past(text, sign_len(text))).min(NO_OFFSET)
 }
 
 // The offset that a word writes: those with `-` are west, and `+` may stand before those to the east.
 fn offset_of(text: &[u8]) -> i32
     ensures { result ≡ offset_of text.now }
 {
-    let minutes = minutes_of(text);
+    let minutes = minutes_of(text) as i32;
     if base::is_at(text, 0, b'-') {
-        return minutes_east(0, minutes);
+        -minutes
+    } else {
+        minutes
     }
-    minutes_east(minutes, 0)
 }
 
 // The greatest variant of a version.
 fn last_variant(version: u32) -> u32
     ensures { result ≡ last_variant version }
 {
-    if version == 1 {
-        return 0;
-    }
-    2
+    if version == 1 { 0 } else { 2 }
 }
 
 // The first word that is out of its range; the host where no other is.
@@ -280,21 +247,18 @@ fn first_bad(w: Words) -> Field
     ensures { result ≡ first_bad w }
 {
     if !((1 <= w.version) & (w.version <= 2)) {
-        return Field::Version;
+        Field::Version
+    } else if 65535 < w.gate {
+        Field::Gate
+    } else if calendar::LAST_YEAR < w.year {
+        Field::Year
+    } else if !calendar::is_offset(w.offset) {
+        Field::Offset
+    } else if last_variant(w.version) < w.variant {
+        Field::Variant
+    } else {
+        Field::Host
     }
-    if 65535 < w.gate {
-        return Field::Gate;
-    }
-    if calendar::LAST_YEAR < w.year {
-        return Field::Year;
-    }
-    if !calendar::is_offset(w.offset) {
-        return Field::Offset;
-    }
-    if last_variant(w.version) < w.variant {
-        return Field::Variant;
-    }
-    Field::Host
 }
 
 // How many bytes of the `i`th argument are in `text`: all of `text` where it is longer.
@@ -308,16 +272,13 @@ fn word_len(process: &Process, i: usize, text: &mut [u8]) -> usize
     }
 }
 
-fn number_at(process: &Process, i: usize) -> u32 {
+// What `read` takes the `i`th argument for.
+fn word_at<T, F: Fn(&[u8]) -> T>(process: &Process, i: usize, read: F) -> T
+    requires { F.IsAlwaysCallable read }
+{
     let mut text = [0u8; 64];
     let n = word_len(process, i, &mut text);
-    number_of(&text[0..n])
-}
-
-fn offset_at(process: &Process, i: usize) -> i32 {
-    let mut text = [0u8; 64];
-    let n = word_len(process, i, &mut text);
-    offset_of(&text[0..n])
+    read(&text[0..n])
 }
 
 // Says which word is wrong, and what it may be.
@@ -355,8 +316,8 @@ fn write_record(process: &mut Process, w: Words, host: &[u8], usage: &[u8]) -> S
         w.version, w.gate, w.year, w.offset, w.variant, host, &mut text,
     );
     match written {
-        Written::Refused(_) => refuse(process, first_bad(w), usage),
-        Written::Done(_) => {
+        Err(_) => refuse(process, first_bad(w), usage),
+        Ok(_) => {
             program::say(process, &text);
             program::end(process, b"settings-write", true)
         }
@@ -370,19 +331,10 @@ fn host_len(process: &Process, i: usize, count: usize, text: &mut [u8]) -> usize
     ensures prefix { result ≡ length (take result text.new) }
 {
     if count < 6 {
-        return 0;
+        0
+    } else {
+        word_len(process, i + 5, text)
     }
-    word_len(process, i + 5, text)
-}
-
-// How many words there are from the `i`th argument on, of `n`.
-fn words_from(i: usize, n: usize) -> usize
-    ensures { result ≡ n - i }
-{
-    if n < i {
-        return 0;
-    }
-    n - i
 }
 
 // Writes the record of the words from the `i`th argument on, of `count`.
@@ -391,11 +343,11 @@ fn write_words(process: &mut Process, i: usize, count: usize, usage: &[u8]) -> S
     requires count_bound { i + count < 2 ^ 64 }
 {
     let w = Words {
-        version: number_at(process, i),
-        gate: number_at(process, i + 1),
-        year: number_at(process, i + 2),
-        offset: offset_at(process, i + 3),
-        variant: number_at(process, i + 4),
+        version: word_at(process, i, number_of),
+        gate: word_at(process, i + 1, number_of),
+        year: word_at(process, i + 2, number_of),
+        offset: word_at(process, i + 3, offset_of),
+        variant: word_at(process, i + 4, number_of),
     };
     let mut host = [0u8; 64];
     let n = host_len(process, i, count, &mut host);
@@ -440,11 +392,8 @@ pub fn write(process: &mut Process) -> Status {
         }
         return miscounted(process, &usage);
     };
-    let count = words_from(i, program::argument_count(process));
-    if count < 5 {
-        return miscounted(process, &usage);
-    }
-    if 6 < count {
+    let count = program::argument_count(process).saturating_sub(i);
+    if count < 5 || 6 < count {
         return miscounted(process, &usage);
     }
     write_words(process, i, count, &usage)

@@ -1,15 +1,13 @@
 -- The answers, by the cases of the settings and of the reading.
-use Rattle.std.specs.Prelude.{if◌then◌else◌}
+use Rattle.std.specs.Prelude.{if◌then◌else◌, Result, Ok, Err}
 use Prim.Native.Nat.{ℕ}
-use mathlib.Core.Path.{◌≡◌, refl, sym, ap, ◌∙◌}
-use mathlib.Core.Bool.{Bool, true, false, not}
+use mathlib.Core.Path.{◌≡◌, refl, ap, ◌∙◌}
 use mathlib.Core.List.{List}
 use lib.Dec.{eqb}
-use lib.IntN.{ℤ, pos}
 use mir.Syntax.{w32}
 use mir.Val.{SFits, to_z, of_z}
 use mir.ValLaws.{to_z-of_z}
-use borrow.Author.Tests.{ne_eqb, not-true, not-false}
+use borrow.Author.Tests.{ne_eqb}
 use Rattle.base.specs.Fills.{filled}
 use Rattle.base.proofs.Tests.{by_test}
 use Rattle.record.specs.Refusals.{refusal_number}
@@ -24,72 +22,34 @@ use Rattle.loose.specs.Loose.{answered}
 use Rattle.settings.specs.Record.{last_version}
 use Rattle.settings.specs.File as settings
 use Rattle.settings.specs.declared.Settings.{Settings}
-use Rattle.settings.specs.declared.SettingsRead.{SettingsRead}
-use Rattle.settings.specs.declared.SettingsRead.TheVariants as set
 use Rattle.site.specs.declared.Holder.{Holder}
 use Rattle.site.specs.declared.Holder.TheVariants.{Nowhere, InLine, InSettings}
 use Rattle.site.specs.declared.SiteReading.{SiteReading}
-use Rattle.site.specs.declared.SiteReading.TheVariants.{Read, Refused}
 use Rattle.site.specs.declared.SiteAnswer.{SiteAnswer}
 use Rattle.site.specs.Site.{host_of, with_host}
 use Rattle.site.specs.Numbers.{read_with, site_answer_of, short_answer, kept}
-use Rattle.site.specs.Steps.{is_set, settings_in, answered_by, refused_by, AnswersWith, Left}
-use Rattle.site.specs.Steps.AnswersWith.{refuses, answers}
-
--- ---- the settings
-
-module _ (s : SettingsRead) where
-  pub offset_read : (x : Settings) (o : ℤ) → SFits w32 o → s ≡ set.Read x → o ≡ x.offset → to_z w32 (of_z w32 o) ≡ (settings_in s).offset
-  offset_read x o f e q = rw e (to_z-of_z w32 o f ∙ q)
-
-  pub offset_none : (f : Refusal) → s ≡ set.Refused f → pos 0 ≡ (settings_in s).offset
-  offset_none f e = rw e
-
-pub ruleset offset_laws = (offset_read, offset_none)
+use Rattle.site.specs.Steps.{AnswersWith, Left}
+use Rattle.site.specs.Steps.AnswersWith.{answers}
 
 -- ---- the reading
 
-module _ (default : Span) (x : Reading) where
-  pub default_read : (r : Record) (e p : ℕ) (h : Holder) → x ≡ loose.Read r e p → h ≡ host_of r.host default → Read r e p h ≡ with_host default x
+module _ (default : Span) (x : Result Reading Refusal) where
+  pub default_read : (r : Record) (e p : ℕ) (h : Holder) → x ≡ Ok (loose.Read r e p) → h ≡ host_of r.host default → Ok (record { reading = r; elements = e; params = p; holder = h }) ≡ with_host default x
   default_read r e p h q k = rw (q, k)
 
-  pub default_whole : (r : Record) → x ≡ loose.Whole r → Refused NoReading ≡ with_host default x
+  pub default_whole : (r : Record) → x ≡ Ok (loose.Whole r) → Err NoReading ≡ with_host default x
   default_whole r q = rw q
 
-  pub default_refused : (f : Refusal) → x ≡ loose.Refused f → Refused f ≡ with_host default x
+  pub default_refused : (f : Refusal) → x ≡ Err f → Err f ≡ with_host default x
   default_refused f q = rw q
 
 pub ruleset default_laws = (default_read, default_whole, default_refused)
 
-module _ (s : SettingsRead) (x : Reading) where
-  pub by_set : (y : Settings) (r : SiteReading) → s ≡ set.Read y → r ≡ with_host y.host x → r ≡ answered_by s x
-  by_set y r e q = rw e q
-
-  pub by_none : (f : Refusal) → s ≡ set.Refused f → Refused f ≡ answered_by s x
-  by_none f e = rw e
-
-pub ruleset by_laws = (by_set, by_none)
-
-module _ (s : SettingsRead) where
-  pub refused_set : (y : Settings) → s ≡ set.Read y → Refused NoReading ≡ refused_by s
-  refused_set y e = rw e
-
-  pub refused_none : (f : Refusal) → s ≡ set.Refused f → Refused f ≡ refused_by s
-  refused_none f e = rw e
-
-pub ruleset refused_laws = (refused_set, refused_none)
-
-module _ (file : List ℕ) (gate : ℕ) (line : List ℕ) (e p : ℕ) (s : SettingsRead) (h : settings.Reads last_version file gate s) (t : Bool) (et : t ≡ is_set s) where
-  pub answer_none : not t ≡ true → (r : SiteReading) → r ≡ refused_by s → AnswersWith file gate line e p r
-  answer_none q r k = refuses s h (sym et ∙ not-true t q) k
-
-  module _ (q : not t ≡ false) (v y : ℕ) (o : ℤ) (f : SFits w32 o) where
-    pub answer_set : v ≡ (settings_in s).variant → y ≡ (settings_in s).year → o ≡ (settings_in s).offset → (x : Reading) → x ≡ answered line v y (to_z w32 (of_z w32 o)) e p
-        → (r : SiteReading) → r ≡ answered_by s x → AnswersWith file gate line e p r
-    answer_set ev ey eo x ex r k =
-        answers s h (sym et ∙ not-false t q) (k ∙ ap (answered_by s) (ex ∙ rw (to_z-of_z w32 o f, ev, ey, eo)))
-
-pub ruleset answer_laws = (answer_none, answer_set)
+-- the settings' refusal, or the loose reading with them
+pub answer_set : (file : List ℕ) (gate : ℕ) (line : List ℕ) (e p : ℕ) (s : Settings) → settings.Reads last_version file gate (Ok s) → SFits w32 s.offset
+    → (x : Result Reading Refusal) → x ≡ answered line s.variant s.year (to_z w32 (of_z w32 s.offset)) e p
+    → (r : Result SiteReading Refusal) → r ≡ with_host s.host x → AnswersWith file gate line e p r
+answer_set file gate line e p s h f x ex r k = answers s h (k ∙ ap (with_host s.host) (ex ∙ rw (to_z-of_z w32 s.offset f)))
 
 -- ---- for C
 
@@ -105,11 +65,11 @@ module _ (h : Holder) where
 
 pub ruleset holder_laws = (told_none, told_line, told_settings)
 
-module _ (r : SiteReading) where
-  pub told_read : (x : Record) (e p : ℕ) (h : Holder) (a : SiteAnswer) → r ≡ Read x e p h → a ≡ read_with h → a ≡ site_answer_of r
+module _ (r : Result SiteReading Refusal) where
+  pub told_read : (x : Record) (e p : ℕ) (h : Holder) (a : SiteAnswer) → r ≡ Ok (record { reading = x; elements = e; params = p; holder = h }) → a ≡ read_with h → a ≡ site_answer_of r
   told_read x e p h a q k = rw q k
 
-  pub told_refused : (f : Refusal) (n : ℕ) → r ≡ Refused f → n ≡ refusal_number f → record { number = n; holder = 0; host_start = 0; host_len = 0 } ≡ site_answer_of r
+  pub told_refused : (f : Refusal) (n : ℕ) → r ≡ Err f → n ≡ refusal_number f → record { number = n; holder = 0; host_start = 0; host_len = 0 } ≡ site_answer_of r
   told_refused f n q k = rw (q, k)
 
   module _ (a : SiteAnswer) (e : a ≡ site_answer_of r) where
@@ -133,13 +93,13 @@ read_zero (InSettings p) = refl
 pub kept_same : {A : Type 0} (n : ℕ) (x : A) → x ≡ kept n x x
 kept_same n x = by_test (λ t. x ≡ (if t then x else x)) (eqb n 0) (λ e. refl) (λ e. refl)
 
-module _ (r : SiteReading) (old : List ℕ) (a : SiteAnswer) (e : a ≡ site_answer_of r) where
-  pub left_read : (x : Record) (n p : ℕ) (h : Holder) → r ≡ Read x n p h → (new : List ℕ) → new ≡ filled (record_bytes x n p) old → Left r old a new
+module _ (r : Result SiteReading Refusal) (old : List ℕ) (a : SiteAnswer) (e : a ≡ site_answer_of r) where
+  pub left_read : (x : Record) (n p : ℕ) (h : Holder) → r ≡ Ok (record { reading = x; elements = n; params = p; holder = h }) → (new : List ℕ) → new ≡ filled (record_bytes x n p) old → Left r old a new
   left_read x n p h q new k =
       let z : a.number ≡ 0 = ap (λ (y : SiteAnswer). y.number) (e ∙ ap site_answer_of q) ∙ read_zero h in
       record { told_is = e; record_is = rw (z, q) k }
 
-  pub left_refused : (f : Refusal) → r ≡ Refused f → Left r old a old
+  pub left_refused : (f : Refusal) → r ≡ Err f → Left r old a old
   left_refused f q = record { told_is = e; record_is = rw q (kept_same a.number old) }
 
 pub ruleset left_laws = (left_read, left_refused)

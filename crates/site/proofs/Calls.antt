@@ -1,11 +1,10 @@
 -- A call of the reading, and of C: what is left, from what was answered and read.
-use Rattle.std.specs.Prelude.{if◌then◌else◌}
+use Rattle.std.specs.Prelude.{if◌then◌else◌, Result, Ok, Err}
 use Prim.Native.Nat.{ℕ, ◌≤◌, ◌<◌}
-use mathlib.Core.Path.{◌≡◌, refl, sym, ap, ◌∙◌}
+use mathlib.Core.Path.{◌≡◌, refl, ap, ◌∙◌}
 use mathlib.Core.Bool.{Bool, true, false}
 use mathlib.Core.List.{List}
 use lib.Dec.{eqb}
-use lib.IntN.{ℤ}
 use lib.ListN.{length}
 use mir.Syntax.{w32}
 use mir.Val.{SFits, to_z, of_z}
@@ -20,41 +19,33 @@ use Rattle.layout.specs.Layout.{record_size}
 use Rattle.loose.specs.Loose.{outcome_of, answered, table_after, rows_of, Reads}
 use Rattle.settings.specs.Record.{last_version}
 use Rattle.settings.specs.File as settings
-use Rattle.settings.specs.declared.SettingsRead.{SettingsRead}
-use Rattle.settings.specs.declared.SettingsRead.TheVariants as set
 use Rattle.site.specs.declared.SiteReading.{SiteReading}
-use Rattle.site.specs.declared.SiteReading.TheVariants.{Read, Refused}
 use Rattle.site.specs.declared.SiteAnswer.{SiteAnswer}
 use Rattle.site.specs.Site.{with_host, ReadsWith}
 use Rattle.site.specs.Site.ReadsWith.{unset, by_settings}
 use Rattle.site.specs.Numbers.{site_answer_of, short_answer, kept, LeavesSite}
 use Rattle.site.specs.Laws.{RefusedLeaves}
-use Rattle.site.specs.Steps.{is_set, settings_in, answered_by, refused_by, AnswersWith, Left}
+use Rattle.site.specs.Steps.{AnswersWith, Left}
 use Rattle.site.specs.Steps.AnswersWith.{refuses, answers}
 use Rattle.site.proofs.Answers.{read_zero, kept_same}
+use Rattle.settings.specs.declared.Settings.{Settings}
 
 -- ---- the reading
 
 module _ (file : List ℕ) (gate : ℕ) (line : List ℕ) (e₀ p₀ : List (List ℕ)) where
-  pub reads_none : (s : SettingsRead) → settings.Reads last_version file gate s → is_set s ≡ false → (r : SiteReading) → r ≡ refused_by s → ReadsWith file gate line e₀ p₀ r e₀ p₀
-  reads_none (set.Read s) h t r q = clash t
-  reads_none (set.Refused f) h t r q = unset f h q refl refl
-
-  pub reads_set : (s : SettingsRead) → settings.Reads last_version file gate s → is_set s ≡ true → (v y : ℕ) (o : ℤ) → SFits w32 o
-      → v ≡ (settings_in s).variant → y ≡ (settings_in s).year → o ≡ (settings_in s).offset → (x : Reading) (e₁ p₁ : List (List ℕ))
-      → Reads line v y (to_z w32 (of_z w32 o)) e₀ p₀ x e₁ p₁ → (r : SiteReading) → r ≡ answered_by s x → ReadsWith file gate line e₀ p₀ r e₁ p₁
-  reads_set (set.Read s) h t v y o f ev ey eo x e₁ p₁ k r q = by_settings s x h (rw (to_z-of_z w32 o f, ev, ey, eo) at k) q
-  reads_set (set.Refused g) h t v y o f ev ey eo x e₁ p₁ k r q = clash (sym t)
+  pub reads_set : (s : Settings) → settings.Reads last_version file gate (Ok s) → SFits w32 s.offset → (x : Result Reading Refusal) (e₁ p₁ : List (List ℕ))
+      → Reads line s.variant s.year (to_z w32 (of_z w32 s.offset)) e₀ p₀ x e₁ p₁ → (r : Result SiteReading Refusal) → r ≡ with_host s.host x → ReadsWith file gate line e₀ p₀ r e₁ p₁
+  reads_set s h f x e₁ p₁ k r q = by_settings s x h (rw (to_z-of_z w32 s.offset f) at k) q
 
   -- with no table at hand there are the tables that the answer would leave
-  pub record Found (r : SiteReading) : Type 0 where
+  pub record Found (r : Result SiteReading Refusal) : Type 0 where
     pub elements : List (List ℕ)
     pub params : List (List ℕ)
     pub reads : ReadsWith file gate line e₀ p₀ r elements params
 
-  pub found : (r : SiteReading) → AnswersWith file gate line (length e₀) (length p₀) r → Found r
-  found r (refuses s h t q) = record { elements = e₀; params = p₀; reads = reads_none s h t r q }
-  found r (answers (set.Read s) h t q) =
+  pub found : (r : Result SiteReading Refusal) → AnswersWith file gate line (length e₀) (length p₀) r → Found r
+  found r (refuses f h q) = record { elements = e₀; params = p₀; reads = unset f h q refl refl }
+  found r (answers s h q) =
       let x = answered line s.variant s.year s.offset (length e₀) (length p₀) in
       let rows = rows_of (outcome_of line s.variant s.year s.offset) in
       record {
@@ -62,19 +53,18 @@ module _ (file : List ℕ) (gate : ℕ) (line : List ℕ) (e₀ p₀ : List (Lis
         params = table_after x rows.params p₀;
         reads = by_settings s x h (record { answer = refl; elements = refl; params = refl }) q;
       }
-  found r (answers (set.Refused f) h t q) = clash (sym t)
 
 -- ---- a refused call
 
-is_refused : SiteReading → Bool
-is_refused (Read r e p h) = false
-is_refused (Refused f) = true
+is_refused : Result SiteReading Refusal → Bool
+is_refused (Ok x) = false
+is_refused (Err f) = true
 
-unread : (default : Span) (x : Reading) (f : Refusal) → Refused f ≡ with_host default x → (rows old new : List (List ℕ)) → new ≡ table_after x rows old → new ≡ old
+unread : (default : Span) (x : Result Reading Refusal) (f : Refusal) → Err f ≡ with_host default x → (rows old new : List (List ℕ)) → new ≡ table_after x rows old → new ≡ old
 unfolding is_refused
-unread default (loose.Read r e p) f q rows old new h = clash (ap is_refused q)
-unread default (loose.Whole r) f q rows old new h = h
-unread default (loose.Refused g) f q rows old new h = h
+unread default (Ok (loose.Read r e p)) f q rows old new h = clash (ap is_refused q)
+unread default (Ok (loose.Whole r)) f q rows old new h = h
+unread default (Err g) f q rows old new h = h
 
 pub refused_leaves : RefusedLeaves
 refused_leaves file gate line e₀ p₀ e₁ p₁ f (unset g h q a b) = (a, b)
@@ -89,7 +79,7 @@ never_zero a = by_test (λ t. eqb a.number 0 ≡ t → eqb (if t then record { n
 
 module _ (file : List ℕ) (gate : ℕ) (line : List ℕ) (e₀ p₀ : List (List ℕ)) (out : List ℕ) where
   -- with too little memory the answer alone is told
-  pub leaves_short : length out < record_size → (r : SiteReading) → AnswersWith file gate line (length e₀) (length p₀) r → (a : SiteAnswer) → a ≡ short_answer (site_answer_of r)
+  pub leaves_short : length out < record_size → (r : Result SiteReading Refusal) → AnswersWith file gate line (length e₀) (length p₀) r → (a : SiteAnswer) → a ≡ short_answer (site_answer_of r)
       → LeavesSite file gate line e₀ p₀ out a e₀ p₀ out
   leaves_short l r h a q =
       let w = found file gate line e₀ p₀ r h in
@@ -106,13 +96,13 @@ module _ (file : List ℕ) (gate : ℕ) (line : List ℕ) (e₀ p₀ : List (Lis
       }
 
   -- with enough the reading is left, whose refusals change no table
-  tables_are : (r : SiteReading) (e p : List (List ℕ)) → ReadsWith file gate line e₀ p₀ r e p → (e ≡ kept (site_answer_of r).number e e₀) × (p ≡ kept (site_answer_of r).number p p₀)
-  tables_are (Read x n k h) e p w = rw (read_zero h) (refl, refl)
-  tables_are (Refused f) e p w =
+  tables_are : (r : Result SiteReading Refusal) (e p : List (List ℕ)) → ReadsWith file gate line e₀ p₀ r e p → (e ≡ kept (site_answer_of r).number e e₀) × (p ≡ kept (site_answer_of r).number p p₀)
+  tables_are (Ok y) e p w = rw (read_zero y.holder) (refl, refl)
+  tables_are (Err f) e p w =
       let (a, b) = refused_leaves file gate line e₀ p₀ e p f w in
-      (rw a (kept_same (site_answer_of (Refused f)).number e₀), rw b (kept_same (site_answer_of (Refused f)).number p₀))
+      (rw a (kept_same (site_answer_of (Err f)).number e₀), rw b (kept_same (site_answer_of (Err f)).number p₀))
 
-  pub leaves_all : record_size ≤ length out → (r : SiteReading) (e p : List (List ℕ)) → ReadsWith file gate line e₀ p₀ r e p → (a : SiteAnswer) (new : List ℕ) → Left r out a new
+  pub leaves_all : record_size ≤ length out → (r : Result SiteReading Refusal) (e p : List (List ℕ)) → ReadsWith file gate line e₀ p₀ r e p → (a : SiteAnswer) (new : List ℕ) → Left r out a new
       → LeavesSite file gate line e₀ p₀ out a e p new
   leaves_all l r e p h a new w =
       let (x, y) = tables_are r e p h in

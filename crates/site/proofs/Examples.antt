@@ -1,4 +1,5 @@
 -- Worked examples, computed from the definitions.
+use Rattle.std.specs.Prelude.{Ok, Err}
 use Prim.Native.Nat.{ℕ}
 use mathlib.Core.Path.{◌≡◌, refl}
 use mathlib.Core.List.{[], ◌∷◌, map}
@@ -9,7 +10,6 @@ use Rattle.record.specs.declared.Span.{Span}
 use Rattle.record.specs.declared.Reading.TheVariants as loose
 use Rattle.record.specs.declared.Refusal.TheVariants.{NoReading, TooManyParams, BadField}
 use Rattle.site.specs.declared.Holder.TheVariants.{Nowhere, InLine, InSettings}
-use Rattle.site.specs.declared.SiteReading.TheVariants.{Read, Refused}
 use Rattle.site.specs.declared.SiteAnswer.{SiteAnswer}
 use Rattle.site.specs.Site.{host_of, host_text, with_host}
 use Rattle.site.specs.Numbers.{site_answer_of, left_answer, kept}
@@ -27,8 +27,8 @@ texts : map (host_text (bytes "line of gate7") (bytes "settings of gate8")) (InL
 texts = refl
 
 -- a line with no reading is refused with 4
-readings : map (with_host (span 8 3)) (loose.Read empty_record 2 5 ∷ loose.Whole (message_alone 9) ∷ loose.Refused TooManyParams ∷ [])
-    ≡ Read empty_record 2 5 (InSettings (span 8 3)) ∷ Refused NoReading ∷ Refused TooManyParams ∷ []
+readings : map (with_host (span 8 3)) (Ok (loose.Read empty_record 2 5) ∷ Ok (loose.Whole (message_alone 9)) ∷ Err TooManyParams ∷ [])
+    ≡ Ok (record { reading = empty_record; elements = 2; params = 5; holder = InSettings (span 8 3) }) ∷ Err NoReading ∷ Err TooManyParams ∷ []
 readings = refl
 
 -- ---- in numbers
@@ -36,7 +36,7 @@ readings = refl
 abbrev told : ℕ → ℕ → ℕ → ℕ → SiteAnswer
 told number holder start len = record { number = number; holder = holder; host_start = start; host_len = len }
 
-answers : map site_answer_of (Read empty_record 0 0 Nowhere ∷ Read empty_record 0 0 (InLine (span 4 5)) ∷ Read empty_record 0 0 (InSettings (span 8 3)) ∷ Refused NoReading ∷ Refused BadField ∷ [])
+answers : map site_answer_of (Ok (record { reading = empty_record; elements = 0; params = 0; holder = Nowhere }) ∷ Ok (record { reading = empty_record; elements = 0; params = 0; holder = InLine (span 4 5) }) ∷ Ok (record { reading = empty_record; elements = 0; params = 0; holder = InSettings (span 8 3) }) ∷ Err NoReading ∷ Err BadField ∷ [])
     ≡ told 0 0 0 0 ∷ told 0 1 4 5 ∷ told 0 2 8 3 ∷ told 4 0 0 0 ∷ told 15 0 0 0 ∷ []
 answers = refl
 

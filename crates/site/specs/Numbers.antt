@@ -1,14 +1,14 @@
 -- The call of C: a number, the slice that holds the host and its place there, and the record in memory.
-use Rattle.std.specs.Prelude.{ℕ, ◌≡◌, List, [], eqb, ltb, length, if◌then◌else◌}
+use Rattle.std.specs.Prelude.{ℕ, ◌≡◌, List, [], eqb, ltb, length, if◌then◌else◌, Result, Ok, Err}
 use Rattle.base.specs.Fills.{filled}
 use Rattle.record.specs.Refusals.{refusal_number}
 use Rattle.layout.specs.Layout.{record_size, record_bytes}
 use Rattle.site.specs.declared.Holder.{Holder}
 use Rattle.site.specs.declared.Holder.TheVariants.{Nowhere, InLine, InSettings}
 use Rattle.site.specs.declared.SiteReading.{SiteReading}
-use Rattle.site.specs.declared.SiteReading.TheVariants.{Read, Refused}
 use Rattle.site.specs.declared.SiteAnswer.{SiteAnswer}
 use Rattle.site.specs.Site.{ReadsWith}
+use Rattle.record.specs.declared.Refusal.{Refusal}
 
 -- a refusal has zeros
 abbrev pub refused_with : ℕ → SiteAnswer
@@ -20,9 +20,9 @@ read_with Nowhere = record { number = 0; holder = 0; host_start = 0; host_len = 
 read_with (InLine p) = record { number = 0; holder = 1; host_start = p.start; host_len = p.len }
 read_with (InSettings p) = record { number = 0; holder = 2; host_start = p.start; host_len = p.len }
 
-abbrev pub site_answer_of : SiteReading → SiteAnswer
-site_answer_of (Read r e p host) = read_with host
-site_answer_of (Refused f) = refused_with (refusal_number f)
+abbrev pub site_answer_of : Result SiteReading Refusal → SiteAnswer
+site_answer_of (Ok x) = read_with x.holder
+site_answer_of (Err f) = refused_with (refusal_number f)
 
 -- 8, last of all, where the record's memory is too short
 abbrev pub short_answer : SiteAnswer → SiteAnswer
@@ -36,12 +36,12 @@ abbrev pub kept : {A : Type 0} → ℕ → A → A → A
 kept n new old = if eqb n 0 then new else old
 
 -- the bytes of the record and the counts
-abbrev pub bytes_of : SiteReading → List ℕ
-bytes_of (Read r e p host) = record_bytes r e p
-bytes_of (Refused f) = []
+abbrev pub bytes_of : Result SiteReading Refusal → List ℕ
+bytes_of (Ok x) = record_bytes x.reading x.elements x.params
+bytes_of (Err f) = []
 
 pub record LeavesSite (file : List ℕ) (gate : ℕ) (line : List ℕ) (e₀ p₀ : List (List ℕ)) (out₀ : List ℕ) (a : SiteAnswer) (e₁ p₁ : List (List ℕ)) (out₁ : List ℕ) : Type 0 where
-  pub answer : SiteReading
+  pub answer : Result SiteReading Refusal
   pub elements : List (List ℕ)
   pub params : List (List ℕ)
   pub reads : ReadsWith file gate line e₀ p₀ answer elements params

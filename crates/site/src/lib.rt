@@ -7,10 +7,9 @@ ghost use Rattle.record.specs.Params.{rows};
 ghost use Rattle.layout.specs.Layout.{record_size};
 ghost use Rattle.site.specs.Site.{host_of, host_text, with_host, ReadsWith};
 ghost use Rattle.site.specs.Numbers.{read_with, site_answer_of, short_answer, LeavesSite};
-ghost use Rattle.site.specs.Steps.{is_set, settings_in, answered_by, refused_by, AnswersWith, Left};
+ghost use Rattle.site.specs.Steps.{AnswersWith, Left};
 
 use record::{Param, Place, Reading, Record, Refusal, Span};
-use settings::{Settings, SettingsRead};
 
 // Which of the two slices holds the host, and its place there.
 #[derive(Clone, Copy)]
@@ -20,11 +19,13 @@ pub enum Holder {
     InSettings(Span),
 }
 
-// What the reading answers: the record, both counts and the host, or why not.
+// What a reading with settings answers: the record, both counts and who holds the host.
 #[derive(Clone, Copy)]
-pub enum SiteReading {
-    Read(Record, usize, usize, Holder),
-    Refused(Refusal),
+pub struct SiteReading {
+    pub reading: Record,
+    pub elements: usize,
+    pub params: usize,
+    pub holder: Holder,
 }
 
 // The same as a C caller gets it, beside the record: `holder` is 0 for no host, 1 for the line's, 2 for the settings'.
@@ -80,92 +81,30 @@ pub fn host<'a>(line: &'a [u8], file: &'a [u8], held: Holder) -> &'a [u8]
     }
 }
 
-// ---- for the prover alone: `read` names the parameter table and so only calls. Each of these asks one thing of the settings.
-
-fn is_set(s: SettingsRead) -> bool
-    ensures { result ≡ is_set s }
-{
-    match s {
-        SettingsRead::Read(_) => true,
-        SettingsRead::Refused(_) => false,
-    }
-}
-
-fn variant_of(s: SettingsRead) -> u32
-    ensures { result ≡ (settings_in s).variant }
-{
-    match s {
-        SettingsRead::Read(x) => x.variant,
-        SettingsRead::Refused(_) => 0,
-    }
-}
-
-fn year_of(s: SettingsRead) -> u32
-    ensures { result ≡ (settings_in s).year }
-{
-    match s {
-        SettingsRead::Read(x) => x.year,
-        SettingsRead::Refused(_) => 0,
-    }
-}
-
-fn offset_in(s: Settings) -> i32
-    ensures { result ≡ s.offset }
-{
-    s.offset
-}
-
-fn offset_of(s: SettingsRead) -> i32
-    ensures { result ≡ (settings_in s).offset }
-{
-    match s {
-        SettingsRead::Read(x) => offset_in(x),
-        SettingsRead::Refused(_) => 0,
-    }
-}
-
 // ---- the answer
 
 // A loose reading with the settings' host as the default; a line with no reading is refused.
-fn with_default(default: Span, x: Reading) -> SiteReading
+fn with_default(default: Span, x: Result<Reading, Refusal>) -> Result<SiteReading, Refusal>
     ensures { result ≡ with_host default x }
 {
-    match x {
-        Reading::Read(read, e, p) => SiteReading::Read(read, e, p, host_of(read.host, default)),
-        Reading::Whole(_) => SiteReading::Refused(Refusal::NoReading),
-        Reading::Refused(f) => SiteReading::Refused(f),
-    }
-}
-
-fn with_host(s: SettingsRead, x: Reading) -> SiteReading
-    ensures { result ≡ answered_by s x }
-{
-    match s {
-        SettingsRead::Read(found) => with_default(found.host, x),
-        SettingsRead::Refused(f) => SiteReading::Refused(f),
-    }
-}
-
-// The refusal of the settings, asked for where there are none.
-fn refused_of(s: SettingsRead) -> SiteReading
-    ensures { result ≡ refused_by s }
-{
-    match s {
-        SettingsRead::Read(_) => SiteReading::Refused(Refusal::NoReading),
-        SettingsRead::Refused(f) => SiteReading::Refused(f),
+    match x? {
+        Reading::Read(reading, elements, params) => Ok(SiteReading {
+            reading,
+            elements,
+            params,
+            holder: host_of(reading.host, default),
+        }),
+        Reading::Whole(_) => Err(Refusal::NoReading),
     }
 }
 
 // What is answered to tables of `e` and `p` entries, with no table at hand.
-fn answer(file: &[u8], gate: u32, line: &[u8], e: usize, p: usize) -> SiteReading
+fn answer(file: &[u8], gate: u32, line: &[u8], e: usize, p: usize) -> Result<SiteReading, Refusal>
     ensures { AnswersWith file.now gate line.now e p result }
 {
-    let s = settings::read(file, gate);
-    if !is_set(s) {
-        return refused_of(s);
-    }
-    let x = loose::answer(line, variant_of(s), year_of(s), offset_of(s), e, p);
-    with_host(s, x)
+    let s = settings::read(file, gate)?;
+    let x = loose::answer(line, s.variant, s.year, s.offset, e, p);
+    with_default(s.host, x)
 }
 
 // Loose reading of a line with the settings of a gate.
@@ -175,18 +114,12 @@ pub fn read(
     line: &[u8],
     elements: &mut [[usize; 2]],
     params: &mut [Param],
-) -> SiteReading
+) -> Result<SiteReading, Refusal>
     ensures { ReadsWith file.now gate line.now elements.old (rows params.old) result elements.new (rows params.new) }
 {
-    let s = settings::read(file, gate);
-    if is_set(s) {
-        let variant = variant_of(s);
-        let year = year_of(s);
-        let offset = offset_of(s);
-        let x = loose::read(line, variant, year, offset, elements, params);
-        return with_host(s, x);
-    }
-    refused_of(s)
+    let s = settings::read(file, gate)?;
+    let x = loose::read(line, s.variant, s.year, s.offset, elements, params);
+    with_default(s.host, x)
 }
 
 // ---- for C
@@ -216,13 +149,13 @@ fn read_answer(host: Holder) -> SiteAnswer
     }
 }
 
-fn site_answer_of(r: SiteReading) -> SiteAnswer
+fn site_answer_of(r: Result<SiteReading, Refusal>) -> SiteAnswer
     ensures { result ≡ site_answer_of r }
 {
     match r {
-        SiteReading::Read(_, _, _, host) => read_answer(host),
-        SiteReading::Refused(f) => SiteAnswer {
-            number: record::refusal_number(f),
+        Ok(x) => read_answer(x.holder),
+        Err(f) => SiteAnswer {
+            number: u32::from(f),
             holder: 0,
             host_start: 0,
             host_len: 0,
@@ -231,7 +164,7 @@ fn site_answer_of(r: SiteReading) -> SiteAnswer
 }
 
 // What is answered where the record's memory is too short.
-fn short(r: SiteReading) -> SiteAnswer
+fn short(r: Result<SiteReading, Refusal>) -> SiteAnswer
     ensures { result ≡ short_answer (site_answer_of r) }
 {
     let a = site_answer_of(r);
@@ -247,15 +180,15 @@ fn short(r: SiteReading) -> SiteAnswer
 }
 
 // What is answered, and the record in `memory` where the number is 0.
-fn leave(r: SiteReading, memory: &mut [u8]) -> SiteAnswer
+fn leave(r: Result<SiteReading, Refusal>, memory: &mut [u8]) -> SiteAnswer
     requires { record_size ≤ length memory.old }
     ensures { Left r memory.old result memory.new }
 {
     let told = site_answer_of(r);
-    let SiteReading::Read(read, e, p, _) = r else {
+    let Ok(x) = r else {
         return told;
     };
-    layout::put_record(memory, read, e, p);
+    layout::put_record(memory, x.reading, x.elements, x.params);
     told
 }
 

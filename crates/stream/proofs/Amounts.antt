@@ -1,19 +1,19 @@
 -- Several content bytes at once: how many they then are, and which are held.
-use Prim.Native.Nat.{ℕ, zero, suc, ◌+◌, ◌-◌, ◌≤◌, ◌<◌}
+use Prim.Native.Nat.{ℕ, zero, suc, ◌+◌, ◌-◌, min, ◌≤◌, ◌<◌}
 use mathlib.Core.Path.{◌≡◌, refl, sym, ap, ◌∙◌}
 use mathlib.Core.List.{List, [], ◌∷◌, ◌++◌, append_assoc, append-nil}
 use native.Mathlib.Omega.{arith}
 use lib.Dec.{leb, ltb}
 use lib.ListN.{length, take, drop, length-append}
-use lib.Seq.{take-nil, take_all, take-take, length-take-le, append_snoc}
+use lib.Seq.{take-nil, length-take-le, append_snoc}
+use Rattle.std.proofs.lemmas.List.{take_min}
 use borrow.Author.Tests.{lt-ltb, le-ltb, le-leb, lt-leb, ltb-true, ltb-false, leb-true, leb-false}
 use Rattle.base.proofs.Tests.{by_test, by_if}
 use Rattle.output.specs.Output.{written, Wrote}
-use Rattle.output.specs.Fits.{Fits}
 use Rattle.record.specs.Limits.{line_limit}
 use Rattle.stream.specs.Machine.{more, keep}
 use Rattle.stream.specs.Feeds.{kept}
-use Rattle.stream.specs.Steps.{mores, keeps, smallest, Grew}
+use Rattle.stream.specs.Steps.{mores, keeps, Grew}
 
 pub more_below : (n : ℕ) → n < 4294967295 → more n ≡ suc n
 unfolding more
@@ -42,11 +42,11 @@ mores_over n (suc k) l h =
     (λ e. rw (more_top n (ltb-false n _ e)) (omega (arith, mores_top n k (ltb-false n _ e), ltb-false n _ e)))
 
 -- what `grown` answers
-pub grown_sum : (n k : ℕ) → n ≤ 4294967295 → k ≤ 4294967295 - n → n + k ≡ mores n k
-grown_sum n k l h = mores_sum n k (omega arith)
-
-pub grown_over : (n k : ℕ) → n ≤ 4294967295 → 4294967295 - n < k → 4294967295 ≡ mores n k
-grown_over n k l h = mores_over n k l (omega arith)
+pub grown_is : (n k : ℕ) → n ≤ 4294967295 → min (n + min k 4294967295) 4294967295 ≡ mores n k
+grown_is n k l =
+    by_test (λ b. min (n + min k 4294967295) 4294967295 ≡ mores n k) (leb (n + k) 4294967295)
+    (λ e. omega (arith, mores_sum n k (leb-true (n + k) _ e), leb-true (n + k) _ e))
+    (λ e. omega (arith, mores_over n k l (omega (arith, leb-false (n + k) _ e)), leb-false (n + k) _ e))
 
 pub keep_in : (c : List ℕ) (b : ℕ) → length c < line_limit → keep c b ≡ c ++ b ∷ []
 unfolding keep
@@ -79,6 +79,9 @@ kept_over n h = rw (lt-leb n line_limit h)
 pub kept_top : (n : ℕ) → line_limit ≤ n → kept n ≡ line_limit
 kept_top n h = by_if (λ k. k ≡ line_limit) (leb n line_limit) n line_limit (λ e. omega (arith, leb-true n line_limit e)) (λ e. refl)
 
+kept_min : (n : ℕ) → kept n ≡ min line_limit n
+kept_min n = by_if (λ k. k ≡ min line_limit n) (leb n line_limit) n line_limit (λ e. omega (arith, leb-true n line_limit e)) (λ e. omega (arith, leb-false n line_limit e))
+
 pub kept_le : (n : ℕ) → kept n ≤ line_limit
 kept_le n = by_if (λ k. k ≤ line_limit) (leb n line_limit) n line_limit (λ e. leb-true n line_limit e) (λ e. omega arith)
 
@@ -103,54 +106,17 @@ keeps_kept n c (b ∷ xs) q = keeps_kept (more n) (keep c b) xs (keep_kept n c b
 pub held_length : (n : ℕ) (old : List ℕ) → line_limit ≤ length old → length (take (kept n) old) ≡ kept n
 held_length n old h = length-take-le (kept n) old (omega (arith, kept_le n))
 
--- `smaller`
-pub smallest_le : (a b : ℕ) → a ≤ b → a ≡ smallest a b
-smallest_le a b h = rw (le-leb a b h)
-
-pub smallest_gt : (a b : ℕ) → b < a → b ≡ smallest a b
-smallest_gt a b h = rw (lt-leb a b h)
-
-pub smallest_left : (a b : ℕ) → smallest a b ≤ a
-smallest_left a b = by_if (λ k. k ≤ a) (leb a b) a b (λ e. omega arith) (λ e. omega (arith, leb-false a b e))
-
-pub smallest_right : (a b : ℕ) → smallest a b ≤ b
-smallest_right a b = by_if (λ k. k ≤ b) (leb a b) a b (λ e. leb-true a b e) (λ e. omega arith)
-
-front_of : (k m : ℕ) (bytes : List ℕ) → k ≤ length bytes → take m (take k bytes) ≡ take (smallest k m) bytes
-front_of k m bytes l =
-    by_if (λ i. take m (take k bytes) ≡ take i bytes) (leb k m) k m
-    (λ e. take_all m (take k bytes) (omega (arith, length-take-le k bytes l, leb-true k m e)))
-    (λ e. take-take m k bytes (omega (arith, leb-false k m e)))
-
 -- what `hold` leaves
-pub hold_below : (n a : ℕ) → a ≡ smallest n line_limit → a ≤ line_limit
-hold_below n a ea = rw ea (smallest_right n line_limit)
-
-module _ (n : ℕ) (bytes : List ℕ) (k : ℕ) (old : List ℕ) (room : line_limit ≤ length old) (l : k ≤ length bytes) (a m : ℕ) (ea : a ≡ smallest n line_limit) (em : m ≡ smallest k (line_limit - a)) where
-  pub hold_part : m ≤ length bytes
-  hold_part = rw em (omega (arith, smallest_left k (line_limit - a)))
-
-  less_none : m - 0 ≡ m
-  less_none = omega arith
-
-  len : length (take m bytes) ≡ m
-  len = length-take-le m bytes hold_part
-
-  pub hold_fits : Fits old a (take (m - 0) bytes)
-  hold_fits = rw less_none (record { fits = omega (arith, len, hold_below n a ea, em, smallest_right k (line_limit - a)) })
-
-  pub hold_grew : (r next : ℕ) (new : List ℕ) → r ≡ mores n k → Wrote old a (take (m - 0) bytes) next new → Grew n bytes k old r new
-  unfolding written
-  hold_grew r next new e v =
-      let w : Wrote old a (take m bytes) next new = rw less_none at v in
-      let c = take (kept n) old in
-      let q : length c ≡ a = held_length n old room ∙ sym ea in
-      let f : keeps c (take k bytes) ≡ take a old ++ take m bytes =
-      keeps_is c (take k bytes) ∙ rw (q, front_of k (line_limit - a) bytes l, ← em, ← ea) in
-      let z : length (take a old ++ take m bytes) ≡ a + length (take m bytes) = length-append (take a old) (take m bytes) ∙ ap (λ (i : ℕ). i + length (take m bytes)) (length-take-le a old (omega (arith, hold_below n a ea))) in
-      record {
-        number = e;
-        holds = w.holds ∙ rw (f, z) (sym (append_assoc (take a old) (take m bytes) (drop (a + length (take m bytes)) old)));
-      }
-
-pub ruleset hold_laws = (hold_below, hold_part, hold_fits, hold_grew)
+pub hold_grew : (n : ℕ) (content old : List ℕ) (a m r next : ℕ) (new : List ℕ) → line_limit ≤ length old → a ≡ min line_limit n → m ≡ min (line_limit - a) (length content)
+    → r ≡ mores n (length content) → Wrote old a (take m content) next new → Grew n content old r new
+unfolding written
+hold_grew n content old a m r next new room ea em e w =
+    let q : length (take (kept n) old) ≡ a = held_length n old room ∙ kept_min n ∙ sym ea in
+    let f : keeps (take (kept n) old) content ≡ take a old ++ take m content =
+    keeps_is (take (kept n) old) content ∙ rw (q, em, take_min, kept_min n, ← ea) in
+    let z : length (take a old ++ take m content) ≡ a + length (take m content) =
+    length-append (take a old) (take m content) ∙ ap (λ (i : ℕ). i + length (take m content)) (length-take-le a old (omega arith)) in
+    record {
+      number = e;
+      holds = w.holds ∙ rw (f, z) (sym (append_assoc (take a old) (take m content) (drop (a + length (take m content)) old)));
+    }

@@ -1,89 +1,33 @@
 -- What the functions answer, by the walks.
-use Prim.Native.Nat.{ℕ, zero, suc, ◌+◌, ◌-◌, ◌*◌, ◌≤◌, ◌<◌}
+use Prim.Native.Nat.{ℕ, zero, suc, ◌+◌, ◌-◌, min, ◌≤◌, ◌<◌}
 use mathlib.Core.Path.{◌≡◌, refl, sym, ap, ◌∙◌}
 use mathlib.Core.List.{List, [], ◌∷◌}
-use mathlib.Core.Bool.{Bool, true, false, not, ◌&&◌}
+use mathlib.Core.Bool.{Bool, true, false, not}
 use native.Mathlib.Omega.{arith}
-use lib.Dec.{leb, ltb, eqb}
+use lib.Dec.{leb}
 use lib.ListN.{length, get_or, take, drop, take-append-drop, length-drop}
 use lib.Seq.{length-take-le}
-use borrow.Author.Tests.{le-leb, lt-leb, eq-eqb, ne_eqb, not-true, not-false, leb-true, leb-false, ltb-true}
-use mir.Syntax.{w32, w64}
-use mir.Val.{Fits}
-use Rattle.base.specs.Choose.{within}
+use borrow.Author.Tests.{leb-true, leb-false}
+use Rattle.std.specs.List.{prefix_len, IsFirstAndRest}
+use Rattle.std.proofs.lemmas.Grind.{common_steps}
 use Rattle.base.specs.Runs.{run, eight}
 use Rattle.base.specs.Fills.{filled}
-use Rattle.base.proofs.Tests.{by_test, by_if, both}
+use Rattle.base.proofs.Tests.{by_if}
 use Rattle.base.proofs.Parts.{step, ended}
-use Rattle.base.proofs.Runs.{run_le, run_all, run_after, Runs, runs_start, runs_out, runs_yes, runs_no, eight_on}
+use Rattle.base.proofs.Runs.{run_le, run_all, run_after, Runs, runs_yes, eight_on}
 use Rattle.record.specs.Limits.{line_limit}
-use Rattle.record.specs.declared.Refusal.TheVariants.{BadSetting, OutputShort, BadCount, FrameTooLong}
+use Rattle.record.specs.declared.Refusal.TheVariants.{OutputShort, BadCount}
 use Rattle.stream.specs.declared.State.{State}
 use Rattle.stream.specs.declared.State.TheVariants.{Count, Content, Line, Ended}
-use Rattle.stream.specs.declared.Started.TheVariants as started
-use Rattle.stream.specs.declared.Event.TheVariants.{More, Frame, Refused}
+use Rattle.stream.specs.declared.Event.TheVariants.{More, Refused}
 use Rattle.stream.specs.declared.Fed.{Fed}
 use Rattle.stream.specs.declared.Digits.{Digits}
 use Rattle.stream.specs.Machine as M
 use Rattle.stream.specs.Machine.{Says, silent, frame, long, bad, start_of, Step, ending, digit_on, space_on, Ran, later, stops, onward, up_to}
 use Rattle.stream.specs.Feeds.{kept, held, answer_of, shown_by, Feeds, Served, short, fed}
-use Rattle.stream.specs.Steps.{mores, keeps, smallest, to_come, not_lf, Grew, Counted, end_fed}
-use Rattle.stream.proofs.Amounts.{keeps_kept, held_length, smallest_left, smallest_right, smallest_le, smallest_gt}
+use Rattle.stream.specs.Steps.{mores, keeps, to_come, not_lf, Grew, Counted, end_fed}
+use Rattle.stream.proofs.Amounts.{keeps_kept, held_length}
 use Rattle.stream.proofs.Walks.{later_later, shown_ending, event_ending, line_on, line_end, content_on, content_done, count_space, count_bad}
-
-pub start_counted : (kind : ℕ) → kind ≡ 0 → started.Ready (Count 0) ≡ start_of kind
-unfolding start_of
-start_counted kind e = rw (eq-eqb kind 0 e)
-
-pub start_lines : (kind : ℕ) → (kind ≡ 0 → ⊥) → kind ≡ 1 → started.Ready (Line 0) ≡ start_of kind
-unfolding start_of
-start_lines kind z e = rw (ne_eqb kind 0 z, eq-eqb kind 1 e)
-
-pub start_other : (kind : ℕ) → (kind ≡ 0 → ⊥) → (kind ≡ 1 → ⊥) → started.Refused BadSetting ≡ start_of kind
-unfolding start_of
-start_other kind z e = rw (ne_eqb kind 0 z, ne_eqb kind 1 e)
-
-pub ruleset start_laws = (start_counted, start_lines, start_other)
-
-pub come_one : (left : ℕ) → left ≤ 1 → 1 ≡ to_come left
-come_one left h = rw (le-leb left 1 h)
-
-pub come_all : (left : ℕ) → 1 < left → left ≡ to_come left
-come_all left h = rw (lt-leb left 1 h)
-
-pub end_frame : (s : State) (t n : ℕ) → n ≤ line_limit → record { state = s; taken = t; event = Frame n } ≡ end_fed s t n
-end_frame s t n h = rw (le-leb n line_limit h)
-
-pub end_long : (s : State) (t n : ℕ) → line_limit < n → record { state = s; taken = t; event = Refused FrameTooLong } ≡ end_fed s t n
-end_long s t n h = rw (lt-leb n line_limit h)
-
--- a digit: its range, and that of the value with it
-module _ (v b : ℕ) (h : digit_on v b ≡ true) where
-  two : (within 48 57 b && ltb v 100000) ≡ true
-  two = (both (within 48 57 b && ltb v 100000) (not (eqb v 0 && eqb b 48)) h).0
-
-  one : within 48 57 b ≡ true
-  one = (both (within 48 57 b) (ltb v 100000) two).0
-
-  pub digit_low : 48 ≤ b
-  digit_low = leb-true 48 b (both (leb 48 b) (leb b 57) one).0
-
-  pub digit_high : b ≤ 57
-  digit_high = leb-true b 57 (both (leb 48 b) (leb b 57) one).1
-
-  pub digit_value : v < 100000
-  digit_value = ltb-true v 100000 (both (within 48 57 b) (ltb v 100000) two).1
-
-  pub digit_ten : Fits w32 (v * 10)
-  digit_ten = record { fits = omega (arith, digit_value) }
-
-  pub digit_sum : Fits w32 (v * 10 + (b - 48))
-  digit_sum = record { fits = omega (arith, digit_value, digit_high) }
-
-pub ruleset digit_laws = (digit_low, digit_ten, digit_sum)
-
-pub digit_test : (v b : ℕ) (t : Bool) → t ≡ within 48 57 b → (t && ltb v 100000 && not (eqb v 0 && eqb b 48)) ≡ digit_on v b
-digit_test v b t e = rw e
 
 -- the machine stopped at a frame's end, or at the end of the bytes
 module _ (s t : State) (bytes old : List ℕ) (k : ℕ) (c new : List ℕ) (w : new ≡ filled c old) where
@@ -98,29 +42,15 @@ module _ (s t : State) (bytes old : List ℕ) (k : ℕ) (c new : List ℕ) (w : 
   feeds_more u = record { answers = rw u; holds = w ∙ rw u }
 
 -- lines
-module _ (s : List ℕ) (i : ℕ) where
-  pub front_at : i ≤ length s → run not_lf s ≡ i + run not_lf (drop i s) → Runs not_lf s (run not_lf s) i
-  front_at l e = record { within_s = l; ends = e }
+pub run_prefix : (p : ℕ → Bool) (s : List ℕ) → run p s ≡ prefix_len p s
+unfolding run
+run_prefix p [] = refl
+run_prefix p (b ∷ s) = by_if (λ n. n ≡ prefix_len p (b ∷ s)) (p b) (suc (run p s)) 0 (λ e. rw e (omega (arith, run_prefix p s))) (λ e. rw e)
 
-  module _ (w : Runs not_lf s (run not_lf s) i) where
-    pub front_inside : i ≤ length s
-    front_inside = w.within_s
+pub front_eight : (s : List ℕ) (i : ℕ) → Runs not_lf s (run not_lf s) i → i + 8 ≤ length s → (b : Bool) → b ≡ eight not_lf s i → not b ≡ false → Runs not_lf s (run not_lf s) (i + 8)
+front_eight s i w l = eight_on not_lf s (Runs not_lf s (run not_lf s)) (λ j h v. runs_yes not_lf s (run not_lf s) j v h) i l w
 
-    pub front_rest : run not_lf s ≡ i + run not_lf (drop i s)
-    front_rest = w.ends
-
-    pub front_lf : i < length s → get_or s i 0 ≡ 10 → i ≡ run not_lf s
-    front_lf h e = runs_no not_lf s (run not_lf s) i w h (rw (eq-eqb (get_or s i 0) 10 e))
-
-    pub front_on : i < length s → (get_or s i 0 ≡ 10 → ⊥) → Runs not_lf s (run not_lf s) (i + 1)
-    front_on h e = runs_yes not_lf s (run not_lf s) i w h (rw (ne_eqb (get_or s i 0) 10 e))
-
-    pub front_eight : i + 8 ≤ length s → (b : Bool) → b ≡ eight not_lf s i → not b ≡ false → Runs not_lf s (run not_lf s) (i + 8)
-    front_eight l = eight_on not_lf s (Runs not_lf s (run not_lf s)) (λ j h v. runs_yes not_lf s (run not_lf s) j v h) i l w
-
-pub ruleset front_laws = (runs_start, runs_out, front_at, front_inside, front_rest, front_lf, front_on)
-
-module _ (n : ℕ) (bytes old : List ℕ) (room : line_limit ≤ length old) (k : ℕ) (ek : k ≡ run not_lf bytes) (m : ℕ) (new : List ℕ) (g : Grew n bytes k old m new) where
+module _ (n : ℕ) (bytes old : List ℕ) (room : line_limit ≤ length old) (k : ℕ) (ek : k ≡ run not_lf bytes) (m : ℕ) (new : List ℕ) (g : Grew n (take k bytes) old m new) where
   k_le : k ≤ length bytes
   k_le = rw ek (run_le not_lf bytes)
 
@@ -138,17 +68,18 @@ module _ (n : ℕ) (bytes old : List ℕ) (room : line_limit ≤ length old) (k 
       feeds_end (Line n) (Line 0) bytes old (k + 1) (keeps (take (kept n) old) (take k bytes)) new g.holds (mores n k) r
       (on ∙ ap (λ (l : List ℕ). later k (up_to (Line (mores n k)) (keeps (take (kept n) old) (take k bytes)) l)) (step bytes k h)
       ∙ ap (later k) (line_end (mores n k) (keeps (take (kept n) old) (take k bytes)) (get_or bytes k 0) (drop (k + 1) bytes) (rw ek (run_after not_lf bytes (rw ek at h)))))
-      held_is (e ∙ ap (end_fed (Line 0) (k + 1)) g.number)
+      held_is (e ∙ ap (end_fed (Line 0) (k + 1)) (g.number ∙ rw k_len))
 
   pub line_more : length bytes ≤ k → Feeds (Line n) bytes old (record { state = Line m; taken = k; event = More }) new
   unfolding up_to
   line_more h =
       let z : k + 0 ≡ k = omega arith in
+      let m_is : m ≡ mores n k = g.number ∙ rw k_len in
       feeds_more (Line n) (Line m) bytes old k (keeps (take (kept n) old) (take k bytes)) new g.holds
-      (on ∙ rw (ended bytes k h, z, g.number))
+      (on ∙ rw (ended bytes k h, z, m_is))
 
-pub front_fits : (bytes : List ℕ) (k : ℕ) → k ≡ run not_lf bytes → k ≤ length bytes
-front_fits bytes k e = rw e (run_le not_lf bytes)
+pub front_fits : (bytes : List ℕ) (k : ℕ) → k ≡ run not_lf bytes → k ≡ length (take k bytes)
+front_fits bytes k e = sym (length-take-le k bytes (rw e (run_le not_lf bytes)))
 
 pub ruleset line_laws = (line_ended, line_more)
 
@@ -172,37 +103,33 @@ content_whole left n c (suc j) (b ∷ bs) e l =
     ∙ content_done left n c b (take j bs) (drop j bs) (q ∙ come_eq left j e)
     ∙ rw q
 
-module _ (left : ℕ) (bytes : List ℕ) (a k : ℕ) (ea : a ≡ to_come left) (ek : k ≡ smallest (length bytes) a) where
-  pub content_inside : k ≤ length bytes
-  content_inside = rw ek (smallest_left (length bytes) a)
+module _ (left : ℕ) (bytes : List ℕ) (a k : ℕ) (ea : a ≡ to_come left) (ek : k ≡ min (length bytes) a) where
+  inside : k ≤ length bytes
+  inside = omega arith
 
-  pub content_left : k < a → k ≤ left
-  content_left h = let q = come_low left k (rw ea at h) in omega arith
-
-  all_in : k < a → length bytes ≤ k
-  all_in h = by_test (λ t. length bytes ≤ k) (leb (length bytes) a) (λ e. omega (arith, smallest_le (length bytes) a (leb-true _ _ e), ek)) (λ e. absurd (omega (arith, smallest_gt (length bytes) a (leb-false _ _ e), ek)))
-
-  module _ (n : ℕ) (old : List ℕ) (room : line_limit ≤ length old) (m : ℕ) (new : List ℕ) (g : Grew n bytes k old m new) where
+  module _ (n : ℕ) (old : List ℕ) (room : line_limit ≤ length old) (m : ℕ) (new : List ℕ) (g : Grew n (take k bytes) old m new) where
     len : length (take k bytes) ≡ k
-    len = length-take-le k bytes content_inside
+    len = length-take-le k bytes inside
 
     pub content_more : (u : ℕ) → k < a → u ≡ left - k → Feeds (Content left n) bytes old (record { state = Content u m; taken = k; event = More }) new
     unfolding up_to
     content_more u h eu =
         let z : k + 0 ≡ k = omega arith in
+        let all_in : length bytes ≤ k = omega arith in
+        let m_is : m ≡ mores n k = g.number ∙ rw len in
         let q : length (take k bytes) ≤ left - 1 = omega (arith, len, come_low left k (rw ea at h)) in
         feeds_more (Content left n) (Content u m) bytes old k (keeps (take (kept n) old) (take k bytes)) new g.holds
-        (ap (up_to (Content left n) (take (kept n) old)) (sym (take-append-drop k bytes)) ∙ content_on left n (take (kept n) old) (take k bytes) (drop k bytes) q ∙ rw (len, ended bytes k (all_in h), z, g.number, eu))
+        (ap (up_to (Content left n) (take (kept n) old)) (sym (take-append-drop k bytes)) ∙ content_on left n (take (kept n) old) (take k bytes) (drop k bytes) q ∙ rw (len, ended bytes k all_in, z, m_is, eu))
 
     pub content_ended : (r : Fed) → a ≤ k → r ≡ end_fed (Count 0) k m → Feeds (Content left n) bytes old r new
     content_ended r h e =
-        let q : k ≡ to_come left = omega (arith, smallest_right (length bytes) a, ek, ea) in
+        let q : k ≡ to_come left = omega arith in
         feeds_end (Content left n) (Count 0) bytes old k (keeps (take (kept n) old) (take k bytes)) new g.holds (mores n k) r
-        (content_whole left n (take (kept n) old) k bytes q content_inside)
+        (content_whole left n (take (kept n) old) k bytes q inside)
         (keeps_kept n (take (kept n) old) (take k bytes) (held_length n old room) ∙ ap (λ (i : ℕ). kept (mores n i)) len)
-        (e ∙ ap (end_fed (Count 0) k) g.number)
+        (e ∙ ap (end_fed (Count 0) k) (g.number ∙ rw len))
 
-pub ruleset content_laws = (content_inside, content_left, content_more, content_ended)
+pub ruleset content_laws = (content_more, content_ended)
 
 -- no more bytes are taken than there are
 onward_taken : (e : Says) (t : Step) (r : Ran) (n : ℕ) → r.taken ≤ n → (onward e t r).taken ≤ suc n
@@ -220,43 +147,44 @@ pub feeds_taken : (s : State) (bytes old : List ℕ) (r : Fed) (new : List ℕ) 
 feeds_taken s bytes old r new f = rw f.answers (taken_le s (held s old) bytes)
 
 -- counts
-module _ (v : ℕ) (bytes old : List ℕ) (d : Digits) (w : Counted v bytes d) where
-  pub count_more : length bytes ≤ d.taken → Feeds (Count v) bytes old (record { state = Count d.value; taken = d.taken; event = More }) old
+module _ (v : ℕ) (bytes old : List ℕ) (d : Digits) (w : Counted v bytes d) (front : List ℕ) (ef : front ≡ drop d.taken bytes) where
+  pub count_more : length front ≡ 0 → Feeds (Count v) bytes old (record { state = Count d.value; taken = d.taken; event = More }) old
   unfolding up_to
   count_more h =
       let z : d.taken + 0 ≡ d.taken = omega arith in
-      feeds_more (Count v) (Count d.value) bytes old d.taken [] old refl (w.same ∙ rw (ended bytes d.taken h, z))
+      let l : length bytes ≤ d.taken = omega (arith, length-drop d.taken bytes, ap length ef) in
+      feeds_more (Count v) (Count d.value) bytes old d.taken [] old refl (w.same ∙ rw (ended bytes d.taken l, z))
 
-  module _ (h : d.taken < length bytes) (t : Bool) (et : t ≡ space_on d.value (get_or bytes d.taken 0)) where
-    pub count_refused : not t ≡ true → Feeds (Count v) bytes old (record { state = Ended; taken = d.taken + 1; event = Refused BadCount }) old
+  module _ (b : ℕ) (rest : List ℕ) (e : IsFirstAndRest front b rest) where
+    split : d.taken + suc (length rest) ≡ length bytes
+    split = omega (arith, length-drop d.taken bytes, ap length ef, e.1, w.inside)
+
+    off : digit_on d.value b ≡ false
+    off =
+        let at : get_or bytes d.taken 0 ≡ b = grind (arith, common_steps) in
+        rw at at (w.ends (omega (arith, split)))
+
+    at_front : up_to (Count v) [] bytes ≡ later d.taken (up_to (Count d.value) [] (b ∷ rest))
+    at_front = w.same ∙ ap (λ (l : List ℕ). later d.taken (up_to (Count d.value) [] l)) (sym ef ∙ e.0)
+
+    pub count_refused : space_on d.value b ≡ false → Feeds (Count v) bytes old (record { state = Ended; taken = d.taken + 1; event = Refused BadCount }) old
     count_refused q =
-        let u : up_to (Count v) [] bytes ≡ stops Ended [] (d.taken + 1) bad =
-        w.same ∙ ap (λ (l : List ℕ). later d.taken (up_to (Count d.value) [] l)) (step bytes d.taken h)
-        ∙ ap (later d.taken) (count_bad d.value [] (get_or bytes d.taken 0) (drop (d.taken + 1) bytes) (w.ends h) (sym et ∙ not-true t q)) in
+        let u : up_to (Count v) [] bytes ≡ stops Ended [] (d.taken + 1) bad = at_front ∙ ap (later d.taken) (count_bad d.value [] b rest off q) in
         record { answers = rw u; holds = rw u }
 
-    on_space : not t ≡ false → up_to (Count v) [] bytes ≡ later (d.taken + 1) (up_to (Content d.value 0) [] (drop (d.taken + 1) bytes))
-    on_space q =
-        w.same ∙ ap (λ (l : List ℕ). later d.taken (up_to (Count d.value) [] l)) (step bytes d.taken h)
-        ∙ ap (later d.taken) (count_space d.value [] (get_or bytes d.taken 0) (drop (d.taken + 1) bytes) (w.ends h) (sym et ∙ not-false t q)) ∙ later_later d.taken 1 _
+    on_space : space_on d.value b ≡ true → up_to (Count v) [] bytes ≡ later (d.taken + 1) (up_to (Content d.value 0) [] rest)
+    on_space q = at_front ∙ ap (later d.taken) (count_space d.value [] b rest off q) ∙ later_later d.taken 1 _
 
-    module _ (rest : List ℕ) (e : rest ≡ drop (d.taken + 1) bytes) (r : Fed) (new : List ℕ) (f : Feeds (Content d.value 0) rest old r new) where
+    module _ (r : Fed) (new : List ℕ) (f : Feeds (Content d.value 0) rest old r new) where
       pub count_fits : d.taken + 1 + r.taken ≤ length bytes
-      count_fits =
-          let q : r.taken ≤ length (drop (d.taken + 1) bytes) = rw e at (feeds_taken (Content d.value 0) rest old r new f) in
-          omega (arith, length-drop (d.taken + 1) bytes)
+      count_fits = omega (arith, feeds_taken _ _ old r new f, split)
 
-      pub count_sum : Fits w64 (length bytes) → Fits w64 (d.taken + 1 + r.taken)
-      count_sum l = record { fits = omega (arith, count_fits, l.fits) }
-
-      pub count_content : not t ≡ false → Feeds (Count v) bytes old (record { state = r.state; taken = d.taken + 1 + r.taken; event = r.event }) new
+      pub count_content : space_on d.value b ≡ true → Feeds (Count v) bytes old (record { state = r.state; taken = d.taken + 1 + r.taken; event = r.event }) new
       count_content q =
           record {
-            answers = rw (on_space q, f.answers, e);
-            holds = rw (on_space q) (rw e at f.holds);
+            answers = rw (on_space q, f.answers);
+            holds = rw (on_space q) f.holds;
           }
-
-pub ruleset count_laws = (count_more, count_refused, count_sum, count_content)
 
 -- after a bad count
 pub ended_none : (bytes : List ℕ) → length bytes ≡ 0 → record { state = Ended; taken = 0; event = More } ≡ answer_of (up_to Ended [] bytes)

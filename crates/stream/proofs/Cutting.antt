@@ -1,5 +1,5 @@
 -- However a stream is cut: the proofs of specs/Cuts.antt.
-use Rattle.std.specs.Prelude.{if◌then◌else◌}
+use Rattle.std.specs.Prelude.{if◌then◌else◌, Result, Ok, Err}
 use Prim.Native.Nat.{ℕ, zero, suc, ◌+◌, ◌-◌, ◌≤◌, ◌<◌}
 use mathlib.Core.Path.{◌≡◌, refl, sym, ap, ◌∙◌}
 use mathlib.Core.List.{List, [], ◌∷◌, ◌++◌}
@@ -12,10 +12,10 @@ use Rattle.base.specs.Fills.{filled}
 use Rattle.base.proofs.Tests.{by_if}
 use Rattle.base.proofs.Fills.{filled_length}
 use Rattle.record.specs.Limits.{line_limit}
+use Rattle.record.specs.declared.Refusal.{Refusal}
 use Rattle.record.specs.declared.Refusal.TheVariants.{BadSetting}
 use Rattle.stream.specs.declared.State.{State}
 use Rattle.stream.specs.declared.State.TheVariants.{Count, Content, Line, Ended}
-use Rattle.stream.specs.declared.Started.TheVariants.{Ready, Refused}
 use Rattle.stream.specs.declared.Fed.{Fed}
 use Rattle.stream.specs.Machine.{Says, silent, frame, long, bad, Step, goes, more, keep, ending, digit_on, space_on, start_of, step, unfinished, told, hears, whole, Ran, onward, up_to}
 use Rattle.stream.specs.Feeds.{kept, held, event_of, shown, answer_of, shown_by, Feeds, short, fed}
@@ -151,13 +151,14 @@ cut {s} {t} {buffer} {last} (call {after = after} {piece = piece} {pieces = piec
 pub cut_from_anywhere : CutFromAnywhere
 cut_from_anywhere s t buffer last pieces es k = cut k
 
-start_none : (kind : ℕ) (s : State) → start_of kind ≡ Ready s → unfinished s ≡ 0
+start_none : (kind : ℕ) (s : State) → start_of kind ≡ Ok s → unfinished s ≡ 0
 unfolding start_of
 start_none kind s =
-    by_if (λ r. r ≡ Ready s → unfinished s ≡ 0) (eqb kind 0) (Ready (Count 0)) (if eqb kind 1 then Ready (Line 0) else Refused BadSetting) (λ e h. one (Count 0) s refl h)
-    (λ e. by_if (λ r. r ≡ Ready s → unfinished s ≡ 0) (eqb kind 1) (Ready (Line 0)) (Refused BadSetting) (λ f h. one (Line 0) s refl h) (λ f h. let z : ◌≡◌ {A = ℕ} 0 1 = cc in absurd (omega arith)))
+    let P : Result State Refusal → Type 0 = λ r. r ≡ Ok s → unfinished s ≡ 0 in
+    by_if P (eqb kind 0) (Ok (Count 0)) (if eqb kind 1 then Ok (Line 0) else Err BadSetting) (λ e h. one (Count 0) s refl h)
+    (λ e. by_if P (eqb kind 1) (Ok (Line 0)) (Err BadSetting) (λ f h. one (Line 0) s refl h) (λ f h. let z : ◌≡◌ {A = ℕ} 0 1 = cc in absurd (omega arith)))
   where
-    one : (t s : State) → unfinished t ≡ 0 → Ready t ≡ Ready s → unfinished s ≡ 0
+    one : (t s : State) → unfinished t ≡ 0 → ◌≡◌ {A = Result State Refusal} (Ok t) (Ok s) → unfinished s ≡ 0
     one t s u h = let e : t ≡ s = cc in rw (← e) u
 
 -- from the start of a stream nothing is held, whatever the buffer has

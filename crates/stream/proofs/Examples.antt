@@ -1,4 +1,5 @@
 -- Worked examples, computed from the definitions: every number of the machine from both sides.
+use Rattle.std.specs.Prelude.{Ok, Err}
 use Prim.Native.Nat.{ℕ}
 use mathlib.Core.Path.{◌≡◌, refl}
 use mathlib.Core.List.{List, [], ◌∷◌, ◌++◌, map}
@@ -7,7 +8,6 @@ use Rattle.base.specs.Bytes.{bytes}
 use Rattle.record.specs.declared.Refusal.TheVariants.{BadSetting, OutputShort, BadCount, FrameTooLong}
 use Rattle.stream.specs.declared.State.{State}
 use Rattle.stream.specs.declared.State.TheVariants.{Count, Content, Line, Ended}
-use Rattle.stream.specs.declared.Started.TheVariants.{Ready, Refused}
 use Rattle.stream.specs.declared.Event.TheVariants as event
 use Rattle.stream.specs.declared.FeedAnswer.{FeedAnswer}
 use Rattle.stream.specs.Machine.{Says, silent, frame, long, bad, start_of, unfinished, more, keep, ending, step, Whole, whole, stops, up_to}
@@ -27,7 +27,7 @@ lines = whole (Line 0) []
 
 -- ---- the kind
 
-kinds : map start_of (0 ∷ 1 ∷ 2 ∷ []) ≡ Ready (Count 0) ∷ Ready (Line 0) ∷ Refused BadSetting ∷ []
+kinds : map start_of (0 ∷ 1 ∷ 2 ∷ []) ≡ Ok (Count 0) ∷ Ok (Line 0) ∷ Err BadSetting ∷ []
 unfolding start_of
 kinds = refl
 
@@ -147,10 +147,10 @@ numbers = refl
 
 -- a state of each stage; 0 and 5 are none
 states : map (λ (n : ℕ). state_of (record { stage = n; left = 7; came = 9 })) (0 ∷ 1 ∷ 2 ∷ 3 ∷ 4 ∷ 5 ∷ [])
-    ≡ Refused BadSetting ∷ Ready (Count 7) ∷ Ready (Content 7 9) ∷ Ready (Line 9) ∷ Ready Ended ∷ Refused BadSetting ∷ []
+    ≡ Err BadSetting ∷ Ok (Count 7) ∷ Ok (Content 7 9) ∷ Ok (Line 9) ∷ Ok Ended ∷ Err BadSetting ∷ []
 states = refl
 
-starts : map start_answer_of (Ready (Line 0) ∷ Refused BadSetting ∷ []) ≡ record { number = 0; state = record { stage = 3; left = 0; came = 0 } } ∷ record { number = 2; state = record { stage = 0; left = 0; came = 0 } } ∷ []
+starts : map start_answer_of (Ok (Line 0) ∷ Err BadSetting ∷ []) ≡ record { number = 0; state = record { stage = 3; left = 0; came = 0 } } ∷ record { number = 2; state = record { stage = 0; left = 0; came = 0 } } ∷ []
 starts = refl
 
 abbrev fed : ℕ → ℕ → ℕ → FeedAnswer
@@ -169,5 +169,5 @@ numbers_sights = refl
 numbers_long : numbers_seen (fed 12 0 0) (content 8193) ≡ long (content 8192) ∷ []
 numbers_long = refl
 
-finishes : map finish_answer_of (Ready (Line 4294967295) ∷ Refused BadSetting ∷ []) ≡ record { number = 0; unfinished = 4294967295 } ∷ record { number = 2; unfinished = 0 } ∷ []
+finishes : map finish_answer_of (Ok (Line 4294967295) ∷ Err BadSetting ∷ []) ≡ record { number = 0; unfinished = 4294967295 } ∷ record { number = 2; unfinished = 0 } ∷ []
 finishes = refl

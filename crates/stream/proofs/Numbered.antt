@@ -1,26 +1,23 @@
 -- States and answers in numbers: what the functions for C answer, and that a state comes back from its numbers.
+use Rattle.std.specs.Prelude.{Result, Ok, Err}
 use Prim.Native.Nat.{ℕ, ◌≤◌, ◌<◌}
 use mathlib.Core.Path.{◌≡◌, refl, sym, ap, subst, ◌∙◌}
 use mathlib.Core.List.{List, ◌∷◌, ◌++◌}
 use native.Mathlib.Omega.{arith}
 use lib.Dec.{eqb}
 use lib.ListN.{length, drop}
-use borrow.Author.Tests.{ne_eqb}
 use Rattle.base.proofs.Tests.{by_if}
 use Rattle.record.specs.Limits.{line_limit}
-use Rattle.record.specs.Refusals.{refusal_number}
 use Rattle.record.specs.declared.Refusal.{Refusal}
 use Rattle.record.specs.declared.Refusal.TheVariants.{BadSetting, OutputShort}
 use Rattle.stream.specs.declared.State.{State}
 use Rattle.stream.specs.declared.State.TheVariants.{Count, Content, Line, Ended}
-use Rattle.stream.specs.declared.Started.{Started}
-use Rattle.stream.specs.declared.Started.TheVariants as started
 use Rattle.stream.specs.declared.Event.{Event}
 use Rattle.stream.specs.declared.Event.TheVariants.{More, Frame, Refused}
 use Rattle.stream.specs.declared.Fed.{Fed}
 use Rattle.stream.specs.declared.StreamState.{StreamState}
 use Rattle.stream.specs.declared.FeedAnswer.{FeedAnswer}
-use Rattle.stream.specs.Machine.{Says, unfinished}
+use Rattle.stream.specs.Machine.{Says}
 use Rattle.stream.specs.Feeds.{Served, short, fed}
 use Rattle.stream.specs.Numbers as N
 use Rattle.stream.specs.Numbers.{numbers_of, state_of, start_answer_of, feed_answer, feed_answer_of, Splits, no_state, splits, OneAnswer, finish_answer_of}
@@ -29,112 +26,45 @@ use Rattle.stream.proofs.Cutting.{cut_anyhow, one_result}
 
 -- ---- one case of a start only
 
-pub same_state : (t : Started) (s s' : State) → t ≡ started.Ready s → t ≡ started.Ready s' → s ≡ s'
+pub same_state : (t : Result State Refusal) (s s' : State) → t ≡ Ok s → t ≡ Ok s' → s ≡ s'
 same_state t s s' p q = cc
 
-pub never : {A : Type 0} (t : Started) (s : State) (f : Refusal) → t ≡ started.Ready s → t ≡ started.Refused f → A
+pub never : {A : Type 0} (t : Result State Refusal) (s : State) (f : Refusal) → t ≡ Ok s → t ≡ Err f → A
 never t s f p q = let z : ◌≡◌ {A = ℕ} 0 1 = cc in absurd (omega arith)
 
 -- ---- a state
 
-pub numbers_back : (s : State) → state_of (numbers_of s) ≡ started.Ready s
+pub numbers_back : (s : State) → state_of (numbers_of s) ≡ Ok s
 numbers_back (Count v) = refl
 numbers_back (Content left n) = refl
 numbers_back (Line n) = refl
 numbers_back Ended = refl
 
-module _ (s : State) where
-  pub numbers_count : (v : ℕ) → s ≡ Count v → record { stage = 1; left = v; came = 0 } ≡ numbers_of s
-  numbers_count v e = rw e
-
-  pub numbers_content : (left n : ℕ) → s ≡ Content left n → record { stage = 2; left = left; came = n } ≡ numbers_of s
-  numbers_content left n e = rw e
-
-  pub numbers_line : (n : ℕ) → s ≡ Line n → record { stage = 3; left = 0; came = n } ≡ numbers_of s
-  numbers_line n e = rw e
-
-  pub numbers_ended : s ≡ Ended → record { stage = 4; left = 0; came = 0 } ≡ numbers_of s
-  numbers_ended e = rw e
-
-pub ruleset numbers_laws = (numbers_count, numbers_content, numbers_line, numbers_ended)
-
-module _ (x : StreamState) where
-  pub state_count : x.stage ≡ 1 → started.Ready (Count x.left) ≡ state_of x
-  state_count e = rw e
-
-  pub state_content : x.stage ≡ 2 → started.Ready (Content x.left x.came) ≡ state_of x
-  state_content e = rw e
-
-  pub state_line : x.stage ≡ 3 → started.Ready (Line x.came) ≡ state_of x
-  state_line e = rw e
-
-  pub state_ended : x.stage ≡ 4 → started.Ready Ended ≡ state_of x
-  state_ended e = rw e
-
-  pub state_none : (x.stage ≡ 1 → ⊥) → (x.stage ≡ 2 → ⊥) → (x.stage ≡ 3 → ⊥) → (x.stage ≡ 4 → ⊥) → started.Refused BadSetting ≡ state_of x
-  state_none a b c d = rw (ne_eqb x.stage 1 a, ne_eqb x.stage 2 b, ne_eqb x.stage 3 c, ne_eqb x.stage 4 d)
-
 -- numbers that are no state are refused with 2
-pub no_other : (x : StreamState) (f : Refusal) → state_of x ≡ started.Refused f → f ≡ BadSetting
+pub no_other : (x : StreamState) (f : Refusal) → state_of x ≡ Err f → f ≡ BadSetting
 no_other x f =
-    let P : Started → Type 0 = λ t. t ≡ started.Refused f → f ≡ BadSetting in
+    let P : Result State Refusal → Type 0 = λ t. t ≡ Err f → f ≡ BadSetting in
     by_if P (eqb x.stage 1) _ _ (λ e h. never _ (Count x.left) f refl h)
     (λ e. by_if P (eqb x.stage 2) _ _ (λ e h. never _ (Content x.left x.came) f refl h)
     (λ e. by_if P (eqb x.stage 3) _ _ (λ e h. never _ (Line x.came) f refl h)
     (λ e. by_if P (eqb x.stage 4) _ _ (λ e h. never _ Ended f refl h) (λ e h. cc))))
 
-pub ruleset state_laws = (state_count, state_content, state_line, state_ended, state_none)
-
--- ---- the start and the end
-
-module _ (u t : Started) (e : t ≡ u) where
-  pub start_ready : (s : State) (x : StreamState) → t ≡ started.Ready s → x ≡ numbers_of s → record { number = 0; state = x } ≡ start_answer_of u
-  start_ready s x h q = rw (← e, h, q)
-
-  pub start_refused : (f : Refusal) (n : ℕ) → t ≡ started.Refused f → n ≡ refusal_number f → record { number = n; state = record { stage = 0; left = 0; came = 0 } } ≡ start_answer_of u
-  start_refused f n h q = rw (← e, h, q)
-
-  pub finish_ready : (s : State) (n : ℕ) → t ≡ started.Ready s → n ≡ unfinished s → record { number = 0; unfinished = n } ≡ finish_answer_of u
-  finish_ready s n h q = rw (← e, h, q)
-
-  pub finish_refused : (f : Refusal) (n : ℕ) → t ≡ started.Refused f → n ≡ refusal_number f → record { number = n; unfinished = 0 } ≡ finish_answer_of u
-  finish_refused f n h q = rw (← e, h, q)
-
-pub ruleset started_laws = (start_ready, start_refused)
-
-pub ruleset finished_laws = (finish_ready, finish_refused)
-
 -- ---- bytes
 
-module _ (taken : ℕ) (x : StreamState) (event : Event) where
-  pub told_more : event ≡ More → record { number = 0; frame = 0; taken = taken; len = 0; state = x } ≡ feed_answer taken x event
-  told_more e = rw e
-
-  pub told_frame : (n : ℕ) → event ≡ Frame n → record { number = 0; frame = 1; taken = taken; len = n; state = x } ≡ feed_answer taken x event
-  told_frame n e = rw e
-
-  pub told_refused : (f : Refusal) (n : ℕ) → event ≡ Refused f → n ≡ refusal_number f
-      → record { number = n; frame = 0; taken = taken; len = 0; state = x } ≡ feed_answer taken x event
-  told_refused f n e q = rw (e, q)
-
-pub ruleset told_laws = (told_more, told_frame, told_refused)
-
-pub told_fed : (r : Fed) (x : StreamState) (a : FeedAnswer) → x ≡ numbers_of r.state → a ≡ feed_answer r.taken x r.event → a ≡ feed_answer_of r
-told_fed r x a e q = q ∙ rw e
-
-module _ (x : StreamState) (bytes old : List ℕ) (t : Started) (e : t ≡ state_of x) (a : FeedAnswer) where
-  pub splits_none : (f : Refusal) → t ≡ started.Refused f → a ≡ feed_answer 0 x (Refused f) → Splits x bytes old a old
+module _ (x : StreamState) (bytes old : List ℕ) (t : Result State Refusal) (e : t ≡ state_of x) (a : FeedAnswer) where
+  pub splits_none : (f : Refusal) → t ≡ Err f → a ≡ feed_answer 0 x (Refused f) → Splits x bytes old a old
   splits_none f h q =
       let b = no_other x f (sym e ∙ h) in
-      no_state (sym e ∙ h ∙ ap started.Refused b) (q ∙ ap (λ (f : Refusal). feed_answer 0 x (Refused f)) b) refl
+      no_state (sym e ∙ h ∙ ap Err b) (q ∙ ap (λ (f : Refusal). feed_answer 0 x (Refused f)) b) refl
 
-  module _ (s : State) (h : t ≡ started.Ready s) where
+  module _ (s : State) (h : t ≡ Ok s) where
     pub splits_short : length old < line_limit → a ≡ feed_answer 0 x (Refused OutputShort) → Splits x bytes old a old
     splits_short l q = N.short s (sym e ∙ h) l q refl
 
-    pub splits_fed : line_limit ≤ length old → (r : Fed) (new : List ℕ) → Served s bytes old r new → a ≡ feed_answer_of r → Splits x bytes old a new
-    splits_fed l r new (short m u v) q = absurd (omega arith)
-    splits_fed l r new (fed m f) q = splits s (sym e ∙ h) l r f q
+    pub splits_fed : line_limit ≤ length old → (r : Fed) (new : List ℕ) (y : StreamState) → Served s bytes old r new → y ≡ numbers_of r.state → a ≡ feed_answer r.taken y r.event
+        → Splits x bytes old a new
+    splits_fed l r new y (short m u v) q o = absurd (omega arith)
+    splits_fed l r new y (fed m f) q o = splits s (sym e ∙ h) l r f (o ∙ rw q)
 
 pub ruleset splits_laws = (splits_none, splits_short, splits_fed)
 
@@ -178,7 +108,7 @@ record Told (s : State) (piece buffer : List ℕ) (a : FeedAnswer) (after : List
   sees_is : numbers_seen a after ≡ seen answer.event after
 
 module _ (s : State) (x : StreamState) (e : x ≡ numbers_of s) (piece buffer : List ℕ) (a : FeedAnswer) (after : List ℕ) where
-  stands : state_of x ≡ started.Ready s
+  stands : state_of x ≡ Ok s
   stands = ap state_of e ∙ numbers_back s
 
   told_call : Splits x piece buffer a after → Told s piece buffer a after

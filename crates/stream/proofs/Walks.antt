@@ -1,5 +1,6 @@
 -- Walks of the machine: content bytes in one go, the end of a frame, and the digits of a count.
-use Rattle.std.specs.Prelude.{if◌then◌else◌}
+use Rattle.std.specs.Prelude.{if◌then◌else◌, Option, Some, None}
+use Rattle.std.proofs.lemmas.Option.{cond_some}
 use Prim.Native.Nat.{ℕ, suc, ◌+◌, ◌-◌, ◌*◌, ◌≤◌, ◌<◌}
 use mathlib.Core.Path.{◌≡◌, refl, sym, ap, ◌∙◌}
 use mathlib.Core.List.{List, [], ◌∷◌, ◌++◌}
@@ -108,6 +109,10 @@ pub record Counting (v : ℕ) (bytes : List ℕ) (value i : ℕ) : Type 0 where
   pub inside : i ≤ length bytes
   pub same : up_to (Count v) [] bytes ≡ later i (up_to (Count value) [] (drop i bytes))
 
+digit_none : (t : Bool) (n : ℕ) → (if t then Some n else None) ≡ None → t ≡ false
+digit_none true n h = cc
+digit_none false n h = refl
+
 pub counting_start : (v : ℕ) (bytes : List ℕ) → Counting v bytes v 0
 counting_start v bytes = record { inside = omega arith; same = later_none _ }
 
@@ -115,18 +120,14 @@ module _ (v : ℕ) (bytes : List ℕ) (value i : ℕ) (w : Counting v bytes valu
   pub counting_end : length bytes ≤ i → Counted v bytes (record { value = value; taken = i })
   counting_end h = record { inside = w.inside; same = w.same; ends = λ l. absurd (omega arith) }
 
-  module _ (h : i < length bytes) (t : Bool) (et : t ≡ digit_on value (get_or bytes i 0)) where
-    pub counting_off : not t ≡ true → Counted v bytes (record { value = value; taken = i })
-    counting_off q = record { inside = w.inside; same = w.same; ends = λ l. sym et ∙ not-true t q }
+  module _ (h : i < length bytes) (r : Option ℕ) (e : r ≡ (if digit_on value (get_or bytes i 0) then Some (value * 10 + (get_or bytes i 0 - 48)) else None)) where
+    pub counting_off : r ≡ None → Counted v bytes (record { value = value; taken = i })
+    counting_off q = record { inside = w.inside; same = w.same; ends = λ l. digit_none (digit_on value (get_or bytes i 0)) _ (sym e ∙ q) }
 
-    pub counting_digit : not t ≡ false → digit_on value (get_or bytes i 0) ≡ true
-    counting_digit q = sym et ∙ not-false t q
-
-    pub counting_on : (u : ℕ) → not t ≡ false → u ≡ value * 10 + (get_or bytes i 0 - 48) → Counting v bytes u (i + 1)
-    counting_on u q e =
+    pub counting_on : (u : ℕ) → r ≡ Some u → Counting v bytes u (i + 1)
+    counting_on u q =
+        let d = cond_some (digit_on value (get_or bytes i 0)) (value * 10 + (get_or bytes i 0 - 48)) u (sym e ∙ q) in
         record {
           inside = omega arith;
-          same = w.same ∙ ap (later i) (ap (up_to (Count value) []) (step bytes i h) ∙ count_step value [] (get_or bytes i 0) (drop (i + 1) bytes) (counting_digit q) ∙ rw (← e)) ∙ later_later i 1 _;
+          same = w.same ∙ ap (later i) (ap (up_to (Count value) []) (step bytes i h) ∙ count_step value [] (get_or bytes i 0) (drop (i + 1) bytes) d.0 ∙ rw d.1) ∙ later_later i 1 _;
         }
-
-pub ruleset counting_laws = (counting_start, counting_end, counting_off, counting_digit, counting_on)

@@ -1,9 +1,8 @@
 -- However a stream is cut: the statements, to be read without their proofs, which are in proofs/Cutting.antt.
-use Rattle.std.specs.Prelude.{ℕ, ◌≤◌, ◌<◌, ◌≡◌, List, [], ◌∷◌, ◌++◌, eqb, length, take, drop, if◌then◌else◌}
+use Rattle.std.specs.Prelude.{ℕ, ◌≤◌, ◌<◌, ◌≡◌, List, [], ◌∷◌, ◌++◌, eqb, length, take, drop, if◌then◌else◌, Ok}
 use Rattle.record.specs.Limits.{line_limit}
 use Rattle.record.specs.Refusals.{refusal_number}
 use Rattle.stream.specs.declared.State.{State}
-use Rattle.stream.specs.declared.Started.TheVariants.{Ready}
 use Rattle.stream.specs.declared.Event.{Event}
 use Rattle.stream.specs.declared.Event.TheVariants.{More, Frame, Refused}
 use Rattle.stream.specs.declared.Fed.{Fed}
@@ -53,7 +52,7 @@ ends es t last = record { heard = es; next = t; content = held t last }
 -- However a stream is cut, what is seen of it, the state at its end and the content that is then held are those of the machine on the whole stream.
 abbrev pub CutAnyhow : Type 0
 CutAnyhow = (kind : ℕ) (s t : State) (buffer last : List ℕ) (pieces : List (List ℕ)) (es : List Says)
-    → start_of kind ≡ Ready s → FeedCalls s buffer pieces es t last → whole s [] (joined pieces) ≡ ends es t last
+    → start_of kind ≡ Ok s → FeedCalls s buffer pieces es t last → whole s [] (joined pieces) ≡ ends es t last
 
 -- The same from any state on, with the content that the buffer holds.
 abbrev pub CutFromAnywhere : Type 0
@@ -94,4 +93,4 @@ pub record InNumbers (s : State) (pieces : List (List ℕ)) (es : List Says) (y 
 
 abbrev pub CutInNumbers : Type 0
 CutInNumbers = (kind : ℕ) (s : State) (y : StreamState) (buffer last : List ℕ) (pieces : List (List ℕ)) (es : List Says)
-    → start_of kind ≡ Ready s → NumberCalls (numbers_of s) buffer pieces es y last → InNumbers s pieces es y last
+    → start_of kind ≡ Ok s → NumberCalls (numbers_of s) buffer pieces es y last → InNumbers s pieces es y last

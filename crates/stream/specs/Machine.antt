@@ -1,12 +1,11 @@
 -- The machine that takes a stream a byte at a time: what it holds, what it says, and where it then stands.
-use Rattle.std.specs.Prelude.{ℕ, suc, ◌+◌, ◌-◌, ◌*◌, Bool, ◌&&◌, not, List, [], ◌∷◌, ◌++◌, eqb, leb, ltb, length, if◌then◌else◌}
+use Rattle.std.specs.Prelude.{ℕ, suc, ◌+◌, ◌-◌, ◌*◌, Bool, ◌&&◌, not, List, [], ◌∷◌, ◌++◌, eqb, leb, ltb, length, if◌then◌else◌, Result, Ok, Err}
 use Rattle.base.specs.Choose.{within}
 use Rattle.record.specs.Limits.{line_limit}
 use Rattle.record.specs.declared.Refusal.TheVariants.{BadSetting}
 use Rattle.stream.specs.declared.State.{State}
 use Rattle.stream.specs.declared.State.TheVariants.{Count, Content, Line, Ended}
-use Rattle.stream.specs.declared.Started.{Started}
-use Rattle.stream.specs.declared.Started.TheVariants.{Ready, Refused}
+use Rattle.record.specs.declared.Refusal.{Refusal}
 
 -- ---- where it stands
 
@@ -18,11 +17,11 @@ use Rattle.stream.specs.declared.Started.TheVariants.{Ready, Refused}
 -- machine never makes, is as 1.
 
 -- the state at the start of a stream, and at its restart: kind 0 is counted, 1 lines
-unfoldable pub start_of : ℕ → Started
+unfoldable pub start_of : ℕ → Result State Refusal
 start_of kind =
-    if eqb kind 0 then Ready (Count 0)
-    else if eqb kind 1 then Ready (Line 0)
-    else Refused BadSetting
+    if eqb kind 0 then Ok (Count 0)
+    else if eqb kind 1 then Ok (Line 0)
+    else Err BadSetting
 
 -- the content bytes of an unfinished frame, passed over or not
 abbrev pub unfinished : State → ℕ

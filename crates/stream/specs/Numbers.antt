@@ -1,12 +1,10 @@
 -- States and answers in numbers, as a C caller has them.
-use Rattle.std.specs.Prelude.{ℕ, ◌≤◌, ◌<◌, ◌≡◌, true, ◌||◌, List, eqb, length, drop, if◌then◌else◌}
+use Rattle.std.specs.Prelude.{ℕ, ◌≤◌, ◌<◌, ◌≡◌, true, ◌||◌, List, eqb, length, drop, if◌then◌else◌, Result, Ok, Err}
 use Rattle.record.specs.Limits.{line_limit}
 use Rattle.record.specs.Refusals.{refusal_number}
 use Rattle.record.specs.declared.Refusal.TheVariants.{BadSetting, OutputShort}
 use Rattle.stream.specs.declared.State.{State}
 use Rattle.stream.specs.declared.State.TheVariants.{Count, Content, Line, Ended}
-use Rattle.stream.specs.declared.Started.{Started}
-use Rattle.stream.specs.declared.Started.TheVariants as started
 use Rattle.stream.specs.declared.Event.{Event}
 use Rattle.stream.specs.declared.Event.TheVariants.{More, Frame, Refused}
 use Rattle.stream.specs.declared.Fed.{Fed}
@@ -16,6 +14,7 @@ use Rattle.stream.specs.declared.FeedAnswer.{FeedAnswer}
 use Rattle.stream.specs.declared.FinishAnswer.{FinishAnswer}
 use Rattle.stream.specs.Machine.{unfinished}
 use Rattle.stream.specs.Feeds.{Feeds}
+use Rattle.record.specs.declared.Refusal.{Refusal}
 
 -- ---- a state
 
@@ -27,20 +26,20 @@ numbers_of (Line n) = record { stage = 3; left = 0; came = n }
 numbers_of Ended = record { stage = 4; left = 0; came = 0 }
 
 -- Any other stage, 0 too, is of no kind of stream. What a stage does not use is of no account.
-abbrev pub state_of : StreamState → Started
+abbrev pub state_of : StreamState → Result State Refusal
 state_of x =
-    if eqb x.stage 1 then started.Ready (Count x.left)
-    else if eqb x.stage 2 then started.Ready (Content x.left x.came)
-    else if eqb x.stage 3 then started.Ready (Line x.came)
-    else if eqb x.stage 4 then started.Ready Ended
-    else started.Refused BadSetting
+    if eqb x.stage 1 then Ok (Count x.left)
+    else if eqb x.stage 2 then Ok (Content x.left x.came)
+    else if eqb x.stage 3 then Ok (Line x.came)
+    else if eqb x.stage 4 then Ok Ended
+    else Err BadSetting
 
 -- ---- the start
 
 -- the number is 0 or that of the refusal, which has a state of zeros
-abbrev pub start_answer_of : Started → StartAnswer
-start_answer_of (started.Ready s) = record { number = 0; state = numbers_of s }
-start_answer_of (started.Refused f) = record { number = refusal_number f; state = record { stage = 0; left = 0; came = 0 } }
+abbrev pub start_answer_of : Result State Refusal → StartAnswer
+start_answer_of (Ok s) = record { number = 0; state = numbers_of s }
+start_answer_of (Err f) = record { number = refusal_number f; state = record { stage = 0; left = 0; came = 0 } }
 
 -- ---- bytes
 
@@ -56,9 +55,9 @@ feed_answer_of r = feed_answer r.taken (numbers_of r.state) r.event
 -- A call on numbers. A stage that is none is refused first, then a buffer under 8,192 bytes: nothing is taken, and state and buffer are as they were. Else
 -- the bytes are fed to the machine.
 pub data Splits (x : StreamState) (bytes old : List ℕ) (a : FeedAnswer) (new : List ℕ) : Type 0 where
-  no_state : state_of x ≡ started.Refused BadSetting → a ≡ feed_answer 0 x (Refused BadSetting) → new ≡ old → Splits x bytes old a new
-  short : (s : State) → state_of x ≡ started.Ready s → length old < line_limit → a ≡ feed_answer 0 x (Refused OutputShort) → new ≡ old → Splits x bytes old a new
-  splits : (s : State) → state_of x ≡ started.Ready s → line_limit ≤ length old → (r : Fed) → Feeds s bytes old r new → a ≡ feed_answer_of r → Splits x bytes old a new
+  no_state : state_of x ≡ Err BadSetting → a ≡ feed_answer 0 x (Refused BadSetting) → new ≡ old → Splits x bytes old a new
+  short : (s : State) → state_of x ≡ Ok s → length old < line_limit → a ≡ feed_answer 0 x (Refused OutputShort) → new ≡ old → Splits x bytes old a new
+  splits : (s : State) → state_of x ≡ Ok s → line_limit ≤ length old → (r : Fed) → Feeds s bytes old r new → a ≡ feed_answer_of r → Splits x bytes old a new
 
 -- any two results that it allows are equal
 abbrev pub OneAnswer : Type 0
@@ -85,6 +84,6 @@ StaysEnded = (bytes old : List ℕ) (a : FeedAnswer) (new : List ℕ) → line_l
 
 -- ---- the end
 
-abbrev pub finish_answer_of : Started → FinishAnswer
-finish_answer_of (started.Ready s) = record { number = 0; unfinished = unfinished s }
-finish_answer_of (started.Refused f) = record { number = refusal_number f; unfinished = 0 }
+abbrev pub finish_answer_of : Result State Refusal → FinishAnswer
+finish_answer_of (Ok s) = record { number = 0; unfinished = unfinished s }
+finish_answer_of (Err f) = record { number = refusal_number f; unfinished = 0 }

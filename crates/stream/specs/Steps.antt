@@ -20,9 +20,6 @@ unfoldable pub keeps : List ℕ → List ℕ → List ℕ
 keeps c [] = c
 keeps c (b ∷ xs) = keeps (keep c b) xs
 
-abbrev pub smallest : ℕ → ℕ → ℕ
-smallest a b = if leb a b then a else b
-
 -- how many bytes of a counted frame are to come
 abbrev pub to_come : ℕ → ℕ
 to_come left = if leb left 1 then 1 else left
@@ -31,10 +28,10 @@ to_come left = if leb left 1 then 1 else left
 abbrev pub not_lf : ℕ → Bool
 not_lf b = not (eqb b 10)
 
--- the first k of `bytes` are content, behind n bytes of it: how many there are then, and the buffer
-pub record Grew (n : ℕ) (bytes : List ℕ) (k : ℕ) (old : List ℕ) (r : ℕ) (new : List ℕ) : Type 0 where
-  pub number : r ≡ mores n k
-  pub holds : new ≡ filled (keeps (take (kept n) old) (take k bytes)) old
+-- content bytes behind n of them: how many there are then, and the buffer
+pub record Grew (n : ℕ) (content old : List ℕ) (r : ℕ) (new : List ℕ) : Type 0 where
+  pub number : r ≡ mores n (length content)
+  pub holds : new ≡ filled (keeps (take (kept n) old) content) old
 
 -- the digits at the front of `bytes`, behind a count of v: how many they are, and the count with them
 pub record Counted (v : ℕ) (bytes : List ℕ) (r : Digits) : Type 0 where

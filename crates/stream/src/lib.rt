@@ -1,12 +1,13 @@
 // The splitter: octet-counted and LF streams, fed any number of bytes at a time. One frame is held, at the front of a lent buffer.
 #![tactic(auto)]
 
-ghost use Rattle.std.specs.Prelude.{◌≡◌, ◌+◌, ◌*◌, ◌-◌, ◌≤◌, ◌<◌, true, [], length, drop};
+ghost use Rattle.std.specs.Prelude.{◌≡◌, ◌+◌, ◌*◌, ◌-◌, ◌≤◌, [], length, drop, if◌then◌else◌};
+ghost use Rattle.std.specs.List.{prefix_len};
 ghost use Rattle.base.specs.Runs.{run, eight};
 ghost use Rattle.record.specs.Limits.{line_limit};
 ghost use Rattle.stream.specs.Machine.{start_of, unfinished, digit_on, space_on, up_to};
 ghost use Rattle.stream.specs.Feeds.{answer_of, Feeds, Served};
-ghost use Rattle.stream.specs.Steps.{mores, smallest, to_come, not_lf, Grew, Counted, end_fed};
+ghost use Rattle.stream.specs.Steps.{mores, to_come, not_lf, Grew, Counted, end_fed};
 ghost use Rattle.stream.specs.Numbers.{numbers_of, state_of, start_answer_of, feed_answer, feed_answer_of, finish_answer_of, Splits};
 
 use record::Refusal;
@@ -22,13 +23,6 @@ pub enum State {
     Line(u32),
     // after a bad count
     Ended,
-}
-
-// The state at the start of a stream, or why there is none.
-#[derive(Clone, Copy)]
-pub enum Started {
-    Ready(State),
-    Refused(Refusal),
 }
 
 // What a call tells: nothing; a frame, which lies at the buffer's front, and its length; or a refusal.
@@ -83,16 +77,15 @@ pub struct FinishAnswer {
 }
 
 // The state at the start of a stream, and at its restart. Kind 0 is counted, 1 lines.
-pub fn start(kind: u32) -> Started
+#[tactic(auto, unfolding(crate::specs::Machine::start_of))]
+pub fn start(kind: u32) -> Result<State, Refusal>
     ensures { result ≡ start_of kind }
 {
-    if kind == 0 {
-        return Started::Ready(State::Count(0));
+    match kind {
+        0 => Ok(State::Count(0)),
+        1 => Ok(State::Line(0)),
+        _ => Err(Refusal::BadSetting),
     }
-    if kind == 1 {
-        return Started::Ready(State::Line(0));
-    }
-    Started::Refused(Refusal::BadSetting)
 }
 
 // At the end of the stream: the content bytes of an unfinished frame.
@@ -100,18 +93,9 @@ pub fn finish(state: State) -> u32
     ensures { result ≡ unfinished state }
 {
     match state {
-        State::Count(_) => 0,
-        State::Content(_, n) => n,
-        State::Line(n) => n,
-        State::Ended => 0,
+        State::Count(_) | State::Ended => 0,
+        State::Content(_, n) | State::Line(n) => n,
     }
-}
-
-// The smaller of the two.
-fn smaller(a: usize, b: usize) -> usize
-    ensures { result ≡ smallest a b }
-{
-    if a <= b { a } else { b }
 }
 
 // Whether none of the eight bytes from place `i` on is LF. All are asked, so that the compiler makes one test of them.
@@ -145,41 +129,37 @@ fn free_front(s: &[u8]) -> usize
     i
 }
 
+// How many bytes come before the first LF, one by one.
+fn before_lf(s: &[u8]) -> usize
+    ensures { result ≡ prefix_len not_lf s.now }
+{
+    s.iter().take_while(|b| **b != 10).count()
+}
+
 // How many bytes come before the first LF.
 fn line_front(s: &[u8]) -> usize
     ensures { result ≡ run not_lf s.now }
 {
-    let mut i = free_front(s);
-    while i < s.len() {
-        if s[i] == 10 {
-            return i;
-        }
-        i += 1;
-    }
-    i
+    let i = free_front(s);
+    i + before_lf(base::past(s, i))
 }
 
 // `k` content bytes more.
 fn grown(n: u32, k: usize) -> u32
     ensures { result ≡ mores n k }
 {
-    let room = (u32::MAX - n) as usize;
-    if k <= room {
-        return n + (k as u32);
-    }
-    u32::MAX
+    n.saturating_add(u32::try_from(k).unwrap_or(u32::MAX))
 }
 
-// The first `k` bytes are content, behind `n` bytes of it: they go into the buffer as far as 8,192.
-fn hold(n: u32, bytes: &[u8], k: usize, buffer: &mut [u8]) -> u32
-    requires line_limit_in_bounds { line_limit ≤ length buffer.old }
-    requires k_in_bounds { k ≤ length bytes.now }
-    ensures { Grew n bytes.now k buffer.old result buffer.new }
+// Content bytes behind `n` of them: they go into the buffer as far as 8,192.
+fn hold(n: u32, content: &[u8], buffer: &mut [u8]) -> u32
+    requires { line_limit ≤ length buffer.old }
+    ensures { Grew n content.now buffer.old result buffer.new }
 {
-    let at = smaller(n as usize, record::LINE_LIMIT);
-    let m = smaller(k, record::LINE_LIMIT - at);
-    output::put_text(buffer, at, &bytes[0..m]);
-    grown(n, k)
+    let at = record::LINE_LIMIT.min(n as usize);
+    let m = (record::LINE_LIMIT - at).min(content.len());
+    output::put_text(buffer, at, &content[..m]);
+    grown(n, content.len())
 }
 
 // A frame of `n` content bytes has ended, or one that was passed over.
@@ -187,17 +167,15 @@ fn ended(state: State, taken: usize, n: u32) -> Fed
     ensures { result ≡ end_fed state taken n }
 {
     let len = n as usize;
-    if len <= record::LINE_LIMIT {
-        return Fed {
-            state,
-            taken,
-            event: Event::Frame(len),
-        };
-    }
+    let event = if len <= record::LINE_LIMIT {
+        Event::Frame(len)
+    } else {
+        Event::Refused(Refusal::FrameTooLong)
+    };
     Fed {
         state,
         taken,
-        event: Event::Refused(Refusal::FrameTooLong),
+        event,
     }
 }
 
@@ -207,14 +185,15 @@ fn from_line(n: u32, bytes: &[u8], buffer: &mut [u8]) -> Fed
     ensures { Feeds (State.Line n) bytes.now buffer.old result buffer.new }
 {
     let k = line_front(bytes);
-    let m = hold(n, bytes, k, buffer);
+    let m = hold(n, &bytes[..k], buffer);
     if k < bytes.len() {
-        return ended(State::Line(0), k + 1, m);
-    }
-    Fed {
-        state: State::Line(m),
-        taken: k,
-        event: Event::More,
+        ended(State::Line(0), k + 1, m)
+    } else {
+        Fed {
+            state: State::Line(m),
+            taken: k,
+            event: Event::More,
+        }
     }
 }
 
@@ -222,15 +201,7 @@ fn from_line(n: u32, bytes: &[u8], buffer: &mut [u8]) -> Fed
 fn to_come(left: u32) -> usize
     ensures { result ≡ to_come left }
 {
-    if left <= 1 { 1 } else { left as usize }
-}
-
-// `left` less `k`.
-fn minus(left: u32, k: usize) -> u32
-    requires { k ≤ left }
-    ensures { result ≡ left - k }
-{
-    left - k as u32
+    (left as usize).max(1)
 }
 
 // `feed` in a counted frame: `left` bytes are to come and `n` have come.
@@ -239,16 +210,17 @@ fn from_content(left: u32, n: u32, bytes: &[u8], buffer: &mut [u8]) -> Fed
     ensures { Feeds (State.Content left n) bytes.now buffer.old result buffer.new }
 {
     let all = to_come(left);
-    let k = smaller(bytes.len(), all);
-    let m = hold(n, bytes, k, buffer);
+    let k = bytes.len().min(all);
+    let m = hold(n, &bytes[..k], buffer);
     if k < all {
-        return Fed {
-            state: State::Content(minus(left, k), m),
+        Fed {
+            state: State::Content(left - k as u32, m),
             taken: k,
             event: Event::More,
-        };
+        }
+    } else {
+        ended(State::Count(0), k, m)
     }
-    ended(State::Count(0), k, m)
 }
 
 // A count, and how many bytes of it were at the front.
@@ -258,19 +230,15 @@ struct Digits {
     taken: usize,
 }
 
-// Whether the byte goes on with the count `v`.
-fn digit_on(v: u32, b: u8) -> bool
-    ensures { result ≡ digit_on v b }
+// The count `v` with the byte as a digit more, where it goes on with it.
+fn with_digit(v: u32, b: u8) -> Option<u32>
+    ensures { result ≡ (if digit_on v b then Some (v * 10 + (b - 48)) else None) }
 {
-    base::in_range(48, 57, b) & (v < 100_000) & !((v == 0) & (b == 48))
-}
-
-// The count with that digit.
-fn with_digit(v: u32, b: u8) -> u32
-    requires { digit_on v b ≡ true }
-    ensures { result ≡ v * 10 + (b - 48) }
-{
-    v * 10 + (b - 48) as u32
+    if base::in_range(48, 57, b) & (v < 100_000) & !((v == 0) & (b == 48)) {
+        Some(v * 10 + u32::from(b - 48))
+    } else {
+        None
+    }
 }
 
 // The digits at the front that go on with the count `v`.
@@ -278,23 +246,23 @@ fn count_front(v: u32, bytes: &[u8]) -> Digits
     ensures { Counted v bytes.now result }
 {
     let mut value = v;
-    let mut i = 0;
-    while i < bytes.len() {
-        let b = bytes[i];
-        if !digit_on(value, b) {
+    for (i, b) in bytes.iter().enumerate() {
+        let Some(more) = with_digit(value, *b) else {
             return Digits { value, taken: i };
-        }
-        value = with_digit(value, b);
-        i += 1;
+        };
+        value = more;
     }
-    Digits { value, taken: i }
+    Digits {
+        value,
+        taken: bytes.len(),
+    }
 }
 
 // Whether the byte ends the count `v`.
 fn space_on(v: u32, b: u8) -> bool
     ensures { result ≡ space_on v b }
 {
-    (b == 32) & !(v == 0)
+    (b == 32) & (v != 0)
 }
 
 // `feed` before a counted frame's content.
@@ -302,31 +270,25 @@ fn from_count(v: u32, bytes: &[u8], buffer: &mut [u8]) -> Fed
     requires { line_limit ≤ length buffer.old }
     ensures { Feeds (State.Count v) bytes.now buffer.old result buffer.new }
 {
-    let d = count_front(v, bytes);
-    let i = d.taken;
-    let w = d.value;
-    if bytes.len() <= i {
+    let Digits { value, taken } = count_front(v, bytes);
+    let Some((b, rest)) = base::past(bytes, taken).split_first() else {
         return Fed {
-            state: State::Count(w),
-            taken: i,
+            state: State::Count(value),
+            taken,
             event: Event::More,
         };
-    }
-    if !space_on(w, bytes[i]) {
+    };
+    if !space_on(value, *b) {
         return Fed {
             state: State::Ended,
-            taken: i + 1,
+            taken: taken + 1,
             event: Event::Refused(Refusal::BadCount),
         };
     }
-    let r = from_content(w, 0, base::past(bytes, i + 1), buffer);
-    let state = r.state;
-    let taken = i + 1 + r.taken;
-    let event = r.event;
+    let r = from_content(value, 0, rest, buffer);
     Fed {
-        state,
-        taken,
-        event,
+        taken: taken + 1 + r.taken,
+        ..r
     }
 }
 
@@ -334,17 +296,18 @@ fn from_count(v: u32, bytes: &[u8], buffer: &mut [u8]) -> Fed
 fn from_ended(bytes: &[u8]) -> Fed
     ensures { result ≡ answer_of (up_to State.Ended [] bytes.now) }
 {
-    if bytes.len() == 0 {
-        return Fed {
+    if bytes.is_empty() {
+        Fed {
             state: State::Ended,
             taken: 0,
             event: Event::More,
-        };
-    }
-    Fed {
-        state: State::Ended,
-        taken: 1,
-        event: Event::Refused(Refusal::BadCount),
+        }
+    } else {
+        Fed {
+            state: State::Ended,
+            taken: 1,
+            event: Event::Refused(Refusal::BadCount),
+        }
     }
 }
 
@@ -360,54 +323,57 @@ pub fn feed(state: State, bytes: &[u8], buffer: &mut [u8]) -> Fed
         };
     }
     match state {
-        State::Count(v) => return from_count(v, bytes, buffer),
-        State::Content(left, n) => return from_content(left, n, bytes, buffer),
-        State::Line(n) => return from_line(n, bytes, buffer),
-        State::Ended => return from_ended(bytes),
+        State::Count(v) => from_count(v, bytes, buffer),
+        State::Content(left, n) => from_content(left, n, bytes, buffer),
+        State::Line(n) => from_line(n, bytes, buffer),
+        State::Ended => from_ended(bytes),
     }
 }
 
 // ---- for C
 
-// The numbers of a state.
-fn numbers_of(state: State) -> StreamState
-    ensures { result ≡ numbers_of state }
-{
-    match state {
-        State::Count(v) => StreamState {
-            stage: 1,
-            left: v,
-            came: 0,
-        },
-        State::Content(left, n) => StreamState {
-            stage: 2,
-            left,
-            came: n,
-        },
-        State::Line(n) => StreamState {
-            stage: 3,
-            left: 0,
-            came: n,
-        },
-        State::Ended => StreamState {
-            stage: 4,
-            left: 0,
-            came: 0,
-        },
+impl From<State> for StreamState {
+    ghost from_gives = { λ s r. r ≡ numbers_of s };
+
+    fn from(state: State) -> StreamState {
+        match state {
+            State::Count(v) => StreamState {
+                stage: 1,
+                left: v,
+                came: 0,
+            },
+            State::Content(left, n) => StreamState {
+                stage: 2,
+                left,
+                came: n,
+            },
+            State::Line(n) => StreamState {
+                stage: 3,
+                left: 0,
+                came: n,
+            },
+            State::Ended => StreamState {
+                stage: 4,
+                left: 0,
+                came: 0,
+            },
+        }
     }
 }
 
-// The state that the numbers are.
-fn state_of(x: StreamState) -> Started
-    ensures { result ≡ state_of x }
-{
-    let stage = x.stage;
-    match stage {
-        1 => Started::Ready(State::Count(x.left)),
-        2 => Started::Ready(State::Content(x.left, x.came)),
-        3 => Started::Ready(State::Line(x.came)),
-        4 => Started::Ready(State::Ended),
-        _ => Started::Refused(Refusal::BadSetting),
+impl TryFrom<StreamState> for State {
+    type Error = Refusal;
+
+    ghost try_from_gives = { λ x r. r ≡ state_of x };
+
+    fn try_from(x: StreamState) -> Result<State, Refusal> {
+        Ok(match x.stage {
+            1 => State::Count(x.left),
+            2 => State::Content(x.left, x.came),
+            3 => State::Line(x.came),
+            4 => State::Ended,
+            _ => return Err(Refusal::BadSetting),
+        })
     }
 }
 
@@ -415,14 +381,13 @@ fn state_of(x: StreamState) -> Started
 pub fn start_numbers(kind: u32) -> StartAnswer
     ensures { result ≡ start_answer_of (start_of kind) }
 {
-    let started = start(kind);
-    match started {
-        Started::Ready(s) => StartAnswer {
+    match start(kind) {
+        Ok(s) => StartAnswer {
             number: 0,
-            state: numbers_of(s),
+            state: StreamState::from(s),
         },
-        Started::Refused(f) => StartAnswer {
-            number: record::refusal_number(f),
+        Err(f) => StartAnswer {
+            number: u32::from(f),
             state: StreamState {
                 stage: 0,
                 left: 0,
@@ -436,52 +401,32 @@ pub fn start_numbers(kind: u32) -> StartAnswer
 fn told(taken: usize, state: StreamState, event: Event) -> FeedAnswer
     ensures { result ≡ feed_answer taken state event }
 {
-    match event {
-        Event::More => FeedAnswer {
-            number: 0,
-            frame: 0,
-            taken,
-            len: 0,
-            state,
-        },
-        Event::Frame(len) => FeedAnswer {
-            number: 0,
-            frame: 1,
-            taken,
-            len,
-            state,
-        },
-        Event::Refused(f) => FeedAnswer {
-            number: record::refusal_number(f),
-            frame: 0,
-            taken,
-            len: 0,
-            state,
-        },
+    let (number, frame, len) = match event {
+        Event::More => (0, 0, 0),
+        Event::Frame(len) => (0, 1, len),
+        Event::Refused(f) => (u32::from(f), 0, 0),
+    };
+    FeedAnswer {
+        number,
+        frame,
+        taken,
+        len,
+        state,
     }
-}
-
-// What `feed` answers, in numbers.
-fn told_of(r: Fed) -> FeedAnswer
-    ensures { result ≡ feed_answer_of r }
-{
-    let state = r.state;
-    let event = r.event;
-    told(r.taken, numbers_of(state), event)
 }
 
 // `feed` in numbers.
 pub fn feed_numbers(x: StreamState, bytes: &[u8], buffer: &mut [u8]) -> FeedAnswer
     ensures { Splits x bytes.now buffer.old result buffer.new }
 {
-    let started = state_of(x);
-    match started {
-        Started::Refused(f) => return told(0, x, Event::Refused(f)),
-        Started::Ready(s) => {
-            if buffer.len() < record::LINE_LIMIT {
-                return told(0, x, Event::Refused(Refusal::OutputShort));
-            }
-            return told_of(feed(s, bytes, buffer));
+    match State::try_from(x) {
+        Err(f) => told(0, x, Event::Refused(f)),
+        Ok(_) if buffer.len() < record::LINE_LIMIT => {
+            told(0, x, Event::Refused(Refusal::OutputShort))
+        }
+        Ok(s) => {
+            let r = feed(s, bytes, buffer);
+            told(r.taken, StreamState::from(r.state), r.event)
         }
     }
 }
@@ -490,14 +435,13 @@ pub fn feed_numbers(x: StreamState, bytes: &[u8], buffer: &mut [u8]) -> FeedAnsw
 pub fn finish_numbers(x: StreamState) -> FinishAnswer
     ensures { result ≡ finish_answer_of (state_of x) }
 {
-    let started = state_of(x);
-    match started {
-        Started::Ready(s) => FinishAnswer {
+    match State::try_from(x) {
+        Ok(s) => FinishAnswer {
             number: 0,
             unfinished: finish(s),
         },
-        Started::Refused(f) => FinishAnswer {
-            number: record::refusal_number(f),
+        Err(f) => FinishAnswer {
+            number: u32::from(f),
             unfinished: 0,
         },
     }

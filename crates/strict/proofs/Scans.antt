@@ -1,4 +1,6 @@
 -- The first pass: what its pieces answer, and the division that they make.
+use Rattle.std.specs.Prelude as std
+use Rattle.std.specs.Prelude.{Some, None}
 use Prim.Native.Nat.{ℕ, ◌+◌, ◌-◌, ◌^◌, ◌≤◌, ◌<◌}
 use mathlib.Core.Path.{◌≡◌, refl, sym, ap, ◌∙◌}
 use mathlib.Core.Bool.{true, false}
@@ -19,13 +21,10 @@ use Rattle.grammar.proofs.Header.{full_reads, header_then, HeaderOk, header_read
 use Rattle.grammar.proofs.Data.{data_reads}
 use Rattle.strict_header.specs.Header.{header_at, heading, text_place}
 use Rattle.strict_header.specs.declared.HeaderAt.{HeaderAt}
-use Rattle.strict_header.specs.declared.Heading.{Heading}
-use Rattle.strict_header.specs.declared.Heading.TheVariants.{NoHeader, IsHeader}
 use Rattle.strict_header.proofs.Callers.{header_none, header_some, header_within, prival_to}
 use Rattle.strict_header.proofs.Steps.{finds_ok}
 use Rattle.strict_data.specs.Counts.{counts_of, tail_of}
 use Rattle.strict_data.specs.declared.Counts.{Counts}
-use Rattle.strict_data.specs.declared.Counts.TheVariants.{NoData, IsData}
 use Rattle.strict_data.specs.declared.Tail.{Tail}
 use Rattle.strict_data.specs.declared.Tail.TheVariants.{NoTail, NoMessage, IsMessage}
 use Rattle.strict_data.proofs.Answers.{FindsTail, finds_data, misses_data, finds_message, finds_none, misses_tail}
@@ -33,7 +32,7 @@ use Rattle.strict_data.proofs.Counting.{data_within}
 use Rattle.record.specs.declared.Span.{Span}
 use Rattle.record.specs.declared.StrictRecord.{StrictRecord}
 use Rattle.strict.specs.Scan.{record_with, scan_of}
-use Rattle.strict.specs.declared.Scan.TheVariants.{NoScan, IsScan}
+use Rattle.strict.specs.declared.Scan.{Scan}
 
 -- how far the header goes
 stamp_length : (o : Option Timestamp) (r : List ℕ) → TimestampOk o → length (timestamp_then o r) ≡ length (timestamp_then o []) + length r
@@ -59,17 +58,17 @@ same_record h j len es m p a l ep = rw (ep, a, l, text_place_lem (division_of (h
 
 -- the pieces of a division
 module _ (s : List ℕ) where
-  no_header : header s ≡ failed → NoScan ≡ scan_of (parse s)
+  no_header : header s ≡ failed → None ≡ scan_of (parse s)
   unfolding parse ◌next◌ into
   no_header e = rw e
 
   module _ (h : Header) (n : ℕ) (e : header s ≡ found h n) where
-    no_data_lem : structured (drop n s) ≡ failed → NoScan ≡ scan_of (parse s)
+    no_data_lem : structured (drop n s) ≡ failed → None ≡ scan_of (parse s)
     unfolding parse ◌next◌ into
     no_data_lem q = rw (e, q)
 
     module _ (es : List Element) (l : ℕ) (q : structured (drop n s) ≡ found es l) where
-      no_tail : message (drop l (drop n s)) ≡ failed → NoScan ≡ scan_of (parse s)
+      no_tail : message (drop l (drop n s)) ≡ failed → None ≡ scan_of (parse s)
       unfolding parse ◌next◌ into
       no_tail w = rw (e, q, w)
 
@@ -84,18 +83,18 @@ unfolding message choose at_end
 message_there [] m b e = let z : true ≡ false = cc in clash z
 message_there (x ∷ v) m b e = omega arith
 
-module _ (s : List ℕ) (f : Heading) (e : f ≡ heading (header s)) where
-  pub scan_no_header : f ≡ NoHeader → NoScan ≡ scan_of (parse s)
+module _ (s : List ℕ) (f : std.Option HeaderAt) (e : f ≡ heading (header s)) where
+  pub scan_no_header : f ≡ None → None ≡ scan_of (parse s)
   scan_no_header h = no_header s (header_none s f e h).is
 
-  module _ (x : HeaderAt) (h : f ≡ IsHeader x) (u : List ℕ) (eu : u ≡ drop x.next s) (g : Counts) (eg : g ≡ counts_of (structured u)) where
-    pub scan_no_data : g ≡ NoData → NoScan ≡ scan_of (parse s)
+  module _ (x : HeaderAt) (h : f ≡ Some x) (u : List ℕ) (eu : u ≡ drop x.next s) (g : std.Option Counts) (eg : g ≡ counts_of (structured u)) where
+    pub scan_no_data : g ≡ None → None ≡ scan_of (parse s)
     scan_no_data z =
         let w = header_some s f e x h in
         no_data_lem s w.value x.next w.is (rw (← eu) (misses_data (structured u) g eg z))
 
-    module _ (len n k : ℕ) (hg : g ≡ IsData len n k) (v : List ℕ) (ev : v ≡ drop len u) (t : Tail) (et : t ≡ tail_of (message v)) where
-      pub scan_no_tail : t ≡ NoTail → NoScan ≡ scan_of (parse s)
+    module _ (len n k : ℕ) (hg : g ≡ Some (record { len = len; elements = n; params = k })) (v : List ℕ) (ev : v ≡ drop len u) (t : Tail) (et : t ≡ tail_of (message v)) where
+      pub scan_no_tail : t ≡ NoTail → None ≡ scan_of (parse s)
       scan_no_tail z =
           let w = header_some s f e x h in
           let d = finds_data (structured u) g eg hg in
@@ -103,7 +102,7 @@ module _ (s : List ℕ) (f : Heading) (e : f ≡ heading (header s)) where
 
       -- the scan of a division with the message m, whose place is p
       scanned : (m : Option (List ℕ)) (p : Span) (r : StrictRecord) → FindsTail (message v) m → p ≡ message_span (x.next + len) m
-          → r ≡ record_with x p (message_flag m) → IsScan r x.next len n k ≡ scan_of (parse s)
+          → r ≡ record_with x p (message_flag m) → Some (record { reading = r; at = x.next; len = len; elements = n; params = k }) ≡ scan_of (parse s)
       scanned m p r q ep er =
           let w = finds_ok (header_some s f e x h) header_reads in
           let d = finds_data (structured u) g eg hg in
@@ -113,14 +112,14 @@ module _ (s : List ℕ) (f : Heading) (e : f ≡ heading (header s)) where
           let l : len ≡ length (data_then es []) = (data_reads.sound u es len d.is).size in
           let is : header_at w.value x.next ≡ x = w.has.0 in
           let same : r ≡ record_of c = er ∙ ap (λ (y : HeaderAt). record_with y p (message_flag m)) (sym is) ∙ same_record w.value x.next len es m p a l ep in
-          (λ i. IsScan (same i) (a i) (l i) (d.counted i) (d.params_counted i))
+          (λ i. Some (record { reading = same i; at = a i; len = l i; elements = d.counted i; params = d.params_counted i }))
           ∙ sym (divided s w.value x.next w.is es len (rw (← eu) d.is) m q.bytes (rw (← eu, ← ev) q.is))
 
-      pub scan_none : t ≡ NoMessage → (r : StrictRecord) → r ≡ record_with x (record { start = 0; len = 0 }) false → IsScan r x.next len n k ≡ scan_of (parse s)
+      pub scan_none : t ≡ NoMessage → (r : StrictRecord) → r ≡ record_with x (record { start = 0; len = 0 }) false → Some (record { reading = r; at = x.next; len = len; elements = n; params = k }) ≡ scan_of (parse s)
       scan_none z r er = scanned none _ r (finds_none (message v) t et z) refl er
 
       module _ (z : ℕ) (hz : t ≡ IsMessage z) where
-        pub scan_message : (r : StrictRecord) → r ≡ record_with x (record { start = x.next + len + 1; len = z }) true → IsScan r x.next len n k ≡ scan_of (parse s)
+        pub scan_message : (r : StrictRecord) → r ≡ record_with x (record { start = x.next + len + 1; len = z }) true → Some (record { reading = r; at = x.next; len = len; elements = n; params = k }) ≡ scan_of (parse s)
         scan_message r er =
             let q = finds_message (message v) t z et hz in
             let p : ◌≡◌ {A = Span} (record { start = x.next + len + 1; len = z }) (record { start = x.next + len + 1; len = length q.value }) =

@@ -1,24 +1,19 @@
 -- For private contracts alone: what the first pass keeps of a line that the parser of `grammar` divides: the record, where the structured data stands, and the counts;
 -- and what is answered before a table is touched.
-use Rattle.std.specs.Prelude.{ℕ, ◌/◌, ◌%◌, Bool, true, false, List, [], ltb, length, if◌then◌else◌}
+use Rattle.std.specs.Prelude.{ℕ, ◌/◌, ◌%◌, Bool, true, false, List, [], ltb, length, if◌then◌else◌, Option, Some, None, Result, Ok, Err}
 use Rattle.record.specs.Limits.{line_limit}
 use Rattle.grammar.specs.Line.{Division, data_then}
 use Rattle.grammar.specs.Parse.{Parsed, parse}
 use Rattle.grammar.specs.Parse.Parsed.{failed, found}
 use Rattle.grammar.specs.Reading.{record_of, data_at, param_count}
 use Rattle.strict_header.specs.declared.HeaderAt.{HeaderAt}
-use Rattle.record.specs.declared.Level.TheVariants.{Set}
 use Rattle.record.specs.declared.Protocol.TheVariants.{Rfc5424}
 use Rattle.record.specs.declared.Span.{Span}
 use Rattle.record.specs.declared.StrictRecord.{StrictRecord}
 use Rattle.record.specs.declared.StrictReading.{StrictReading}
-use Rattle.record.specs.declared.StrictReading.TheVariants.{Read, Refused}
 use Rattle.record.specs.declared.Refusal.TheVariants.{LineTooLong, NoReading, TooManyElements, TooManyParams}
-use Rattle.strict.specs.declared.Judged.{Judged}
-use Rattle.strict.specs.declared.Judged.TheVariants.{Refuse, Fitting}
-use Rattle.strict.specs.declared.Data.{Data}
+use Rattle.record.specs.declared.Refusal.{Refusal}
 use Rattle.strict.specs.declared.Scan.{Scan}
-use Rattle.strict.specs.declared.Scan.TheVariants.{NoScan, IsScan}
 
 -- the record of a header and a message
 unfoldable pub record_with : HeaderAt → Span → Bool → StrictRecord
@@ -26,8 +21,8 @@ record_with h message present =
     record {
       common = record {
         protocol = Rfc5424 h.version;
-        facility = Set (h.prival / 8);
-        severity = Set (h.prival % 8);
+        facility = Some (h.prival / 8);
+        severity = Some (h.prival % 8);
         timestamp = h.timestamp;
         host = h.host;
         app = h.app;
@@ -39,34 +34,35 @@ record_with h message present =
       has_message = present;
     }
 
-abbrev pub scan_of : Parsed Division → Scan
-scan_of failed = NoScan
-scan_of (found d n) = IsScan (record_of d) (data_at d) (length (data_then d.elements [])) (length d.elements) (param_count d.elements)
+abbrev pub scan_of : Parsed Division → Option Scan
+scan_of failed = None
+scan_of (found d n) =
+    Some (record {
+      reading = record_of d;
+      at = data_at d;
+      len = length (data_then d.elements []);
+      elements = length d.elements;
+      params = param_count d.elements;
+    })
 
 -- refusals 4, 5 and 6: tables of `e` and `p` entries
-abbrev pub fitting : Scan → ℕ → ℕ → Judged
-fitting NoScan e p = Refuse NoReading
-fitting (IsScan r at len n k) e p =
-    if ltb e n then Refuse TooManyElements
-    else if ltb p k then Refuse TooManyParams
-    else Fitting r at len n k
+abbrev pub fitting : Option Scan → ℕ → ℕ → Result Scan Refusal
+fitting None e p = Err NoReading
+fitting (Some s) e p =
+    if ltb e s.elements then Err TooManyElements
+    else if ltb p s.params then Err TooManyParams
+    else Ok s
 
-unfoldable pub judged : List ℕ → ℕ → ℕ → Judged
-judged line e p = if ltb line_limit (length line) then Refuse LineTooLong else fitting (scan_of (parse line)) e p
+unfoldable pub judged : List ℕ → ℕ → ℕ → Result Scan Refusal
+judged line e p = if ltb line_limit (length line) then Err LineTooLong else fitting (scan_of (parse line)) e p
 
-abbrev pub is_fitting : Judged → Bool
-is_fitting (Refuse f) = false
-is_fitting (Fitting r at len n k) = true
+abbrev pub reading_of : Scan → StrictReading
+reading_of s = record { reading = s.reading; elements = s.elements; params = s.params }
 
--- where the structured data stands that is to be stored
-abbrev pub data_of : Judged → Data
-data_of (Refuse f) = record { from = 0; len = 0 }
-data_of (Fitting r at len n k) = record { from = at; len = len }
-
-abbrev pub reading_of : Judged → StrictReading
-reading_of (Refuse f) = Refused f
-reading_of (Fitting r at len n k) = Read r n k
+abbrev pub told : Result Scan Refusal → Result StrictReading Refusal
+told (Err f) = Err f
+told (Ok s) = Ok (reading_of s)
 
 -- what reading answers to tables of `e` and `p` entries
-unfoldable pub answered : List ℕ → ℕ → ℕ → StrictReading
-answered line e p = reading_of (judged line e p)
+unfoldable pub answered : List ℕ → ℕ → ℕ → Result StrictReading Refusal
+answered line e p = told (judged line e p)

@@ -3,63 +3,52 @@
 
 ghost use Rattle.std.specs.Prelude.{◌≡◌, ◌≤◌, length};
 ghost use Rattle.record.specs.Params.{rows};
-ghost use Rattle.record.specs.declared.StrictReading.TheVariants.{Refused};
 ghost use Rattle.layout.specs.Layout.{strict_size};
 ghost use Rattle.exports.specs.Exports.{LeavesStrict};
 ghost use Rattle.exports.specs.Steps.{StrictTold, StrictShort, StrictLeft};
 
 use record::{Param, ReadAnswer, Refusal, StrictReading};
 
-// What is told of a refusal: with 4, where the line broke.
+// What is told of a refusal: where the line broke, if it has no reading.
 fn told(line: &[u8], refusal: Refusal) -> ReadAnswer
-    ensures { StrictTold line.now (Refused refusal) result }
+    ensures { StrictTold line.now (Err refusal) result }
 {
-    let number = record::refusal_number(refusal);
-    if number == 4 {
-        return ReadAnswer {
-            number,
-            whole: 0,
-            reach: reach::reach(line),
-        };
-    }
+    let reach = match refusal {
+        Refusal::NoReading => reach::reach(line),
+        _ => 0,
+    };
     ReadAnswer {
-        number,
+        number: u32::from(refusal),
         whole: 0,
-        reach: 0,
+        reach,
     }
 }
 
-// What is answered where the record's memory is too short: 8 in place of 0.
-fn short(line: &[u8], r: StrictReading) -> ReadAnswer
+// What is answered where the record's memory is too short: that refusal in place of a reading.
+fn short(line: &[u8], r: Result<StrictReading, Refusal>) -> ReadAnswer
     ensures { StrictShort line.now r result }
 {
     match r {
-        StrictReading::Read(_, _, _) => {
-            return ReadAnswer {
-                number: 8,
-                whole: 0,
-                reach: 0,
-            };
-        }
-        StrictReading::Refused(refusal) => return told(line, refusal),
+        Ok(_) => record::strict_read_answer_of(Err(Refusal::OutputShort)),
+        Err(refusal) => told(line, refusal),
     }
 }
 
 // What is answered, and the record in `memory` where the number is 0.
-fn leave(line: &[u8], r: StrictReading, memory: &mut [u8]) -> ReadAnswer
+fn leave(line: &[u8], r: Result<StrictReading, Refusal>, memory: &mut [u8]) -> ReadAnswer
     requires { strict_size ≤ length memory.old }
     ensures { StrictLeft line.now r memory.old result memory.new }
 {
     match r {
-        StrictReading::Read(read, elements, params) => {
-            layout::put_strict(memory, read, elements, params);
-            return ReadAnswer {
+        Ok(read) => {
+            layout::put_strict(memory, read.reading, read.elements, read.params);
+            ReadAnswer {
                 number: 0,
                 whole: 0,
                 reach: 0,
-            };
+            }
         }
-        StrictReading::Refused(refusal) => return told(line, refusal),
+        Err(refusal) => told(line, refusal),
     }
 }
 
@@ -72,12 +61,10 @@ pub fn khamdoriem_read_strict(
 ) -> ReadAnswer
     ensures { LeavesStrict line.now elements.old (rows params.old) memory.old result elements.new (rows params.new) memory.new }
 {
-    let room = memory.len();
-    if room < layout::STRICT_SIZE {
+    if memory.len() < layout::STRICT_SIZE {
         let e = elements.len();
         let p = params.len();
         return short(line, strict::answer(line, e, p));
     }
-    let r = strict::read(line, elements, params);
-    leave(line, r, memory)
+    leave(line, strict::read(line, elements, params), memory)
 }

@@ -1,6 +1,8 @@
 -- What the answers of the readers say of what the parser finds.
+use Rattle.std.specs.Prelude as std
+use Rattle.std.specs.Prelude.{Some, None}
 use Prim.Native.Nat.{ℕ}
-use mathlib.Core.Path.{◌≡◌, refl}
+use mathlib.Core.Path.{◌≡◌, refl, sym, ap, ◌∙◌}
 use mathlib.Core.Bool.{true, false}
 use mathlib.Core.List.{List}
 use mathlib.Core.Option.{Option, none, some}
@@ -12,14 +14,9 @@ use Rattle.grammar.specs.Parse.Parsed.{failed, found}
 use Rattle.grammar.specs.Reading.{param_count}
 use Rattle.strict_data.specs.Counts.{counts_of, tail_of}
 use Rattle.strict_data.specs.Sizes.{size_of, block_of, params_in, item_of}
-use Rattle.strict_data.specs.declared.Size.{Size}
-use Rattle.strict_data.specs.declared.Size.TheVariants.{Missing, Bytes}
 use Rattle.strict_data.specs.declared.Block.{Block}
-use Rattle.strict_data.specs.declared.Block.TheVariants.{NoBlock, IsBlock}
 use Rattle.strict_data.specs.declared.Item.{Item}
-use Rattle.strict_data.specs.declared.Item.TheVariants.{NoItem, IsItem}
 use Rattle.strict_data.specs.declared.Counts.{Counts}
-use Rattle.strict_data.specs.declared.Counts.TheVariants.{NoData, IsData}
 use Rattle.strict_data.specs.declared.Tail.{Tail}
 use Rattle.strict_data.specs.declared.Tail.TheVariants.{NoTail, NoMessage, IsMessage}
 
@@ -35,11 +32,11 @@ pub record Finds {A : Type 0} (o : Parsed A) (n : ℕ) : Type 0 where
   pub value : A
   pub is : o ≡ found value n
 
-module _ {A : Type 0} (o : Parsed A) (g : Size) (e : g ≡ size_of o) where
-  pub finds : {n : ℕ} → g ≡ Bytes n → Finds o n
+module _ {A : Type 0} (o : Parsed A) (g : std.Option ℕ) (e : g ≡ size_of o) where
+  pub finds : {n : ℕ} → g ≡ Some n → Finds o n
   finds {n} h = told size_of o g e (λ q _. let z : true ≡ false = cc in clash z) (λ a m q r. record { value = a; is = cc })
 
-  pub misses : g ≡ Missing → o ≡ failed
+  pub misses : g ≡ None → o ≡ failed
   misses h = told size_of o g e (λ _ r. r) (λ a m q _. let z : true ≡ false = cc in clash z)
 
 -- ---- a block
@@ -49,11 +46,13 @@ pub record FindsBlock {A : Type 0} (count : A → ℕ) (o : Parsed A) (n k : ℕ
   pub is : o ≡ found value n
   pub counted : k ≡ count value
 
-module _ {A : Type 0} (count : A → ℕ) (o : Parsed A) (g : Block) (e : g ≡ block_of count o) where
-  pub finds_block : {n k : ℕ} → g ≡ IsBlock n k → FindsBlock count o n k
-  finds_block {n} {k} h = told (block_of count) o g e (λ q _. let z : true ≡ false = cc in clash z) (λ a m q r. record { value = a; is = cc; counted = cc })
+module _ {A : Type 0} (count : A → ℕ) (o : Parsed A) (g : std.Option Block) (e : g ≡ block_of count o) where
+  pub finds_block : {n k : ℕ} → g ≡ Some (record { len = n; params = k }) → FindsBlock count o n k
+  finds_block {n} {k} h = told (block_of count) o g e (λ q _. let z : true ≡ false = cc in clash z) (λ a m q r.
+      let z : ◌≡◌ {A = Block} (record { len = n; params = k }) (record { len = m; params = count a }) = cc in
+      record { value = a; is = r ∙ ap (found a) (sym (ap (λ (x : Block). x.len) z)); counted = ap (λ (x : Block). x.params) z })
 
-  pub misses_block : g ≡ NoBlock → o ≡ failed
+  pub misses_block : g ≡ None → o ≡ failed
   misses_block h = told (block_of count) o g e (λ _ r. r) (λ a m q _. let z : true ≡ false = cc in clash z)
 
 -- ---- an element
@@ -64,11 +63,13 @@ pub record FindsItem (o : Parsed Element) (n k d : ℕ) : Type 0 where
   pub counted : k ≡ params_in value
   pub named : d ≡ length value.id
 
-module _ (o : Parsed Element) (g : Item) (e : g ≡ item_of o) where
-  pub finds_item : {n k d : ℕ} → g ≡ IsItem n k d → FindsItem o n k d
-  finds_item {n} {k} {d} h = told item_of o g e (λ q _. let z : true ≡ false = cc in clash z) (λ a m q r. record { value = a; is = cc; counted = cc; named = cc })
+module _ (o : Parsed Element) (g : std.Option Item) (e : g ≡ item_of o) where
+  pub finds_item : {n k d : ℕ} → g ≡ Some (record { len = n; params = k; id = d }) → FindsItem o n k d
+  finds_item {n} {k} {d} h = told item_of o g e (λ q _. let z : true ≡ false = cc in clash z) (λ a m q r.
+      let z : ◌≡◌ {A = Item} (record { len = n; params = k; id = d }) (record { len = m; params = params_in a; id = length a.id }) = cc in
+      record { value = a; is = r ∙ ap (found a) (sym (ap (λ (x : Item). x.len) z)); counted = ap (λ (x : Item). x.params) z; named = ap (λ (x : Item). x.id) z })
 
-  pub misses_item : g ≡ NoItem → o ≡ failed
+  pub misses_item : g ≡ None → o ≡ failed
   misses_item h = told item_of o g e (λ _ r. r) (λ a m q _. let z : true ≡ false = cc in clash z)
 
 -- ---- the structured data
@@ -79,12 +80,14 @@ pub record FindsData (o : Parsed (List Element)) (m n k : ℕ) : Type 0 where
   pub counted : n ≡ length value
   pub params_counted : k ≡ param_count value
 
-module _ (o : Parsed (List Element)) (g : Counts) (e : g ≡ counts_of o) where
-  pub finds_data : {m n k : ℕ} → g ≡ IsData m n k → FindsData o m n k
+module _ (o : Parsed (List Element)) (g : std.Option Counts) (e : g ≡ counts_of o) where
+  pub finds_data : {m n k : ℕ} → g ≡ Some (record { len = m; elements = n; params = k }) → FindsData o m n k
   finds_data {m} {n} {k} h =
-      told counts_of o g e (λ q _. let z : true ≡ false = cc in clash z) (λ es l q r. record { value = es; is = cc; counted = cc; params_counted = cc })
+      told counts_of o g e (λ q _. let z : true ≡ false = cc in clash z) (λ es l q r.
+      let z : ◌≡◌ {A = Counts} (record { len = m; elements = n; params = k }) (record { len = l; elements = length es; params = param_count es }) = cc in
+      record { value = es; is = r ∙ ap (found es) (sym (ap (λ (x : Counts). x.len) z)); counted = ap (λ (x : Counts). x.elements) z; params_counted = ap (λ (x : Counts). x.params) z })
 
-  pub misses_data : g ≡ NoData → o ≡ failed
+  pub misses_data : g ≡ None → o ≡ failed
   misses_data h = told counts_of o g e (λ _ r. r) (λ es l q _. let z : true ≡ false = cc in clash z)
 
 -- ---- the message

@@ -1,4 +1,5 @@
 -- The walks over parameters and over elements: their steps, and what they count.
+use Rattle.std.specs.Prelude.{Option, Some, None}
 use Prim.Native.Nat.{ℕ, suc, ◌+◌, ◌-◌, ◌^◌, ◌≤◌, ◌<◌}
 use mathlib.Core.Path.{◌≡◌, refl, sym, ap, ap₂, ◌∙◌}
 use mathlib.Core.Bool.{Bool, true, false, not}
@@ -25,14 +26,9 @@ use Rattle.strict_data.specs.Counts.{counts_of}
 use Rattle.strict_data.specs.Filling.{elements_of}
 use Rattle.strict_data.specs.Ids.{elements_in, first_differ}
 use Rattle.strict_data.specs.Sizes.{size_of, block_of, params_in, item_of}
-use Rattle.strict_data.specs.declared.Size.{Size}
-use Rattle.strict_data.specs.declared.Size.TheVariants.{Missing, Bytes}
 use Rattle.strict_data.specs.declared.Block.{Block}
-use Rattle.strict_data.specs.declared.Block.TheVariants.{NoBlock, IsBlock}
 use Rattle.strict_data.specs.declared.Item.{Item}
-use Rattle.strict_data.specs.declared.Item.TheVariants.{NoItem, IsItem}
 use Rattle.strict_data.specs.declared.Counts.{Counts}
-use Rattle.strict_data.specs.declared.Counts.TheVariants.{NoData, IsData}
 use Rattle.strict_data.proofs.Answers.{finds, misses, finds_block, misses_block, FindsItem, finds_item, misses_item, FindsData, finds_data, misses_data}
 use Rattle.strict_data.proofs.Differing.{all_differ}
 use Rattle.strict_data.proofs.Pieces.{name_within}
@@ -105,24 +101,24 @@ pub params_start : (s : List ℕ) → Params s 0 0
 params_start s = record { items = []; passed = passed_none 32 param s; counted = refl; few = omega arith }
 
 module _ (s : List ℕ) (i k : ℕ) (w : Params s i k) where
-  pub params_out : length s ≤ i → NoBlock ≡ block_of length (closed (many 32 param) 93 s)
+  pub params_out : length s ≤ i → None ≡ block_of length (closed (many 32 param) 93 s)
   unfolding closed
   params_out h = rw (passed_all 31 param s w.items i w.passed h, ← at_past s i 93 (omega arith) h)
 
-  pub params_close : get_or s i 0 ≡ 93 → IsBlock (i + 1) k ≡ block_of length (closed (many 32 param) 93 s)
+  pub params_close : get_or s i 0 ≡ 93 → Some (record { len = (i + 1); params = k }) ≡ block_of length (closed (many 32 param) 93 s)
   unfolding closed
   params_close e = rw (passed_other 31 param s w.items i w.passed (λ q. omega arith), e, w.counted)
 
-  pub params_other : (get_or s i 0 ≡ 93 → ⊥) → (get_or s i 0 ≡ 32 → ⊥) → NoBlock ≡ block_of length (closed (many 32 param) 93 s)
+  pub params_other : (get_or s i 0 ≡ 93 → ⊥) → (get_or s i 0 ≡ 32 → ⊥) → None ≡ block_of length (closed (many 32 param) 93 s)
   unfolding closed
   params_other e f = rw (passed_other 31 param s w.items i w.passed f, ne_eqb (get_or s i 0) 93 e)
 
-  module _ (e : get_or s i 0 ≡ 32) (u : List ℕ) (eu : u ≡ drop (i + 1) s) (g : Size) (eg : g ≡ size_of (param u)) where
-    pub params_bad : g ≡ Missing → NoBlock ≡ block_of length (closed (many 32 param) 93 s)
+  module _ (e : get_or s i 0 ≡ 32) (u : List ℕ) (eu : u ≡ drop (i + 1) s) (g : Option ℕ) (eg : g ≡ size_of (param u)) where
+    pub params_bad : g ≡ None → None ≡ block_of length (closed (many 32 param) 93 s)
     unfolding closed
     params_bad h = rw (passed_bad 31 param s w.items i w.passed e (ap param (sym eu) ∙ misses (param u) g eg h))
 
-    module _ (n : ℕ) (h : g ≡ Bytes n) (l : i < length s) where
+    module _ (n : ℕ) (h : g ≡ Some n) (l : i < length s) where
       params_within : i + 1 + n ≤ length s
       params_within =
           let f = finds (param u) g eg h in
@@ -153,30 +149,30 @@ pub ruleset params_laws = (params_start, params_out, params_close, params_other,
 name_size : (s t : List ℕ) (n : ℕ) → sd_name s ≡ found t n → n ≡ length t
 name_size s t n e = ((repeat_reads 32 sd_name_byte).sound s t n e).size ∙ ap length (append-nil t)
 
-module _ (s : List ℕ) (g : Size) (eg : g ≡ size_of (sd_name s)) where
-  pub element_no_name : g ≡ Missing → NoItem ≡ item_of (element s)
+module _ (s : List ℕ) (g : Option ℕ) (eg : g ≡ size_of (sd_name s)) where
+  pub element_no_name : g ≡ None → None ≡ item_of (element s)
   unfolding element into ◌next◌
   element_no_name h = rw (misses (sd_name s) g eg h)
 
-  module _ (n : ℕ) (h : g ≡ Bytes n) (u : List ℕ) (eu : u ≡ drop n s) (b : Block) (eb : b ≡ block_of length (closed (many 32 param) 93 u)) where
-    pub element_bad : b ≡ NoBlock → NoItem ≡ item_of (element s)
+  module _ (n : ℕ) (h : g ≡ Some n) (u : List ℕ) (eu : u ≡ drop n s) (b : Option Block) (eb : b ≡ block_of length (closed (many 32 param) 93 u)) where
+    pub element_bad : b ≡ None → None ≡ item_of (element s)
     unfolding element into ◌next◌
     element_bad k = rw ((finds (sd_name s) g eg h).is, ← eu, misses_block length (closed (many 32 param) 93 u) b eb k)
 
-    module _ (m c : ℕ) (k : b ≡ IsBlock m c) where
-      pub element_fits : length s < 2 ^ 64 → Fits w64 (n + m)
+    module _ (x : Block) (k : b ≡ Some x) where
+      pub element_fits : length s < 2 ^ 64 → Fits w64 (n + x.len)
       element_fits l =
           let f = finds_block length (closed (many 32 param) 93 u) b eb k in
-          let w = found_within (closed_reads (many_reads 31 param_reads) 92 (λ r. refl)) u f.value m f.is in
+          let w = found_within (closed_reads (many_reads 31 param_reads) 92 (λ r. refl)) u f.value x.len f.is in
           let d : length u ≡ length s - n = ap length eu ∙ length-drop n s in
           let p = name_within s g n eg h in
           record { fits = omega arith }
 
-      pub element_is : IsItem (n + m) c n ≡ item_of (element s)
+      pub element_is : Some (record { len = (n + x.len); params = x.params; id = n }) ≡ item_of (element s)
       unfolding element into ◌next◌
       element_is =
           let f = finds_block length (closed (many 32 param) 93 u) b eb k in
-          rw ((finds (sd_name s) g eg h).is, ← eu, f.is) (ap₂ (IsItem (n + m)) f.counted (name_size s (finds (sd_name s) g eg h).value n (finds (sd_name s) g eg h).is))
+          rw ((finds (sd_name s) g eg h).is, ← eu, f.is, ← f.counted, ← (name_size s (finds (sd_name s) g eg h).value n (finds (sd_name s) g eg h).is))
 
 pub ruleset element_laws = (name_within, element_no_name, element_bad, element_fits, element_is)
 
@@ -214,46 +210,46 @@ unfolding elements_start
 start_items s = refl
 
 module _ (s : List ℕ) (i n k : ℕ) (w : Elements s i n k) where
-  ended_here : many 91 element s ≡ found w.items i → IsData i n k ≡ counts_of (many 91 element s)
+  ended_here : many 91 element s ≡ found w.items i → Some (record { len = i; elements = n; params = k }) ≡ counts_of (many 91 element s)
   ended_here e = rw (e, w.counted, w.params_counted)
 
-  pub elements_out : length s ≤ i → IsData i n k ≡ counts_of (many 91 element s)
+  pub elements_out : length s ≤ i → Some (record { len = i; elements = n; params = k }) ≡ counts_of (many 91 element s)
   elements_out h = ended_here (passed_all 90 element s w.items i w.passed h)
 
-  pub elements_other : (get_or s i 0 ≡ 91 → ⊥) → IsData i n k ≡ counts_of (many 91 element s)
+  pub elements_other : (get_or s i 0 ≡ 91 → ⊥) → Some (record { len = i; elements = n; params = k }) ≡ counts_of (many 91 element s)
   elements_other e = ended_here (passed_other 90 element s w.items i w.passed e)
 
-  module _ (e : get_or s i 0 ≡ 91) (u : List ℕ) (eu : u ≡ drop (i + 1) s) (g : Item) (eg : g ≡ item_of (element u)) where
-    pub elements_bad : g ≡ NoItem → NoData ≡ counts_of (many 91 element s)
+  module _ (e : get_or s i 0 ≡ 91) (u : List ℕ) (eu : u ≡ drop (i + 1) s) (g : Option Item) (eg : g ≡ item_of (element u)) where
+    pub elements_bad : g ≡ None → None ≡ counts_of (many 91 element s)
     elements_bad h = rw (passed_bad 90 element s w.items i w.passed e (ap element (sym eu) ∙ misses_item (element u) g eg h))
 
-    module _ (m c n' : ℕ) (h : g ≡ IsItem m c n') (l : i < length s) where
-      here : FindsItem (element u) m c n'
+    module _ (x : Item) (h : g ≡ Some x) (l : i < length s) where
+      here : FindsItem (element u) x.len x.params x.id
       here = finds_item (element u) g eg h
 
-      elements_within : i + 1 + m ≤ length s
+      elements_within : i + 1 + x.len ≤ length s
       elements_within =
           let d : length u ≡ length s - (i + 1) = ap length eu ∙ length-drop (i + 1) s in
-          let q = found_within element_reads u here.value m here.is in
+          let q = found_within element_reads u here.value x.len here.is in
           omega arith
 
-      params_below_here : c ≤ m
-      params_below_here = let q = element_few u here.value m here.is in omega (arith, here.counted)
+      params_below_here : x.params ≤ x.len
+      params_below_here = let q = element_few u here.value x.len here.is in omega (arith, here.counted)
 
-      pub elements_fit_lem : length s < 2 ^ 64 → Fits w64 (i + 1 + m)
+      pub elements_fit_lem : length s < 2 ^ 64 → Fits w64 (i + 1 + x.len)
       elements_fit_lem z = let q = elements_within in record { fits = omega arith }
 
-      pub elements_params_fit : length s < 2 ^ 64 → Fits w64 (k + c)
+      pub elements_params_fit : length s < 2 ^ 64 → Fits w64 (k + x.params)
       elements_params_fit z = let q = elements_within in let r = params_below_here in record { fits = omega (arith, w.params_below) }
 
-      pub elements_fall : length s - (i + 1 + m) < length s - i
+      pub elements_fall : length s - (i + 1 + x.len) < length s - i
       elements_fall = let q = elements_within in omega arith
 
-      pub elements_next_lem : Elements s (i + 1 + m) (n + 1) (k + c)
+      pub elements_next_lem : Elements s (i + 1 + x.len) (n + 1) (k + x.params)
       elements_next_lem =
           record {
             items = w.items ++ here.value ∷ [];
-            passed = passed_item 90 element s w.items i w.passed e here.value m (ap element (sym eu) ∙ here.is) elements_within;
+            passed = passed_item 90 element s w.items i w.passed e here.value x.len (ap element (sym eu) ∙ here.is) elements_within;
             counted = simp length-append (omega (arith, w.counted));
             params_counted = omega (arith, count_more w.items here.value, w.params_counted, here.counted);
             few = omega (arith, w.few);
@@ -275,47 +271,47 @@ not_same true false e = clash (sym e)
 not_same false true e = clash e
 
 module _ (s : List ℕ) (t : Bool) (et : t ≡ is_at s 0 45) where
-  pub data_nil : t ≡ true → IsData 1 0 0 ≡ counts_of (structured s)
+  pub data_nil : t ≡ true → Some (record { len = 1; elements = 0; params = 0 }) ≡ counts_of (structured s)
   unfolding structured listed choose only
   data_nil h = rw (← et, h)
 
-  module _ (h : t ≡ false) (g : Counts) (eg : g ≡ counts_of (many 91 element s)) where
-    pub data_bad : g ≡ NoData → NoData ≡ counts_of (structured s)
+  module _ (h : t ≡ false) (g : Option Counts) (eg : g ≡ counts_of (many 91 element s)) where
+    pub data_bad : g ≡ None → None ≡ counts_of (structured s)
     unfolding structured listed choose only
     data_bad b = rw (← et, h, misses_data (many 91 element s) g eg b)
 
-    module _ (m n k : ℕ) (b : g ≡ IsData m n k) where
-      all_here : FindsData (many 91 element s) m n k
+    module _ (x : Counts) (b : g ≡ Some x) where
+      all_here : FindsData (many 91 element s) x.len x.elements x.params
       all_here = finds_data (many 91 element s) g eg b
 
-      pub data_empty : n ≡ 0 → NoData ≡ counts_of (structured s)
+      pub data_empty : x.elements ≡ 0 → None ≡ counts_of (structured s)
       unfolding structured listed choose only
       data_empty z =
           let f = all_here in
           rw (← et, h, f.is, lt-leb 1 (length f.value) (omega (arith, f.counted)))
 
-      module _ (z : n ≡ 0 → ⊥) (r : Bool) (er : r ≡ first_differ n s) where
-        tells : (x : Bool) → not r ≡ not x → ids_differ all_here.value ≡ x
-        tells x q =
+      module _ (z : x.elements ≡ 0 → ⊥) (r : Bool) (er : r ≡ first_differ x.elements s) where
+        tells : (v : Bool) → not r ≡ not v → ids_differ all_here.value ≡ v
+        tells v q =
             let e : elements_in s ≡ all_here.value = ap elements_of all_here.is in
-            ap ids_differ (sym e) ∙ sym (all_differ s g m n k eg b) ∙ sym er ∙ not_same r x q
+            ap ids_differ (sym e) ∙ sym (all_differ s g x.len x.elements x.params eg b) ∙ sym er ∙ not_same r v q
 
-        pub data_repeats : not r ≡ true → NoData ≡ counts_of (structured s)
+        pub data_repeats : not r ≡ true → None ≡ counts_of (structured s)
         unfolding structured listed choose only
         data_repeats q =
             let f = all_here in
             let d = tells false q in
             rw (← et, h, f.is, le-leb 1 (length f.value) (omega (arith, f.counted)), d)
 
-        pub data_is : not r ≡ false → IsData m n k ≡ counts_of (structured s)
+        pub data_is : not r ≡ false → Some (record { len = x.len; elements = x.elements; params = x.params }) ≡ counts_of (structured s)
         unfolding structured listed choose only
         data_is q =
             let f = all_here in
             let d = tells true q in
-            rw (← et, h, f.is, le-leb 1 (length f.value) (omega (arith, f.counted)), d) (ap₂ (IsData m) f.counted f.params_counted)
+            rw (← et, h, f.is, le-leb 1 (length f.value) (omega (arith, f.counted)), d, ← f.counted, ← f.params_counted)
 
 pub ruleset data_laws = (data_nil, data_bad, data_empty, data_repeats, data_is)
 
 -- what is counted lies within the text
-pub data_within : (s : List ℕ) (g : Counts) (m n k : ℕ) → g ≡ counts_of (structured s) → g ≡ IsData m n k → m ≤ length s
+pub data_within : (s : List ℕ) (g : Option Counts) (m n k : ℕ) → g ≡ counts_of (structured s) → g ≡ Some (record { len = m; elements = n; params = k }) → m ≤ length s
 data_within s g m n k e h = let f = finds_data (structured s) g e h in found_within data_reads s f.value m f.is

@@ -1,4 +1,5 @@
 -- The places that were noted tell whether the ids differ.
+use Rattle.std.specs.Prelude.{Option, Some}
 use Prim.Native.Nat.{ℕ, zero, suc, ◌+◌, ◌*◌, ◌≤◌, ◌<◌}
 use mathlib.Core.Path.{◌≡◌, refl, sym, ap, ◌∙◌, subst}
 use mathlib.Core.Bool.{Bool, true, false, not}
@@ -23,7 +24,6 @@ use Rattle.strict_data.specs.Counts.{counts_of}
 use Rattle.strict_data.specs.Filling.{elements_of}
 use Rattle.strict_data.specs.Ids.{Noting, Rowed, Listed, elements_in, first_differ, Among, Spacious}
 use Rattle.strict_data.specs.declared.Counts.{Counts}
-use Rattle.strict_data.specs.declared.Counts.TheVariants.{IsData}
 use Rattle.strict_data.proofs.Answers.{FindsData, finds_data}
 
 -- ---- how many elements there can be
@@ -124,7 +124,7 @@ room_made count n slots h f l = record {
 
 -- ---- in a text that was passed
 
-module _ (s : List ℕ) (g : Counts) (m n k : ℕ) (e : g ≡ counts_of (many 91 element s)) (h : g ≡ IsData m n k) where
+module _ (s : List ℕ) (g : Option Counts) (m n k : ℕ) (e : g ≡ counts_of (many 91 element s)) (h : g ≡ Some (record { len = m; elements = n; params = k })) where
   pub among_all : length s ≤ line_limit → Among s n
   among_all l = record { len = m; elements = n; params = k; is_data = sym e ∙ h; few = omega arith; short = l }
 

@@ -1,4 +1,5 @@
 -- The first pass notes the places of the ids.
+use Rattle.std.specs.Prelude.{Option, Some, None}
 use Prim.Native.Nat.{ℕ, ◌+◌, ◌≤◌, ◌<◌}
 use mathlib.Core.Path.{◌≡◌, refl, sym, ap, ap₂, ◌∙◌, subst}
 use mathlib.Core.List.{List, [], ◌∷◌, ◌++◌}
@@ -16,7 +17,6 @@ use Rattle.grammar.proofs.Data.{element_reads}
 use Rattle.strict_data.specs.Sizes.{item_of}
 use Rattle.strict_data.specs.Ids.{Noted, Noting, Rowed, Listed}
 use Rattle.strict_data.specs.declared.Item.{Item}
-use Rattle.strict_data.specs.declared.Item.TheVariants.{NoItem, IsItem}
 use Rattle.strict_data.proofs.Answers.{FindsItem, finds_item, misses_item}
 use Rattle.strict_data.proofs.Counting.{passed_all, passed_other, passed_bad, Elements, elements_start, start_items, elements_next_lem, next_items}
 
@@ -111,35 +111,35 @@ module _ (s : List ℕ) (i n k : ℕ) (starts₀ lens₀ starts lens : List ℕ)
   pub listing_other : (get_or s i 0 ≡ 91 → ⊥) → Listed s (many 91 element s) starts₀ lens₀ starts lens
   listing_other e = listed_here (passed_other 90 element s w.counting.items i w.counting.passed e)
 
-  module _ (e : get_or s i 0 ≡ 91) (u : List ℕ) (eu : u ≡ drop (i + 1) s) (g : Item) (eg : g ≡ item_of (element u)) where
-    pub listing_bad : g ≡ NoItem → Listed s (many 91 element s) starts₀ lens₀ starts lens
+  module _ (e : get_or s i 0 ≡ 91) (u : List ℕ) (eu : u ≡ drop (i + 1) s) (g : Option Item) (eg : g ≡ item_of (element u)) where
+    pub listing_bad : g ≡ None → Listed s (many 91 element s) starts₀ lens₀ starts lens
     listing_bad h =
         let b = passed_bad 90 element s w.counting.items i w.counting.passed e (ap element (sym eu) ∙ misses_item (element u) g eg h) in
         record { starts_kept = w.starts_kept; lens_kept = w.lens_kept; rows = λ es m q. not_found (sym b ∙ q) }
 
-    module _ (m c d : ℕ) (h : g ≡ IsItem m c d) (l : i < length s) where
-      item : FindsItem (element u) m c d
+    module _ (x : Item) (h : g ≡ Some x) (l : i < length s) where
+      item : FindsItem (element u) x.len x.params x.id
       item = finds_item (element u) g eg h
 
-      item_is : element (drop (i + 1) s) ≡ found item.value m
+      item_is : element (drop (i + 1) s) ≡ found item.value x.len
       item_is = ap element (sym eu) ∙ item.is
 
-      pub listing_notes : Noted starts lens (i + 1) d
+      pub listing_notes : Noted starts lens (i + 1) x.id
       listing_notes = record {
         one_size = w.rowed.one_size;
         start_fits = omega (arith, l, w.short);
-        len_fits = omega (arith, id_short s i item.value m d item_is item.named);
+        len_fits = omega (arith, id_short s i item.value x.len x.id item_is item.named);
       }
 
-      module _ (starts' lens' : List ℕ) (es : starts' ≡ set starts n (i + 1)) (el : lens' ≡ set lens n d) where
-        pub listing_next : Listing s (i + 1 + m) (n + 1) (k + c) starts₀ lens₀ starts' lens'
+      module _ (starts' lens' : List ℕ) (es : starts' ≡ set starts n (i + 1)) (el : lens' ≡ set lens n x.id) where
+        pub listing_next : Listing s (i + 1 + x.len) (n + 1) (k + x.params) starts₀ lens₀ starts' lens'
         unfolding item
         listing_next = record {
-          counting = elements_next_lem s i n k w.counting e u eu g eg m c d h l;
-          rowed = rw (next_items s i n k w.counting e u eu g eg m c d h l, es, el) (rowed_more s w.counting.items starts lens w.rowed item.value (i + 1) d
-              (place_named s i item.value m d item_is item.named) (place_inside s i item.value m d item_is item.named l) n w.counting.counted);
+          counting = elements_next_lem s i n k w.counting e u eu g eg x h l;
+          rowed = rw (next_items s i n k w.counting e u eu g eg x h l, es, el) (rowed_more s w.counting.items starts lens w.rowed item.value (i + 1) x.id
+              (place_named s i item.value x.len x.id item_is item.named) (place_inside s i item.value x.len x.id item_is item.named l) n w.counting.counted);
           starts_kept = ap length es ∙ length-set starts n (i + 1) ∙ w.starts_kept;
-          lens_kept = ap length el ∙ length-set lens n d ∙ w.lens_kept;
+          lens_kept = ap length el ∙ length-set lens n x.id ∙ w.lens_kept;
           short = w.short;
         }
 

@@ -1,5 +1,5 @@
 -- Values: where one stops, and what it has to be.
-use Rattle.std.specs.Prelude.{if◌then◌else◌}
+use Rattle.std.specs.Prelude.{if◌then◌else◌, Some, None}
 use Prim.Native.Nat.{ℕ, suc, ◌+◌, ◌-◌, ◌^◌, ◌≤◌, ◌<◌}
 use mathlib.Core.Path.{◌≡◌, refl, sym, ap, ◌∙◌}
 use mathlib.Core.Bool.{Bool, true, false, not, ◌&&◌}
@@ -19,7 +19,6 @@ use Rattle.grammar.specs.Parse.{on_found, only, stop, until_quote, value}
 use Rattle.grammar.specs.Parse.Parsed.{failed, found}
 use Rattle.grammar.proofs.Bytes.{stop_le}
 use Rattle.strict_data.specs.Sizes.{size_of}
-use Rattle.strict_data.specs.declared.Size.TheVariants.{Missing, Bytes}
 
 -- ---- where a value stops
 
@@ -75,15 +74,15 @@ pub ruleset stop_laws = (stop_start, stop_out, stop_here, stop_on, stop_last, st
 abbrev value_text : List ℕ → List ℕ
 value_text s = take (stop false s) s
 
-not_utf8 : (s : List ℕ) → false ≡ is_utf8 (value_text s) → Missing ≡ size_of (value s)
+not_utf8 : (s : List ℕ) → false ≡ is_utf8 (value_text s) → None ≡ size_of (value s)
 unfolding value only until_quote
-not_utf8 s e = by_test (λ t. Missing ≡ size_of (on_found (if t then found (value_text s) (stop false s + 1) else failed) (λ a n. if is_utf8 a then found a n else failed))) (is_at s (stop false s) 34) (λ q. rw (← e)) (λ q. refl)
+not_utf8 s e = by_test (λ t. None ≡ size_of (on_found (if t then found (value_text s) (stop false s + 1) else failed) (λ a n. if is_utf8 a then found a n else failed))) (is_at s (stop false s) 34) (λ q. rw (← e)) (λ q. refl)
 
-not_closed : (s : List ℕ) (i : ℕ) → i ≡ stop false s → is_at s i 34 ≡ false → Missing ≡ size_of (value s)
+not_closed : (s : List ℕ) (i : ℕ) → i ≡ stop false s → is_at s i 34 ≡ false → None ≡ size_of (value s)
 unfolding value only until_quote
 not_closed s i e q = rw (ap (λ (k : ℕ). is_at s k 34) (sym e) ∙ q)
 
-closed_here : (s : List ℕ) (i : ℕ) → i ≡ stop false s → is_at s i 34 ≡ true → true ≡ is_utf8 (value_text s) → Bytes (i + 1) ≡ size_of (value s)
+closed_here : (s : List ℕ) (i : ℕ) → i ≡ stop false s → is_at s i 34 ≡ true → true ≡ is_utf8 (value_text s) → Some (i + 1) ≡ size_of (value s)
 unfolding value only until_quote
 closed_here s i e q u = rw (ap (λ (k : ℕ). is_at s k 34) (sym e) ∙ q, ← u, e)
 
@@ -92,7 +91,7 @@ module _ (s : List ℕ) (n : ℕ) (e : n ≡ stop false s) where
   value_inside = omega (arith, stop_le false s)
 
   module _ (t : Bool) (et : t ≡ is_at s n 34) where
-    pub value_open : not t ≡ true → Missing ≡ size_of (value s)
+    pub value_open : not t ≡ true → None ≡ size_of (value s)
     value_open h = not_closed s n e (sym et ∙ not-true t h)
 
     module _ (h : not t ≡ false) where
@@ -106,10 +105,10 @@ module _ (s : List ℕ) (n : ℕ) (e : n ≡ stop false s) where
         text : is_utf8 (take (n - 0) s) ≡ is_utf8 (value_text s)
         text = let z : n - 0 ≡ stop false s = omega arith in ap (λ (k : ℕ). is_utf8 (take k s)) z
 
-        pub value_other : not u ≡ true → Missing ≡ size_of (value s)
+        pub value_other : not u ≡ true → None ≡ size_of (value s)
         value_other q = not_utf8 s (sym (not-true u q) ∙ eu ∙ text)
 
-        pub value_closed : not u ≡ false → Bytes (n + 1) ≡ size_of (value s)
+        pub value_closed : not u ≡ false → Some (n + 1) ≡ size_of (value s)
         value_closed q = closed_here s n e (sym et ∙ not-false t h) (sym (not-false u q) ∙ eu ∙ text)
 
 pub ruleset value_laws = (value_inside, value_open, value_fits, value_other)

@@ -1,5 +1,5 @@
 -- For private contracts alone: the places of the ids that the first pass notes, and whether the ids differ.
-use Rattle.std.specs.Prelude.{ℕ, ◌+◌, ◌≤◌, ◌<◌, ◌≡◌, Bool, List, [], length, get_or, take}
+use Rattle.std.specs.Prelude.{ℕ, ◌+◌, ◌≤◌, ◌<◌, ◌≡◌, Bool, List, [], length, get_or, take, Some}
 use Rattle.base.specs.Texts.{all_different}
 use Rattle.record.specs.Limits.{line_limit}
 use Rattle.grammar.specs.Line.{Element, ids_of}
@@ -9,7 +9,6 @@ use Rattle.distinct.specs.Distinct.{id_of}
 use Rattle.distinct.specs.Tree.{Room}
 use Rattle.strict_data.specs.Counts.{counts_of}
 use Rattle.strict_data.specs.Filling.{elements_of}
-use Rattle.strict_data.specs.declared.Counts.TheVariants.{IsData}
 
 -- a place that two tables of one length can hold
 pub record Noted (starts lens : List ℕ) (start len : ℕ) : Type 0 where
@@ -45,7 +44,7 @@ pub record Among (s : List ℕ) (count : ℕ) : Type 0 where
   pub len : ℕ
   pub elements : ℕ
   pub params : ℕ
-  pub is_data : counts_of (many 91 element s) ≡ IsData len elements params
+  pub is_data : counts_of (many 91 element s) ≡ Some (record { len = len; elements = elements; params = params })
   pub few : count ≤ elements
   pub short : length s ≤ line_limit
 

@@ -20,13 +20,10 @@ use record::Param;
 
 // The structured data at the front of a part: how many bytes, elements and parameters.
 #[derive(Clone, Copy)]
-pub enum Counts {
-    NoData,
-    IsData {
-        len: usize,
-        elements: usize,
-        params: usize,
-    },
+pub struct Counts {
+    pub len: usize,
+    pub elements: usize,
+    pub params: usize,
 }
 
 // What stands after the structured data: nothing, or a space and a message of so many bytes.
@@ -37,29 +34,19 @@ pub enum Tail {
     IsMessage(usize),
 }
 
-// A piece of the structured data at the front of a part: how many bytes it takes.
+// What is after the id of an element: how many bytes and parameters.
 #[derive(Clone, Copy)]
-enum Size {
-    Missing,
-    Bytes(usize),
-}
-
-// An element, or what is after its id: how many bytes and parameters.
-#[derive(Clone, Copy)]
-enum Block {
-    NoBlock,
-    IsBlock { len: usize, params: usize },
+struct Block {
+    len: usize,
+    params: usize,
 }
 
 // An element: how many bytes and parameters, and how many bytes its id has.
 #[derive(Clone, Copy)]
-enum Item {
-    NoItem,
-    IsItem {
-        len: usize,
-        params: usize,
-        id: usize,
-    },
+struct Item {
+    len: usize,
+    params: usize,
+    id: usize,
 }
 
 // How many bytes of a name stand in front.
@@ -78,15 +65,11 @@ fn name_run(s: &[u8]) -> usize
     i
 }
 
-fn name(s: &[u8]) -> Size
+fn name(s: &[u8]) -> Option<usize>
     ensures { result ≡ size_of (parse.sd_name s.now) }
 {
     let n = name_run(s);
-    if (1 <= n) & (n <= 32) {
-        Size::Bytes(n)
-    } else {
-        Size::Missing
-    }
+    if (1 <= n) & (n <= 32) { Some(n) } else { None }
 }
 
 // Where a value stops: at a bare '"' or ']', or at the end. A backslash is passed with what it takes.
@@ -113,51 +96,45 @@ fn stop(s: &[u8]) -> usize
 }
 
 // A value and its closing quote.
-fn value(s: &[u8]) -> Size
+fn value(s: &[u8]) -> Option<usize>
     ensures { result ≡ size_of (parse.value s.now) }
 {
     let n = stop(s);
     if !base::is_at(s, n, b'"') {
-        return Size::Missing;
+        return None;
     }
     if !utf8::is_utf8(&s[0..n]) {
-        return Size::Missing;
+        return None;
     }
-    Size::Bytes(n + 1)
+    Some(n + 1)
 }
 
 // A value and both its quotes.
-fn quoted(s: &[u8]) -> Size
+fn quoted(s: &[u8]) -> Option<usize>
     ensures { result ≡ size_of (parse.behind 34 parse.value s.now) }
 {
     if !base::is_at(s, 0, b'"') {
-        return Size::Missing;
+        return None;
     }
-    let Size::Bytes(n) = value(base::past(s, 1)) else {
-        return Size::Missing;
-    };
-    Size::Bytes(n + 1)
+    let n = value(base::past(s, 1))?;
+    Some(n + 1)
 }
 
 // A parameter, after its space.
-fn param(s: &[u8]) -> Size
+fn param(s: &[u8]) -> Option<usize>
     ensures { result ≡ size_of (parse.param s.now) }
 {
-    let Size::Bytes(n) = name(s) else {
-        return Size::Missing;
-    };
+    let n = name(s)?;
     if !base::is_at(s, n, b'=') {
-        return Size::Missing;
+        return None;
     }
     let j = n + 1;
-    let Size::Bytes(m) = quoted(base::past(s, j)) else {
-        return Size::Missing;
-    };
-    Size::Bytes(j + m)
+    let m = quoted(base::past(s, j))?;
+    Some(j + m)
 }
 
 // The parameters of an element, and its ']'.
-fn params(s: &[u8]) -> Block
+fn params(s: &[u8]) -> Option<Block>
     ensures { result ≡ block_of length (parse.closed (parse.many 32 parse.param) 93 s.now) }
 {
     let mut i = 0;
@@ -166,38 +143,32 @@ fn params(s: &[u8]) -> Block
         let b = s[i];
         let j = i + 1;
         if b == b']' {
-            return Block::IsBlock {
+            return Some(Block {
                 len: j,
                 params: count,
-            };
+            });
         }
         if b != b' ' {
-            return Block::NoBlock;
+            return None;
         }
-        let Size::Bytes(n) = param(base::past(s, j)) else {
-            return Block::NoBlock;
-        };
+        let n = param(base::past(s, j))?;
         i = j + n;
         count += 1;
     }
-    Block::NoBlock
+    None
 }
 
 // An element, after its '['.
-fn element(s: &[u8]) -> Item
+fn element(s: &[u8]) -> Option<Item>
     ensures { result ≡ item_of (parse.element s.now) }
 {
-    let Size::Bytes(n) = name(s) else {
-        return Item::NoItem;
-    };
-    let Block::IsBlock { len, params } = params(base::past(s, n)) else {
-        return Item::NoItem;
-    };
-    Item::IsItem {
+    let n = name(s)?;
+    let Block { len, params } = params(base::past(s, n))?;
+    Some(Item {
         len: n + len,
         params,
         id: n,
-    }
+    })
 }
 
 // The place of the id of element `k`, where the tables have an entry for it.
@@ -213,7 +184,7 @@ fn note_id(starts: &mut [u16], lens: &mut [u8], k: usize, start: usize, len: usi
 }
 
 // The elements up to what is none, and the places of the first of their ids, as many as the tables have entries for.
-fn elements(s: &[u8], starts: &mut [u16], lens: &mut [u8]) -> Counts
+fn elements(s: &[u8], starts: &mut [u16], lens: &mut [u8]) -> Option<Counts>
     requires { Noting s.now starts.old lens.old }
     ensures value { result ≡ counts_of (parse.many 91 parse.element s.now) }
     ensures listed { Listed s.now (parse.many 91 parse.element s.now) starts.old lens.old starts.new lens.new }
@@ -225,25 +196,23 @@ fn elements(s: &[u8], starts: &mut [u16], lens: &mut [u8]) -> Counts
         let b = s[i];
         let j = i + 1;
         if b != b'[' {
-            return Counts::IsData {
+            return Some(Counts {
                 len: i,
                 elements,
                 params: all,
-            };
+            });
         }
-        let Item::IsItem { len, params, id } = element(base::past(s, j)) else {
-            return Counts::NoData;
-        };
+        let Item { len, params, id } = element(base::past(s, j))?;
         note_id(starts, lens, elements, j, id);
         i = j + len;
         elements += 1;
         all += params;
     }
-    Counts::IsData {
+    Some(Counts {
         len: i,
         elements,
         params: all,
-    }
+    })
 }
 
 // Whether the ids of the first `count` elements differ. Their places are noted in a second pass, and a tree of them is made, in tables that take all.
@@ -324,38 +293,35 @@ fn ids_differ<'a>(s: &'a [u8], count: usize, starts: &'a [u16], lens: &'a [u8]) 
 }
 
 // Reads the structured data at the front of a part, and counts what is in it.
-pub fn count_data(s: &[u8]) -> Counts
+pub fn count_data(s: &[u8]) -> Option<Counts>
     requires { length s.now ≤ line_limit }
     ensures { result ≡ counts_of (parse.structured s.now) }
 {
     if base::is_at(s, 0, b'-') {
-        return Counts::IsData {
+        return Some(Counts {
             len: 1,
             elements: 0,
             params: 0,
-        };
+        });
     }
     let mut starts = [0u16; 8];
     let mut lens = [0u8; 8];
-    let Counts::IsData {
+    let Counts {
         len,
         elements,
         params,
-    } = elements(s, &mut starts, &mut lens)
-    else {
-        return Counts::NoData;
-    };
+    } = elements(s, &mut starts, &mut lens)?;
     if elements == 0 {
-        return Counts::NoData;
+        return None;
     }
     if !ids_differ(s, elements, &starts, &lens) {
-        return Counts::NoData;
+        return None;
     }
-    Counts::IsData {
+    Some(Counts {
         len,
         elements,
         params,
-    }
+    })
 }
 
 // Whether the message is one of any bytes, or a byte order mark and then UTF-8.

@@ -1,4 +1,6 @@
 -- The answers of the code and what was found.
+use Rattle.std.specs.Prelude as std
+use Rattle.std.specs.Prelude.{Some, None}
 use Prim.Native.Nat.{ℕ, ◌+◌}
 use mathlib.Core.Path.{◌≡◌, refl, sym, ap, ◌∙◌}
 use mathlib.Core.Bool.{true, false}
@@ -7,33 +9,15 @@ use mathlib.Core.Option.{Option}
 use lib.IntN.{ℤ}
 use lib.ListN.{length}
 use Rattle.base.proofs.Tests.{clash}
+use Rattle.base.proofs.Pairs.{pair_first, pair_second, some_first, some_second}
 use Rattle.digits.specs.Digits.{decimal}
-use Rattle.digits.specs.declared.Number.{Number}
-use Rattle.digits.specs.declared.Number.TheVariants.{Nothing, Value}
 use Rattle.grammar.specs.Parse.{Parsed, Reader, Three, Names}
 use Rattle.grammar.specs.Parse.Parsed.{failed, found}
 use Rattle.grammar.specs.Line.{Offset, Timestamp}
 use Rattle.grammar.specs.Reading.{place_of, offset_of, nanos_of, digits_of, stamp_of}
 use Rattle.record.specs.declared.Place.{Place}
-use Rattle.record.specs.declared.Stamp.{Stamp}
-use Rattle.strict_header.specs.Pieces.{value_of, pair_of, triple_of, offset_at, ending_at, stamp_at, field_at, ids_at, names_at}
-use Rattle.strict_header.specs.declared.PairAt.{PairAt}
-use Rattle.strict_header.specs.declared.PairAt.TheVariants.{NoPair, IsPair}
-use Rattle.strict_header.specs.declared.TripleAt.{TripleAt}
-use Rattle.strict_header.specs.declared.TripleAt.TheVariants.{NoTriple, IsTriple}
-use Rattle.strict_header.specs.declared.OffsetAt.{OffsetAt}
-use Rattle.strict_header.specs.declared.OffsetAt.TheVariants.{NoOffset, IsOffset}
-use Rattle.strict_header.specs.declared.EndingAt.{EndingAt}
-use Rattle.strict_header.specs.declared.EndingAt.TheVariants.{NoEnding, IsEnding}
-use Rattle.strict_header.specs.declared.StampAt.{StampAt}
-use Rattle.strict_header.specs.declared.StampAt.TheVariants.{NoStamp, IsStamp}
-use Rattle.strict_header.specs.declared.FieldAt.{FieldAt}
-use Rattle.strict_header.specs.declared.FieldAt.TheVariants.{NoField, IsField}
-use Rattle.strict_header.specs.declared.IdsAt.{IdsAt}
-use Rattle.strict_header.specs.declared.IdsAt.TheVariants.{NoIds, AreIds}
-use Rattle.strict_header.specs.declared.NamesAt.{NamesAt}
-use Rattle.strict_header.specs.declared.NamesAt.TheVariants.{NoNames, AreNames}
-use Rattle.strict_header.proofs.Steps.{Fails, Finds}
+use Rattle.strict_header.specs.Pieces.{value_of, pair, triple, ending, ids_at, names_at}
+use Rattle.strict_header.proofs.Steps.{Fails, Finds, finds_so}
 
 -- What an answer m of the code is where nothing is found, and what was found, from the answer.
 module _ {A R : Type 0} (m : Parsed A → R) {p : Reader A} {s : List ℕ} where
@@ -58,118 +42,74 @@ module _ {A R : Type 0} (m : Parsed A → R) {p : Reader A} {s : List ℕ} where
         go failed q g = absurd (h g)
         go (found a l) q g = let f = k a l g in record { value = a; is = q ∙ ap (found a) f.0; has = f.1 }
 
-module _ {A : Type 0} (f : A → ℕ) {p : Reader A} {s : List ℕ} where
-  pub value_found : {v n : ℕ} → Finds (λ a. f a ≡ v) n p s → Value v n ≡ (value_of f) (p s)
+module _ {A B : Type 0} (f : A → B) {p : Reader A} {s : List ℕ} where
+  pub value_found : {v : B} {n : ℕ} → Finds (λ a. f a ≡ v) n p s → Some (v, n) ≡ value_of f (p s)
   value_found w = found_answer (value_of f) w (λ a h. rw h)
 
-  module _ {r : Number} (e : r ≡ (value_of f) (p s)) where
-    pub value_none : r ≡ Nothing → Fails p s
+  module _ {r : std.Option (B × ℕ)} (e : r ≡ value_of f (p s)) where
+    pub value_none : r ≡ None → Fails p s
     value_none h = none_found (value_of f) e (λ a n q. let z : true ≡ false = cc in clash z)
 
-    pub value_some : {v n : ℕ} → r ≡ Value v n → Finds (λ a. f a ≡ v) n p s
-    value_some h = some_found (value_of f) e (λ q. let z : true ≡ false = cc in clash z) (λ a k q. (cc, cc))
+    pub value_some : {v : B} {n : ℕ} → r ≡ Some (v, n) → Finds (λ a. f a ≡ v) n p s
+    value_some h = some_found (value_of f) e (λ q. let z : true ≡ false = cc in clash z) (λ a k q. (some_second (sym q ∙ h), some_first (sym q ∙ h)))
 
 abbrev pub Pair : ℕ → ℕ → List ℕ × List ℕ → Type 0
 Pair a b t = (decimal t.0 ≡ a) × (decimal t.1 ≡ b)
 
 module _ {p : Reader (List ℕ × List ℕ)} {s : List ℕ} where
-  pub pair_found : {x y n : ℕ} → Finds (Pair x y) n p s → IsPair x y n ≡ pair_of (p s)
-  pair_found w = found_answer pair_of w (λ a h. rw (h.0, h.1))
+  pub pair_found : {x y n : ℕ} → Finds (Pair x y) n p s → Some ((x, y), n) ≡ value_of pair (p s)
+  pair_found w = value_found pair (finds_so w (λ t h. rw (h.0, h.1)))
 
-  module _ {r : PairAt} (e : r ≡ pair_of (p s)) where
-    pub pair_none : r ≡ NoPair → Fails p s
-    pair_none h = none_found pair_of e (λ a n q. let z : true ≡ false = cc in clash z)
-
-    pub pair_some : {x y n : ℕ} → r ≡ IsPair x y n → Finds (Pair x y) n p s
-    pair_some h = some_found pair_of e (λ q. let z : true ≡ false = cc in clash z) (λ a k q. (cc, (cc, cc)))
+  module _ {r : std.Option ((ℕ × ℕ) × ℕ)} (e : r ≡ value_of pair (p s)) where
+    pub pair_some : {x y n : ℕ} → r ≡ Some ((x, y), n) → Finds (Pair x y) n p s
+    pair_some h = finds_so (value_some pair e h) (λ t q. (pair_first q, pair_second q))
 
 abbrev pub Triple : ℕ → ℕ → ℕ → Three → Type 0
 Triple a b c t = (decimal t.0 ≡ a) × Pair b c t.1
 
 module _ {p : Reader Three} {s : List ℕ} where
-  pub triple_found : {x y z n : ℕ} → Finds (Triple x y z) n p s → IsTriple x y z n ≡ triple_of (p s)
-  triple_found w = found_answer triple_of w (λ a h. rw (h.0, h.1.0, h.1.1))
+  pub triple_found : {x y z n : ℕ} → Finds (Triple x y z) n p s → Some ((x, y, z), n) ≡ value_of triple (p s)
+  triple_found w = value_found triple (finds_so w (λ t h. rw (h.0, h.1.0, h.1.1)))
 
-  module _ {r : TripleAt} (e : r ≡ triple_of (p s)) where
-    pub triple_none : r ≡ NoTriple → Fails p s
-    triple_none h = none_found triple_of e (λ a n q. let z : true ≡ false = cc in clash z)
-
-    pub triple_some : {x y z n : ℕ} → r ≡ IsTriple x y z n → Finds (Triple x y z) n p s
-    triple_some h = some_found triple_of e (λ q. let z : true ≡ false = cc in clash z) (λ a k q. (cc, (cc, (cc, cc))))
-
-module _ {p : Reader Offset} {s : List ℕ} where
-  pub offset_found : {z : ℤ} {n : ℕ} → Finds (λ o. offset_of o ≡ z) n p s → IsOffset z n ≡ offset_at (p s)
-  offset_found w = found_answer offset_at w (λ a h. rw h)
-
-  module _ {r : OffsetAt} (e : r ≡ offset_at (p s)) where
-    pub offset_none : r ≡ NoOffset → Fails p s
-    offset_none h = none_found offset_at e (λ a n q. let z : true ≡ false = cc in clash z)
-
-    pub offset_some : {z : ℤ} {n : ℕ} → r ≡ IsOffset z n → Finds (λ o. offset_of o ≡ z) n p s
-    offset_some h = some_found offset_at e (λ q. let z : true ≡ false = cc in clash z) (λ a k q. (cc, cc))
+  module _ {r : std.Option ((ℕ × ℕ × ℕ) × ℕ)} (e : r ≡ value_of triple (p s)) where
+    pub triple_some : {x y z n : ℕ} → r ≡ Some ((x, y, z), n) → Finds (Triple x y z) n p s
+    triple_some h = finds_so (value_some triple e h) (λ t q. (ap (λ (k : ℕ × ℕ × ℕ). k.0) q, (ap (λ (k : ℕ × ℕ × ℕ). k.1) q, ap (λ (k : ℕ × ℕ × ℕ). k.2) q)))
 
 abbrev pub Ending : ℕ → ℕ → ℤ → Option (List ℕ) × Offset → Type 0
 Ending v d z t = ((nanos_of t.0 ≡ v) × (digits_of t.0 ≡ d)) × (offset_of t.1 ≡ z)
 
 module _ {p : Reader (Option (List ℕ) × Offset)} {s : List ℕ} where
-  pub ending_found : {v d n : ℕ} {z : ℤ} → Finds (Ending v d z) n p s → IsEnding v d z n ≡ ending_at (p s)
-  ending_found w = found_answer ending_at w (λ a h. rw (h.0.0, h.0.1, h.1))
+  pub ending_found : {v d n : ℕ} {z : ℤ} → Finds (Ending v d z) n p s → Some ((v, d, z), n) ≡ value_of ending (p s)
+  ending_found w = value_found ending (finds_so w (λ t h. rw (h.0.0, h.0.1, h.1)))
 
-  module _ {r : EndingAt} (e : r ≡ ending_at (p s)) where
-    pub ending_none : r ≡ NoEnding → Fails p s
-    ending_none h = none_found ending_at e (λ a n q. let z : true ≡ false = cc in clash z)
-
-    pub ending_some : {v d n : ℕ} {z : ℤ} → r ≡ IsEnding v d z n → Finds (Ending v d z) n p s
-    ending_some h = some_found ending_at e (λ q. let z : true ≡ false = cc in clash z) (λ a k q. (cc, ((cc, cc), cc)))
-
-module _ {p : Reader (Option Timestamp)} {s : List ℕ} where
-  pub stamp_found : {x : Stamp} {n : ℕ} → Finds (λ t. stamp_of t ≡ x) n p s → IsStamp x n ≡ stamp_at (p s)
-  stamp_found w = found_answer stamp_at w (λ a h. rw h)
-
-  module _ {r : StampAt} (e : r ≡ stamp_at (p s)) where
-    pub stamp_none : r ≡ NoStamp → Fails p s
-    stamp_none h = none_found stamp_at e (λ a n q. let z : true ≡ false = cc in clash z)
-
-    pub stamp_some : {x : Stamp} {n : ℕ} → r ≡ IsStamp x n → Finds (λ t. stamp_of t ≡ x) n p s
-    stamp_some h = some_found stamp_at e (λ q. let z : true ≡ false = cc in clash z) (λ a k q. (cc, cc))
-
-module _ (at : ℕ) {p : Reader (List ℕ)} {s : List ℕ} where
-  pub field_found : {x : Place} {n : ℕ} → Finds (λ t. place_of at t ≡ x) n p s → IsField x n ≡ (field_at at) (p s)
-  field_found w = found_answer (field_at at) w (λ a h. rw h)
-
-  module _ {r : FieldAt} (e : r ≡ (field_at at) (p s)) where
-    pub field_none : r ≡ NoField → Fails p s
-    field_none h = none_found (field_at at) e (λ a n q. let z : true ≡ false = cc in clash z)
-
-    pub field_some : {x : Place} {n : ℕ} → r ≡ IsField x n → Finds (λ t. place_of at t ≡ x) n p s
-    field_some h = some_found (field_at at) e (λ q. let z : true ≡ false = cc in clash z) (λ a k q. (cc, cc))
+  module _ {r : std.Option ((ℕ × ℕ × ℤ) × ℕ)} (e : r ≡ value_of ending (p s)) where
+    pub ending_some : {v d n : ℕ} {z : ℤ} → r ≡ Some ((v, d, z), n) → Finds (Ending v d z) n p s
+    ending_some h = finds_so (value_some ending e h) (λ t q. ((ap (λ (k : ℕ × ℕ × ℤ). k.0) q, ap (λ (k : ℕ × ℕ × ℤ). k.1) q), ap (λ (k : ℕ × ℕ × ℤ). k.2) q))
 
 abbrev pub Ids : ℕ → Place → Place → List ℕ × List ℕ → Type 0
 Ids at x y t = (place_of at t.0 ≡ x) × (place_of (at + length t.0 + 1) t.1 ≡ y)
 
 module _ (at : ℕ) {p : Reader (List ℕ × List ℕ)} {s : List ℕ} where
-  pub ids_found : {x y : Place} {n : ℕ} → Finds (Ids at x y) n p s → AreIds x y n ≡ (ids_at at) (p s)
-  ids_found w = found_answer (ids_at at) w (λ a h. rw (h.0, h.1))
+  pub ids_found : {x y : Place} {n : ℕ} → Finds (Ids at x y) n p s → Some ((x, y), n) ≡ value_of (ids_at at) (p s)
+  ids_found w = value_found (ids_at at) (finds_so w (λ t h. rw (h.0, h.1)))
 
-  module _ {r : IdsAt} (e : r ≡ (ids_at at) (p s)) where
-    pub ids_none : r ≡ NoIds → Fails p s
-    ids_none h = none_found (ids_at at) e (λ a n q. let z : true ≡ false = cc in clash z)
-
-    pub ids_some : {x y : Place} {n : ℕ} → r ≡ AreIds x y n → Finds (Ids at x y) n p s
-    ids_some h = some_found (ids_at at) e (λ q. let z : true ≡ false = cc in clash z) (λ a k q. (cc, (cc, cc)))
+  module _ {r : std.Option ((Place × Place) × ℕ)} (e : r ≡ value_of (ids_at at) (p s)) where
+    pub ids_some : {x y : Place} {n : ℕ} → r ≡ Some ((x, y), n) → Finds (Ids at x y) n p s
+    ids_some h = finds_so (value_some (ids_at at) e h) (λ t q. (pair_first q, pair_second q))
 
 abbrev pub Four : ℕ → Place → Place → Place → Place → Names → Type 0
 Four at x y z w t =
     let app = at + length t.0 + 1 in
     (place_of at t.0 ≡ x) × ((place_of app t.1.0 ≡ y) × Ids (app + length t.1.0 + 1) z w t.1.1)
 
+abbrev Places : Type 0
+Places = Place × Place × Place × Place
+
 module _ (at : ℕ) {p : Reader Names} {s : List ℕ} where
-  pub names_found : {x y z w : Place} {n : ℕ} → Finds (Four at x y z w) n p s → AreNames x y z w n ≡ (names_at at) (p s)
-  names_found f = found_answer (names_at at) f (λ a h. rw (h.0, h.1.0, h.1.1.0, h.1.1.1))
+  pub names_found : {x y z w : Place} {n : ℕ} → Finds (Four at x y z w) n p s → Some ((x, y, z, w), n) ≡ value_of (names_at at) (p s)
+  names_found f = value_found (names_at at) (finds_so f (λ t h. rw (h.0, h.1.0, h.1.1.0, h.1.1.1)))
 
-  module _ {r : NamesAt} (e : r ≡ (names_at at) (p s)) where
-    pub names_none : r ≡ NoNames → Fails p s
-    names_none h = none_found (names_at at) e (λ a n q. let z : true ≡ false = cc in clash z)
-
-    pub names_some : {x y z w : Place} {n : ℕ} → r ≡ AreNames x y z w n → Finds (Four at x y z w) n p s
-    names_some h = some_found (names_at at) e (λ q. let z : true ≡ false = cc in clash z) (λ a k q. (cc, (cc, (cc, (cc, cc)))))
+  module _ {r : std.Option (Places × ℕ)} (e : r ≡ value_of (names_at at) (p s)) where
+    pub names_some : {x y z w : Place} {n : ℕ} → r ≡ Some ((x, y, z, w), n) → Finds (Four at x y z w) n p s
+    names_some h =
+        finds_so (value_some (names_at at) e h) (λ t q. (ap (λ (k : Places). k.0) q, (ap (λ (k : Places). k.1) q, (ap (λ (k : Places). k.2) q, ap (λ (k : Places). k.3) q))))

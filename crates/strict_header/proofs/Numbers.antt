@@ -1,5 +1,5 @@
 -- Numbers of the header, between the bytes that enclose them.
-use Rattle.std.specs.Prelude.{if◌then◌else◌}
+use Rattle.std.specs.Prelude.{if◌then◌else◌, Option, Some, None}
 use Prim.Native.Nat.{ℕ, zero, suc, ◌+◌, ◌-◌, ◌*◌, ◌^◌, ◌≤◌, ◌<◌}
 use mathlib.Core.Path.{◌≡◌, refl, sym, ap, ◌∙◌}
 use mathlib.Core.Bool.{Bool, true, false, not, ◌&&◌, and-false}
@@ -19,8 +19,6 @@ use Rattle.base.proofs.Tests.{both, by_test, told}
 use Rattle.base.proofs.Ranges.{inside}
 use Rattle.base.proofs.Runs.{run_le}
 use Rattle.digits.specs.Digits.{is_digit, digit_run, decimal_from, decimal, number_at, fixed_at}
-use Rattle.digits.specs.declared.Number.{Number}
-use Rattle.digits.specs.declared.Number.TheVariants.{Nothing, Value}
 use Rattle.digits.proofs.Choices.{not_chosen}
 use Rattle.digits.proofs.Decimals.{digit_low, decimal_front, decimal_front_lt}
 use Rattle.digits.proofs.Numbers.{IsNumber, number_is}
@@ -29,10 +27,9 @@ use Rattle.grammar.specs.Line.{zero_led}
 use Rattle.grammar.specs.Parse.{on_found, never, only, repeat, fixed, is_version, pri, version, pri_version, two}
 use Rattle.grammar.specs.Parse.Parsed.{failed, found}
 use Rattle.grammar.proofs.Header.{pri_reads, version_reads}
-use Rattle.strict_header.specs.Pieces.{plain_to, value_of, pair_of}
-use Rattle.strict_header.specs.declared.PairAt.TheVariants.{NoPair, IsPair}
+use Rattle.strict_header.specs.Pieces.{value_of, plain_to, minutes_of, pair, triple, ending, ids_at, names_at, text_at}
 use Rattle.strict_header.proofs.Steps.{untold, there, byte_laws, sum_fits, finds_within, next_failed, next_not, next_found, closed_failed, closed_open, closed_found, first_failed, first_found, other_failed, never_failed}
-use Rattle.strict_header.proofs.Answers.{failed_answer, value_found, value_none, value_some, pair_found}
+use Rattle.strict_header.proofs.Answers.{value_found, value_none, value_some, failed_answer, pair_found}
 
 -- ---- a number of at most three digits
 
@@ -57,33 +54,33 @@ few (b ∷ s) (suc n) h e l =
         let f : decimal_from (0 * 10 + (b - 48)) (take n s) ≡ (0 * 10 + (b - 48)) * 10 ^ n + decimal (take n s) = rw w at (decimal_front (0 * 10 + (b - 48)) (take n s)) in
         omega arith
 
-abbrev plain : ℕ → List ℕ → Number
+abbrev plain : ℕ → List ℕ → Option (ℕ × ℕ)
 plain max s = value_of decimal (only (plain_to max) (repeat 3 is_digit) s)
 
 -- where the digits that stand in front are no such number, nothing is found
-not_plain : (s : List ℕ) (max : ℕ) → (leb 1 (digit_run s) ≡ true → plain_to max (take (digit_run s) s) ≡ false) → Nothing ≡ plain max s
+not_plain : (s : List ℕ) (max : ℕ) → (leb 1 (digit_run s) ≡ true → plain_to max (take (digit_run s) s) ≡ false) → None ≡ plain max s
 unfolding only repeat
 not_plain s max e =
     let k = digit_run s in
-    by_test (λ b. Nothing ≡ value_of decimal (on_found (if b then found (take k s) k else failed) (λ a n. if plain_to max a then found a n else failed)))
+    by_test (λ b. None ≡ value_of decimal (on_found (if b then found (take k s) k else failed) (λ a n. if plain_to max a then found a n else failed)))
     (within 1 3 k) (λ w. rw (e (both (leb 1 k) (leb k 3) w).0)) (λ w. refl)
 
-module _ (s : List ℕ) (max : ℕ) (f : Number) (ef : f ≡ number_at max s) where
-  pub number_none : f ≡ Nothing → Nothing ≡ plain max s
+module _ (s : List ℕ) (max : ℕ) (f : Option (ℕ × ℕ)) (ef : f ≡ number_at max s) where
+  pub number_none : f ≡ None → None ≡ plain max s
   unfolding number_at
   number_none e =
       let v = decimal (take (digit_run s) s) in
       let t : (leb 1 (digit_run s) && leb v max) ≡ false = not_chosen _ _ _ (sym ef ∙ e) in
       not_plain s max (λ h. let q : leb v max ≡ false = rw h at t in rw (q, and-false))
 
-  module _ (v n : ℕ) (ev : f ≡ Value v n) (t : Bool) (et : t ≡ is_at s 0 48) where
+  module _ (v n : ℕ) (ev : f ≡ Some (v, n)) (t : Bool) (et : t ≡ is_at s 0 48) where
     is : IsNumber max s v n
     is = number_is max s v n (sym ef ∙ ev)
 
     zero_in_front : zero_led (take n s) ≡ t && ltb 1 n
     zero_in_front = rw et (led s n is.some (omega (arith, is.whole, run_le is_digit s)))
 
-    pub number_led : (t && ltb 1 n) ≡ true → Nothing ≡ plain max s
+    pub number_led : (t && ltb 1 n) ≡ true → None ≡ plain max s
     number_led h = not_plain s max (λ _. rw (← is.whole, zero_in_front, h))
 
     short : (t && ltb 1 n) ≡ false → max ≤ 999 → n ≤ 3
@@ -91,32 +88,32 @@ module _ (s : List ℕ) (max : ℕ) (f : Number) (ef : f ≡ number_at max s) wh
         by_test (λ b. (b && ltb 1 n) ≡ false → t ≡ b → n ≤ 3) t (λ _ z _. omega (arith, ltb-false 1 n z))
         (λ z _ _. few s n (omega (arith, is.whole)) (sym et ∙ z) (omega (arith, is.value, is.small))) h refl
 
-    pub number_plain : (t && ltb 1 n) ≡ false → max ≤ 999 → Value v n ≡ plain max s
+    pub number_plain : (t && ltb 1 n) ≡ false → max ≤ 999 → Some (v, n) ≡ plain max s
     unfolding only repeat
     number_plain h m =
         rw (← is.whole, inside 1 3 n is.some (short h m), zero_in_front, h, ← is.value, le-leb v max is.small)
-        (ap (λ (k : ℕ). Value k n) is.value)
+        (ap (λ (k : ℕ). Some (k, n)) is.value)
 
 pub ruleset number_laws = (number_none, number_led, number_plain)
 
 -- ---- between their bytes
 
 module _ (s : List ℕ) (t : Bool) (et : t ≡ is_at s 0 60) where
-  pub pri_no : not t ≡ true → Nothing ≡ value_of decimal (pri s)
+  pub pri_no : not t ≡ true → None ≡ value_of decimal (pri s)
   unfolding pri
   pri_no h = failed_answer (value_of decimal) (other_failed 60 _ never (untold t _ et h) (never_failed s))
 
-  module _ (h : not t ≡ false) (r : List ℕ) (er : r ≡ drop 1 s) (f : Number) (ef : f ≡ plain 191 r) where
-    pub pri_none : f ≡ Nothing → Nothing ≡ value_of decimal (pri s)
+  module _ (h : not t ≡ false) (r : List ℕ) (er : r ≡ drop 1 s) (f : Option (ℕ × ℕ)) (ef : f ≡ plain 191 r) where
+    pub pri_none : f ≡ None → None ≡ value_of decimal (pri s)
     unfolding pri
     pri_none e = failed_answer (value_of decimal) (first_failed 60 _ never (told t _ et h) er (closed_failed (value_none decimal ef e) 62))
 
-    module _ (v n : ℕ) (ev : f ≡ Value v n) (u : Bool) (eu : u ≡ is_at r n 62) where
-      pub pri_open : not u ≡ true → Nothing ≡ value_of decimal (pri s)
+    module _ (v n : ℕ) (ev : f ≡ Some (v, n)) (u : Bool) (eu : u ≡ is_at r n 62) where
+      pub pri_open : not u ≡ true → None ≡ value_of decimal (pri s)
       unfolding pri
       pri_open k = failed_answer (value_of decimal) (first_failed 60 _ never (told t _ et h) er (closed_open (value_some decimal ef ev) 62 (untold u _ eu k)))
 
-      pub pri_is : not u ≡ false → Value v (n + 2) ≡ value_of decimal (pri s)
+      pub pri_is : not u ≡ false → Some (v, n + 2) ≡ value_of decimal (pri s)
       unfolding pri
       pri_is k = let q : n + 2 ≡ n + 1 + 1 = omega arith in rw q (value_found decimal (first_found 60 _ never (told t _ et h) er (closed_found (value_some decimal ef ev) 62 (told u _ eu k))))
 
@@ -132,7 +129,7 @@ module _ (s : List ℕ) (t : Bool) (et : t ≡ is_at s 0 48) where
   first_digit : (n : ℕ) → 1 ≤ n → is_at (take n s) 0 48 ≡ is_at s 0 48
   first_digit n h = rw (get_or-take n s 0 0)
 
-  pub version_zero : t ≡ true → Nothing ≡ value_of decimal (version s)
+  pub version_zero : t ≡ true → None ≡ value_of decimal (version s)
   unfolding version only repeat
   version_zero h =
       let k = digit_run s in
@@ -156,20 +153,20 @@ module _ (s : List ℕ) (t : Bool) (et : t ≡ is_at s 0 48) where
         rw (first_digit k (leb-true 1 k u.0), ← et, h, le-leb (decimal (take k s)) 999 (omega arith)))
         (λ w. refl)
 
-    module _ (f : Number) (ef : f ≡ plain 999 s) where
+    module _ (f : Option (ℕ × ℕ)) (ef : f ≡ plain 999 s) where
       is_version_lem : f ≡ value_of decimal (only is_version (repeat 3 is_digit) s)
       is_version_lem = ef ∙ ap (value_of decimal) same
 
-      pub version_none : f ≡ Nothing → Nothing ≡ value_of decimal (version s)
+      pub version_none : f ≡ None → None ≡ value_of decimal (version s)
       unfolding version
       version_none e = failed_answer (value_of decimal) (closed_failed (value_none decimal is_version_lem e) 32)
 
-      module _ (v n : ℕ) (ev : f ≡ Value v n) (u : Bool) (eu : u ≡ is_at s n 32) where
-        pub version_open : not u ≡ true → Nothing ≡ value_of decimal (version s)
+      module _ (v n : ℕ) (ev : f ≡ Some (v, n)) (u : Bool) (eu : u ≡ is_at s n 32) where
+        pub version_open : not u ≡ true → None ≡ value_of decimal (version s)
         unfolding version
         version_open k = failed_answer (value_of decimal) (closed_open (value_some decimal is_version_lem ev) 32 (untold u _ eu k))
 
-        pub version_is : not u ≡ false → Value v (n + 1) ≡ value_of decimal (version s)
+        pub version_is : not u ≡ false → Some (v, n + 1) ≡ value_of decimal (version s)
         unfolding version
         version_is k = value_found decimal (closed_found (value_some decimal is_version_lem ev) 32 (told u _ eu k))
 
@@ -177,24 +174,24 @@ pub ruleset version_laws = (byte_laws, version_zero, version_none, version_open,
 
 -- ---- the priority and the version
 
-module _ (s : List ℕ) (f : Number) (v n : ℕ) where
-  pub pri_within : f ≡ value_of decimal (pri s) → f ≡ Value v n → n ≤ length s
+module _ (s : List ℕ) (f : Option (ℕ × ℕ)) (v n : ℕ) where
+  pub pri_within : f ≡ value_of decimal (pri s) → f ≡ Some (v, n) → n ≤ length s
   pri_within e h = finds_within (value_some decimal e h) pri_reads
 
-  pub version_within : f ≡ value_of decimal (version s) → f ≡ Value v n → n ≤ length s
+  pub version_within : f ≡ value_of decimal (version s) → f ≡ Some (v, n) → n ≤ length s
   version_within e h = finds_within (value_some decimal e h) version_reads
 
-module _ (s : List ℕ) (f : Number) (ef : f ≡ value_of decimal (pri s)) where
-  pub start_no_pri : f ≡ Nothing → NoPair ≡ pair_of (pri_version s)
+module _ (s : List ℕ) (f : Option (ℕ × ℕ)) (ef : f ≡ value_of decimal (pri s)) where
+  pub start_no_pri : f ≡ None → None ≡ value_of pair (pri_version s)
   unfolding pri_version
-  start_no_pri e = failed_answer pair_of (next_failed (value_none decimal ef e) version)
+  start_no_pri e = failed_answer (value_of pair) (next_failed (value_none decimal ef e) version)
 
-  module _ (x m : ℕ) (hf : f ≡ Value x m) (r : List ℕ) (er : r ≡ drop m s) (g : Number) (eg : g ≡ value_of decimal (version r)) where
-    pub start_no_version : g ≡ Nothing → NoPair ≡ pair_of (pri_version s)
+  module _ (x m : ℕ) (hf : f ≡ Some (x, m)) (r : List ℕ) (er : r ≡ drop m s) (g : Option (ℕ × ℕ)) (eg : g ≡ value_of decimal (version r)) where
+    pub start_no_version : g ≡ None → None ≡ value_of pair (pri_version s)
     unfolding pri_version
-    start_no_version e = failed_answer pair_of (next_not (value_some decimal ef hf) er (value_none decimal eg e))
+    start_no_version e = failed_answer (value_of pair) (next_not (value_some decimal ef hf) er (value_none decimal eg e))
 
-    pub start_is : (y n : ℕ) → g ≡ Value y n → IsPair x y (m + n) ≡ pair_of (pri_version s)
+    pub start_is : (y n : ℕ) → g ≡ Some (y, n) → Some ((x, y), (m + n)) ≡ value_of pair (pri_version s)
     unfolding pri_version
     start_is y n e = pair_found (next_found (value_some decimal ef hf) er (value_some decimal eg e))
 
@@ -204,18 +201,18 @@ pub ruleset start_laws = (pri_within, version_within, sum_fits, start_no_pri, st
 
 pub fixed_of : (k : ℕ) (s : List ℕ) → fixed_at k s ≡ value_of decimal (fixed k s)
 unfolding fixed_at fixed
-fixed_of k s = by_test (λ b. (if b then Value (decimal (take k s)) k else Nothing) ≡ value_of decimal (if b then found (take k s) k else failed)) (leb k (digit_run s)) (λ e. refl) (λ e. refl)
+fixed_of k s = by_test (λ b. (if b then Some (decimal (take k s), k) else None) ≡ value_of decimal (if b then found (take k s) k else failed)) (leb k (digit_run s)) (λ e. refl) (λ e. refl)
 
 module _ (s : List ℕ) (b : ℕ) (t : Bool) (et : t ≡ is_at s 0 b) where
-  pub two_no : not t ≡ true → Nothing ≡ value_of decimal (two b s)
+  pub two_no : not t ≡ true → None ≡ value_of decimal (two b s)
   two_no h = failed_answer (value_of decimal) (other_failed b (fixed 2) never (untold t _ et h) (never_failed s))
 
-  module _ (h : not t ≡ false) (r : List ℕ) (er : r ≡ drop 1 s) (f : Number) (ef : f ≡ fixed_at 2 r) where
-    pub two_none : f ≡ Nothing → Nothing ≡ value_of decimal (two b s)
+  module _ (h : not t ≡ false) (r : List ℕ) (er : r ≡ drop 1 s) (f : Option (ℕ × ℕ)) (ef : f ≡ fixed_at 2 r) where
+    pub two_none : f ≡ None → None ≡ value_of decimal (two b s)
     two_none e = failed_answer (value_of decimal) (first_failed b (fixed 2) never (told t _ et h) er (value_none decimal (ef ∙ fixed_of 2 r) e))
 
-    module _ (v n : ℕ) (ev : f ≡ Value v n) where
-      pub two_is : Value v (n + 1) ≡ value_of decimal (two b s)
+    module _ (v n : ℕ) (ev : f ≡ Some (v, n)) where
+      pub two_is : Some (v, n + 1) ≡ value_of decimal (two b s)
       two_is = value_found decimal (first_found b (fixed 2) never (told t _ et h) er (value_some decimal (ef ∙ fixed_of 2 r) ev))
 
       pub two_fits : Fits w64 (n + 1)

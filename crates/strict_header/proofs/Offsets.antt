@@ -1,5 +1,5 @@
 -- Offsets from UTC.
-use Rattle.std.specs.Prelude.{if◌then◌else◌}
+use Rattle.std.specs.Prelude.{if◌then◌else◌, Option, Some, None}
 use Prim.Native.Nat.{ℕ, zero, suc, ◌+◌, ◌-◌, ◌*◌, ◌≤◌}
 use mathlib.Core.Path.{◌≡◌, refl, sym, ap, ◌∙◌}
 use mathlib.Core.Bool.{Bool, true, false, not, ◌&&◌, ◌||◌}
@@ -19,43 +19,40 @@ use Rattle.base.proofs.Parts.{at_below}
 use Rattle.base.proofs.Diffs.{sub_ge, sub_lt}
 use Rattle.calendar.specs.Calendar.{offset_limit}
 use Rattle.digits.specs.Digits.{decimal, fixed_at}
-use Rattle.digits.specs.declared.Number.{Number}
-use Rattle.digits.specs.declared.Number.TheVariants.{Nothing, Value}
 use Rattle.grammar.specs.Line.{Offset}
 use Rattle.grammar.specs.Parse.{always, never, choose, behind, ◌next◌, into, fixed, two, is_zone, zone, east_of, west_of, offset}
 use Rattle.grammar.specs.Reading.{offset_of}
 use Rattle.grammar.proofs.Header.{zone_reads}
-use Rattle.strict_header.specs.Pieces.{value_of, minutes_of, offset_at}
-use Rattle.strict_header.specs.declared.OffsetAt.TheVariants.{NoOffset, IsOffset}
+use Rattle.strict_header.specs.Pieces.{value_of, plain_to, minutes_of, pair, triple, ending, ids_at, names_at, text_at}
 use Rattle.strict_header.proofs.Steps.{sum_fits, Fails, Finds, finds_so, finds_within, finds_ok, only_failed, only_not, only_found, into_failed, into_found, next_failed, next_not, next_found, first_failed, first_found, other_failed, other_found, never_failed}
-use Rattle.strict_header.proofs.Answers.{failed_answer, Pair, value_found, value_none, value_some, offset_found}
+use Rattle.strict_header.proofs.Answers.{value_found, value_none, value_some, failed_answer, Pair}
 use Rattle.strict_header.proofs.Numbers.{fixed_of}
 use Rattle.strict_header.proofs.Dates.{two_within, fixed_within}
 
 -- ---- the hour and the minute
 
-module _ (s : List ℕ) (f : Number) (ef : f ≡ fixed_at 2 s) where
-  pub zone_no_hour : f ≡ Nothing → Nothing ≡ value_of minutes_of (zone s)
+module _ (s : List ℕ) (f : Option (ℕ × ℕ)) (ef : f ≡ fixed_at 2 s) where
+  pub zone_no_hour : f ≡ None → None ≡ value_of minutes_of (zone s)
   unfolding zone
   zone_no_hour e = failed_answer (value_of minutes_of) (only_failed (next_failed (value_none decimal (ef ∙ fixed_of 2 s) e) (two 58)) is_zone)
 
-  module _ (h m : ℕ) (ev : f ≡ Value h m) (r : List ℕ) (er : r ≡ drop m s) (g : Number) (eg : g ≡ value_of decimal (two 58 r)) where
-    pub zone_no_minute : g ≡ Nothing → Nothing ≡ value_of minutes_of (zone s)
+  module _ (h m : ℕ) (ev : f ≡ Some (h, m)) (r : List ℕ) (er : r ≡ drop m s) (g : Option (ℕ × ℕ)) (eg : g ≡ value_of decimal (two 58 r)) where
+    pub zone_no_minute : g ≡ None → None ≡ value_of minutes_of (zone s)
     unfolding zone
     zone_no_minute e = failed_answer (value_of minutes_of) (only_failed (next_not (value_some decimal (ef ∙ fixed_of 2 s) ev) er (value_none decimal eg e)) is_zone)
 
-    module _ (k n : ℕ) (eh : g ≡ Value k n) where
+    module _ (k n : ℕ) (eh : g ≡ Some (k, n)) where
       all : Finds (Pair h k) (m + n) (fixed 2 next two 58) s
       all = next_found (value_some decimal (ef ∙ fixed_of 2 s) ev) er (value_some decimal eg eh)
 
       tested : (a : List ℕ × List ℕ) → Pair h k a → (leb h 23 && leb k 59) ≡ is_zone a
       tested a w = rw (w.0, w.1)
 
-      pub zone_not : not (leb h 23 && leb k 59) ≡ true → Nothing ≡ value_of minutes_of (zone s)
+      pub zone_not : not (leb h 23 && leb k 59) ≡ true → None ≡ value_of minutes_of (zone s)
       unfolding zone
       zone_not t = failed_answer (value_of minutes_of) (only_not all is_zone (λ a w. sym (tested a w) ∙ not-true _ t))
 
-      pub zone_is : not (leb h 23 && leb k 59) ≡ false → Value (h * 60 + k) (m + n) ≡ value_of minutes_of (zone s)
+      pub zone_is : not (leb h 23 && leb k 59) ≡ false → Some (h * 60 + k, m + n) ≡ value_of minutes_of (zone s)
       unfolding zone
       zone_is t = value_found minutes_of (finds_so (only_found all is_zone (λ a w. sym (tested a w) ∙ not-false _ t)) (λ a w. rw (w.0, w.1)))
 
@@ -100,7 +97,7 @@ module _ (u d : ℕ) (j : ℤ) (fj : SFits w64 j) (ej : j ≡ sub_ℕ u d) where
 
 pub ruleset minutes_laws = (narrow_fits, minutes_east, minutes_west)
 
-module _ (s : List ℕ) (f : Number) (ef : f ≡ value_of minutes_of (zone s)) (v n : ℕ) (ev : f ≡ Value v n) where
+module _ (s : List ℕ) (f : Option (ℕ × ℕ)) (ef : f ≡ value_of minutes_of (zone s)) (v n : ℕ) (ev : f ≡ Some (v, n)) where
   pub zone_within : n ≤ length s
   zone_within = finds_within (value_some minutes_of ef ev) zone_reads
 
@@ -119,37 +116,37 @@ pub sign_there : (s : List ℕ) (e w : Bool) → e ≡ is_at s 0 43 → w ≡ is
 sign_there s e w ee ew k = by_test (λ _. 1 ≤ length s) e (λ t. at_below s 0 42 (sym ee ∙ t)) (λ t. at_below s 0 44 (sym ew ∙ second e w k t))
 
 module _ (s : List ℕ) (z : Bool) (ez : z ≡ is_at s 0 90) where
-  pub offset_utc : z ≡ true → IsOffset (pos 0) 1 ≡ offset_at (offset s)
+  pub offset_utc : z ≡ true → Some ((pos 0), 1) ≡ value_of offset_of (offset s)
   unfolding offset
-  offset_utc h = offset_found (first_found 90 (always Offset.utc) _ (sym ez ∙ h) refl (record { value = Offset.utc; is = refl; has = refl }))
+  offset_utc h = value_found offset_of (first_found 90 (always Offset.utc) _ (sym ez ∙ h) refl (record { value = Offset.utc; is = refl; has = refl }))
 
   module _ (h : z ≡ false) (e w : Bool) (ee : e ≡ is_at s 0 43) (ew : w ≡ is_at s 0 45) where
-    pub offset_no : not (e || w) ≡ true → NoOffset ≡ offset_at (offset s)
+    pub offset_no : not (e || w) ≡ true → None ≡ value_of offset_of (offset s)
     unfolding offset
     offset_no k =
         let u = neither e w k in
-        failed_answer offset_at
+        failed_answer (value_of offset_of)
         (other_failed 90 (always Offset.utc) _ (sym ez ∙ h)
         (other_failed 43 (into east_of zone) _ (sym ee ∙ u.0) (other_failed 45 (into west_of zone) never (sym ew ∙ u.1) (never_failed s))))
 
-    module _ (k : not (e || w) ≡ false) (r : List ℕ) (er : r ≡ drop 1 s) (f : Number) (ef : f ≡ value_of minutes_of (zone r)) where
-      pub offset_bad : f ≡ Nothing → NoOffset ≡ offset_at (offset s)
+    module _ (k : not (e || w) ≡ false) (r : List ℕ) (er : r ≡ drop 1 s) (f : Option (ℕ × ℕ)) (ef : f ≡ value_of minutes_of (zone r)) where
+      pub offset_bad : f ≡ None → None ≡ value_of offset_of (offset s)
       unfolding offset
       offset_bad q =
           let x = value_none minutes_of ef q in
-          failed_answer offset_at
+          failed_answer (value_of offset_of)
           (other_failed 90 (always Offset.utc) _ (sym ez ∙ h)
           (by_test (λ _. Fails (choose 43 (into east_of zone) (behind 45 (into west_of zone))) s) e
           (λ t. first_failed 43 (into east_of zone) _ (sym ee ∙ t) er (into_failed x east_of))
           (λ t. other_failed 43 (into east_of zone) _ (sym ee ∙ t) (first_failed 45 (into west_of zone) never (sym ew ∙ second e w k t) er (into_failed x west_of)))))
 
-      module _ (v n : ℕ) (ev : f ≡ Value v n) where
-        pub offset_is : (m : ℤ) → SFits w32 m → m ≡ signed e v → IsOffset (to_z w32 (of_z w32 m)) (n + 1) ≡ offset_at (offset s)
+      module _ (v n : ℕ) (ev : f ≡ Some (v, n)) where
+        pub offset_is : (m : ℤ) → SFits w32 m → m ≡ signed e v → Some ((to_z w32 (of_z w32 m)), (n + 1)) ≡ value_of offset_of (offset s)
         unfolding offset
         offset_is m fm em =
             let x = value_some minutes_of ef ev in
             rw (to_z-of_z w32 m fm, em)
-            (offset_found
+            (value_found offset_of
             (other_found 90 (always Offset.utc) _ (sym ez ∙ h)
             (by_test (λ b. Finds (λ o. offset_of o ≡ signed b v) (n + 1) (choose 43 (into east_of zone) (behind 45 (into west_of zone))) s) e
             (λ t. first_found 43 (into east_of zone) _ (sym ee ∙ t) er (into_found x east_of (λ a q. ap pos q)))

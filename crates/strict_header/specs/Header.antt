@@ -1,5 +1,6 @@
 -- For private contracts alone: what the code keeps of a header that the parser of `grammar` finds: numbers and places of the line.
-use Rattle.std.specs.Prelude.{ℕ, ◌+◌, [], length}
+use Rattle.std.specs.Prelude.{ℕ, ◌+◌, [], length, Some, None}
+use Rattle.std.specs.Prelude as std
 use Rattle.std.proofs.Math.Option.{Option, none, some}
 use Rattle.digits.specs.Digits.{decimal}
 use Rattle.record.specs.Places.{absent, place}
@@ -9,8 +10,6 @@ use Rattle.grammar.specs.Parse.{Parsed, Header}
 use Rattle.grammar.specs.Parse.Parsed.{failed, found}
 use Rattle.grammar.specs.Reading.{place_of, stamp_of}
 use Rattle.strict_header.specs.declared.HeaderAt.{HeaderAt}
-use Rattle.strict_header.specs.declared.Heading.{Heading}
-use Rattle.strict_header.specs.declared.Heading.TheVariants.{NoHeader, IsHeader}
 
 -- the place of the timestamp's text, which starts at `at`
 abbrev pub text_place : ℕ → Option Timestamp → Place
@@ -36,6 +35,6 @@ header_at h next =
       next = next;
     }
 
-abbrev pub heading : Parsed Header → Heading
-heading failed = NoHeader
-heading (found h n) = IsHeader (header_at h n)
+abbrev pub heading : Parsed Header → std.Option HeaderAt
+heading failed = None
+heading (found h n) = Some (header_at h n)

@@ -1,5 +1,5 @@
 -- The structured data, counted.
-use Rattle.std.specs.Prelude.{if◌then◌else◌}
+use Rattle.std.specs.Prelude.{if◌then◌else◌, Option, Some, None}
 use Prim.Native.Nat.{ℕ, ◌+◌, ◌-◌, ◌^◌, ◌≤◌, ◌<◌}
 use mathlib.Core.Path.{◌≡◌, refl, sym, ap, ◌∙◌}
 use mathlib.Core.Bool.{Bool, true, false}
@@ -20,24 +20,27 @@ use Rattle.structured_data.specs.declared.Open.{Open}
 use Rattle.structured_data.specs.declared.Walk.{Walk}
 use Rattle.structured_data.specs.declared.Turn.{Turn}
 use Rattle.structured_data.specs.declared.Counts.{Counts}
-use Rattle.structured_data.specs.declared.Counts.TheVariants.{NoData, IsData}
 use Rattle.structured_data.proofs.Hyphen.{hyphen_there}
 use Rattle.structured_data.proofs.Lists.{left, param_rows, Follows, follows}
 use Rattle.structured_data.proofs.Turning.{dead_none, stops_there}
 
+-- counts that are there
+abbrev counts : ℕ → ℕ → ℕ → Option Counts
+counts e p next = Some (record { elements = e; params = p; next = next })
+
 -- The counts of a list that goes from `at` to `next`
 module _ (at e p next : ℕ) where
-  pub counts_none : next ≡ at → NoData ≡ (if eqb next at then NoData else IsData e p next)
+  pub counts_none : next ≡ at → None ≡ (if eqb next at then None else counts e p next)
   counts_none h = rw (eq-eqb next at h)
 
-  pub counts_some : (next ≡ at → ⊥) → IsData e p next ≡ (if eqb next at then NoData else IsData e p next)
+  pub counts_some : (next ≡ at → ⊥) → counts e p next ≡ (if eqb next at then None else counts e p next)
   counts_some h = rw (ne_eqb next at h)
 
 pub ruleset counts_laws = (counts_none, counts_some)
 
 -- There is a hyphen that says so
 module _ (rules : Rules) (s : List ℕ) (at : ℕ) (d : Bool) (ed : d ≡ hyphen_at rules s at) (hd : d ≡ true) where
-  pub data_dash : IsData 0 0 (at + 1) ≡ counts_of (data_from rules s at)
+  pub data_dash : counts 0 0 (at + 1) ≡ counts_of (data_from rules s at)
   unfolding data_from
   data_dash = rw (← ed, hd)
 
@@ -68,7 +71,7 @@ record On (rules : Rules) (s : List ℕ) (at e p i : ℕ) (r : Turn) : Type 0 wh
   counted : Counted rules s at (e + r.elements) (p + r.params) r.next
 
 counts_if : (b : Bool) (x : Rows)
-    → counts_of (if b then no_data else is_data x) ≡ (if b then NoData else IsData (length x.elements) (length x.params) x.next)
+    → counts_of (if b then no_data else is_data x) ≡ (if b then None else counts (length x.elements) (length x.params) x.next)
 counts_if true x = refl
 counts_if false x = refl
 
@@ -134,7 +137,7 @@ module _ (rules : Rules) (s : List ℕ) (at e p i : ℕ) (c : Counted rules s at
     ended r z (Follows.takes next q h l f) = absurd (omega (arith, z, ap (λ (r : Turn). r.next) q))
 
     pub counted_all : (d : Bool) → d ≡ hyphen_at rules s at → d ≡ false → r.next ≡ i
-        → (x : Counts) → x ≡ (if eqb i at then NoData else IsData e p i)
+        → (x : Option Counts) → x ≡ (if eqb i at then None else counts e p i)
         → x ≡ counts_of (data_from rules s at)
     unfolding data_from
     counted_all d ed hd z x ex =

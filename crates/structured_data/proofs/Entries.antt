@@ -1,4 +1,5 @@
 -- The parameters of an element, an entry at a time: the loop that counts them, and the loop that stores them.
+use Rattle.std.specs.Prelude.{Option, Some, None}
 use Prim.Native.Nat.{ℕ, suc, ◌+◌, ◌-◌, ◌^◌, ◌≤◌, ◌<◌}
 use mathlib.Core.Path.{◌≡◌, refl, sym, ap, ◌∙◌}
 use mathlib.Core.Bool.{Bool, true, false, not, ◌||◌}
@@ -17,7 +18,6 @@ use Rattle.structured_data.specs.Param.{param_at}
 use Rattle.structured_data.specs.Element.{Params, none_at, params_from}
 use Rattle.structured_data.specs.Steps.{walk_of, walk_from, entry_of, Stops, Ends, Holds, Stores}
 use Rattle.structured_data.specs.declared.Param.{Param}
-use Rattle.structured_data.specs.declared.Param.TheVariants.{NoParam, IsParam}
 use Rattle.record.specs.declared.Param.{Param as Row}
 use Rattle.record.specs.Params.{row_of, blank}
 use Rattle.structured_data.specs.declared.Entry.{Entry}
@@ -27,27 +27,27 @@ use Rattle.structured_data.proofs.Walks.{ahead, first as first_of, ahead_none, l
 use Rattle.structured_data.proofs.Tables.{sets_append}
 
 -- An entry
-module _ (s : List ℕ) (e start : ℕ) (u : List ℕ) (eu : u ≡ drop start s) (g : Param) (eg : g ≡ param_at u) where
-  there : (p : Param) → g ≡ p → entry_of e start p ≡ entry_of e start (param_at (drop start s))
+module _ (s : List ℕ) (e start : ℕ) (u : List ℕ) (eu : u ≡ drop start s) (g : Option Param) (eg : g ≡ param_at u) where
+  there : (p : Option Param) → g ≡ p → entry_of e start p ≡ entry_of e start (param_at (drop start s))
   there p q = ap (entry_of e start) (sym (ap param_at (sym eu) ∙ sym eg ∙ q))
 
-  pub entry_none : g ≡ NoParam → (b : Row) → b ≡ blank → record { row = b; next = start } ≡ entry_of e start (param_at (drop start s))
-  entry_none q b eb = ap (λ (r : Row). record { row = r; next = start }) eb ∙ there NoParam q
+  pub entry_none : g ≡ None → (b : Row) → b ≡ blank → record { row = b; next = start } ≡ entry_of e start (param_at (drop start s))
+  entry_none q b eb = ap (λ (r : Row). record { row = r; next = start }) eb ∙ there None q
 
-  module _ (n v m len : ℕ) (q : g ≡ IsParam n v m len) where
-    pub entry_found : record { row = record { element = e; name_start = start; name_len = n; value_start = start + v; value_len = m }; next = start + len } ≡ entry_of e start (param_at (drop start s))
-    entry_found = there (IsParam n v m len) q
+  module _ (y : Param) (q : g ≡ Some y) where
+    pub entry_found : record { row = record { element = e; name_start = start; name_len = y.name; value_start = start + y.value; value_len = y.value_len }; next = start + y.len } ≡ entry_of e start (param_at (drop start s))
+    entry_found = there (Some y) q
 
     module _ (h : start ≤ length s) (l : length s < 2 ^ 64) where
-      within : (v ≤ len) × (start + len ≤ length s)
+      within : (y.value ≤ y.len) × (start + y.len ≤ length s)
       within =
-          let i = param_lies (drop start s) n v m len (sym (ap param_at (sym eu) ∙ sym eg ∙ q)) in
+          let i = param_lies (drop start s) y.name y.value y.value_len y.len (sym (ap param_at (sym eu) ∙ sym eg ∙ q)) in
           (omega (arith, i.value_inside), omega (arith, i.within_t, length-drop start s))
 
-      pub value_fits : Fits w64 (start + v)
+      pub value_fits : Fits w64 (start + y.value)
       value_fits = record { fits = omega (arith, within) }
 
-      pub behind_fits : Fits w64 (start + len)
+      pub behind_fits : Fits w64 (start + y.len)
       behind_fits = record { fits = omega (arith, within) }
 
 pub ruleset entry_laws = (entry_none, entry_found, value_fits, behind_fits)
@@ -63,26 +63,26 @@ module _ (s : List ℕ) (e start before : ℕ) (x : Entry) (ex : x ≡ entry_of 
   none : x.next ≡ start → ahead e start before (drop start s) ≡ none_at before
   none z = go (param_at (drop start s)) refl
     where
-      go : (p : Param) → param_at (drop start s) ≡ p → ahead e start before (drop start s) ≡ none_at before
-      go NoParam q = ahead_none e s start before q
-      go (IsParam n v m len) q =
-          let l = len_within e s start before h n v m len q in
-          let k : x.next ≡ start + len = ap (λ (x : Entry). x.next) (ex ∙ ap (entry_of e start) q) in
+      go : (p : Option Param) → param_at (drop start s) ≡ p → ahead e start before (drop start s) ≡ none_at before
+      go None q = ahead_none e s start before q
+      go (Some y) q =
+          let l = len_within e s start before h y.name y.value y.value_len y.len q in
+          let k : x.next ≡ start + y.len = ap (λ (x : Entry). x.next) (ex ∙ ap (entry_of e start) q) in
           absurd (omega arith)
 
   passed : (x.next ≡ start → ⊥) → Passed s e start before x
   passed z = go (param_at (drop start s)) refl
     where
-      go : (p : Param) → param_at (drop start s) ≡ p → Passed s e start before x
-      go NoParam q = absurd (z (ap (λ (x : Entry). x.next) (ex ∙ ap (entry_of e start) q)))
-      go (IsParam n v m len) q =
-          let l = len_within e s start before h n v m len q in
+      go : (p : Option Param) → param_at (drop start s) ≡ p → Passed s e start before x
+      go None q = absurd (z (ap (λ (x : Entry). x.next) (ex ∙ ap (entry_of e start) q)))
+      go (Some x) q =
+          let l = len_within e s start before h x.name x.value x.value_len x.len q in
           rw (ex ∙ ap (entry_of e start) q)
           (record {
             further = omega arith;
             within_s = omega arith;
-            on = ahead_on e s start before h n v m len q;
-            last = ahead_last e s start before h n v m len q;
+            on = ahead_on e s start before h x.name x.value x.value_len x.len q;
+            last = ahead_last e s start before h x.name x.value x.value_len x.len q;
           })
 
 -- Counted so far: behind `n` parameters the position is `next`, and another would start at `start`

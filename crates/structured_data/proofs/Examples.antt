@@ -1,4 +1,5 @@
 -- RULES Data as worked examples, computed from the definitions.
+use Rattle.std.specs.Prelude.{Some, None}
 use Prim.Native.Nat.{ℕ}
 use mathlib.Core.Path.{◌≡◌, refl}
 use mathlib.Core.Bool.{false}
@@ -13,7 +14,6 @@ use Rattle.structured_data.specs.Characters.{quoted_of}
 use Rattle.structured_data.specs.Data.{Data, item_from, elements_from, data_from}
 use Rattle.structured_data.specs.Data.Data.{no_data, is_data}
 use Rattle.structured_data.specs.declared.Rules.TheVariants.{Rfc3164Rules, Rfc5424Rules}
-use Rattle.structured_data.specs.declared.Param.TheVariants.{NoParam, IsParam}
 
 abbrev by3164 : List ℕ → Data
 by3164 t = data_from Rfc3164Rules t 0
@@ -56,12 +56,12 @@ bracket = (refl, refl, refl, refl)
 
 -- a name, `=`, blanks and a value: backslash takes the next character with it, and an empty value lies between its quotes
 params : map (λ t. param_at (bytes t)) ("b=\"c\\\"d\"]" ∷ "b=\"c\\\\\"]" ∷ "b=\"c\\]\"]" ∷ "b=\"\"]" ∷ "b= \t\"1\"" ∷ " c=\"2\"" ∷ "b c=\"\"" ∷ [])
-    ≡ IsParam 1 3 4 8 ∷ IsParam 1 3 3 7 ∷ IsParam 1 3 3 7 ∷ IsParam 1 3 0 4 ∷ IsParam 1 5 1 7 ∷ IsParam 2 4 1 6 ∷ IsParam 3 5 0 6 ∷ []
+    ≡ Some (record { name = 1; value = 3; value_len = 4; len = 8 }) ∷ Some (record { name = 1; value = 3; value_len = 3; len = 7 }) ∷ Some (record { name = 1; value = 3; value_len = 3; len = 7 }) ∷ Some (record { name = 1; value = 3; value_len = 0; len = 4 }) ∷ Some (record { name = 1; value = 5; value_len = 1; len = 7 }) ∷ Some (record { name = 2; value = 4; value_len = 1; len = 6 }) ∷ Some (record { name = 3; value = 5; value_len = 0; len = 6 }) ∷ []
 unfolding param_at quoted_len run
 params = refl
 
 no_params : map (λ t. param_at (bytes t)) ("" ∷ "=\"1\"" ∷ "b" ∷ "b]=\"1\"" ∷ "b =1" ∷ "b=\"1" ∷ "b=\"1\\\"" ∷ "b=\"\\" ∷ [])
-    ≡ NoParam ∷ NoParam ∷ NoParam ∷ NoParam ∷ NoParam ∷ NoParam ∷ NoParam ∷ NoParam ∷ []
+    ≡ None ∷ None ∷ None ∷ None ∷ None ∷ None ∷ None ∷ None ∷ []
 unfolding param_at quoted_len run
 no_params = refl
 

@@ -2,10 +2,12 @@
 use Rattle.std.specs.Prelude.{if◌then◌else◌}
 use Prim.Native.Nat.{ℕ, zero, suc, ◌+◌, ◌-◌, ◌≤◌, ◌<◌}
 use mathlib.Core.Path.{◌≡◌, refl, sym, ap, ◌∙◌}
-use mathlib.Core.Bool.{Bool, true, false, not, ◌&&◌}
+use mathlib.Core.Bool.{Bool, true, false, not, ◌&&◌, cond}
 use mathlib.Core.List.{List, [], ◌∷◌}
 use native.Mathlib.Omega.{arith}
 use lib.Dec.{eqb}
+use Rattle.std.specs.List.{take_while, prefix_len}
+use Rattle.std.proofs.lemmas.List.Folds.{length-prefix_len}
 use lib.ListN.{length, get_or, take, drop}
 use borrow.Author.Tests.{not-true, not-false, ne_eqb}
 use Rattle.base.specs.Choose.{within}
@@ -91,6 +93,17 @@ pub id_eight : (s : List ℕ) → 8 ≤ length s → (b : Bool) → b ≡ eight 
 id_eight s l b e q = eight_on is_plain s (λ i. id_len s ≡ i + id_len (drop i s)) (plain_next s) 0 l (id_start s) b e q
 
 pub ruleset id_laws = (id_out, id_off, id_plain, id_at_white, id_on)
+
+-- the bytes at the front that a test takes are a run
+run_prefix : (p : ℕ → Bool) (s : List ℕ) → prefix_len p s ≡ run p s
+unfolding run
+run_prefix p [] = refl
+run_prefix p (b ∷ s) =
+    let m = run_prefix p s in
+    by_test (λ t. cond t (1 + prefix_len p s) 0 ≡ (if t then suc (run p s) else 0)) (p b) (λ _. omega arith) (λ _. refl)
+
+pub taken_run : (p : ℕ → Bool) (s : List ℕ) → length (take_while p s) ≡ run p s
+taken_run p s = length-prefix_len p s ∙ run_prefix p s
 
 -- a letter of a name
 pub name_letter : (s : List ℕ) (i : ℕ) → Runs is_named s (run is_named s) i → i < length s → 94 ≤ get_or s i 0 → Runs is_named s (run is_named s) (i + 1)

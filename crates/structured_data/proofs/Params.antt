@@ -1,5 +1,5 @@
 -- A parameter: what decides it, and that it lies within its part.
-use Rattle.std.specs.Prelude.{if◌then◌else◌}
+use Rattle.std.specs.Prelude.{if◌then◌else◌, Option, Some, None}
 use Prim.Native.Nat.{ℕ, suc, ◌+◌, ◌-◌, ◌^◌, ◌≤◌, ◌<◌}
 use mathlib.Core.Path.{◌≡◌, refl, sym, ap, ap₂, ◌∙◌}
 use mathlib.Core.Bool.{Bool, true, false, not, ◌&&◌}
@@ -18,17 +18,14 @@ use Rattle.base.proofs.Tests.{clash, by_test}
 use Rattle.base.proofs.Parts.{at_below}
 use Rattle.base.proofs.Runs.{run_in}
 use Rattle.parsers.specs.Steps.{is_blank, blanks_from}
-use Rattle.parsers.specs.declared.Pos.{Pos}
-use Rattle.parsers.specs.declared.Pos.TheVariants.{NoPos, IsPos}
 use Rattle.structured_data.specs.Param.{is_named, quoted_len, param_at}
 use Rattle.structured_data.specs.Steps.{value_end}
 use Rattle.structured_data.specs.declared.Param.{Param}
-use Rattle.structured_data.specs.declared.Param.TheVariants.{NoParam, IsParam}
 use Rattle.structured_data.proofs.Values.{quoted_le, quoted_behind}
 
 -- The quote that ends a value
 module _ (s : List ℕ) (q : ℕ) (b : Bool) (eb : b ≡ is_at s q 34) where
-  pub value_unquoted : not b ≡ true → NoPos ≡ value_end s q
+  pub value_unquoted : not b ≡ true → None ≡ value_end s q
   unfolding value_end
   value_unquoted h = rw (← eb, not-true b h)
 
@@ -47,22 +44,22 @@ module _ (s : List ℕ) (q : ℕ) (b : Bool) (eb : b ≡ is_at s q 34) where
       value_fits l = record { fits = omega (arith, value_is, behind_quote, quoted_le false (drop (q + 1) s), length-drop (q + 1) s) }
 
       module _ (d : Bool) (ed : d ≡ is_at s (q + 1 + m) 34) where
-        pub value_open : not d ≡ true → NoPos ≡ value_end s q
+        pub value_open : not d ≡ true → None ≡ value_end s q
         unfolding value_end
         value_open h = rw (← eb, not-false b hb, ← value_is, ← ed, not-true d h)
 
-        pub value_closed : not d ≡ false → IsPos (q + 1 + m) ≡ value_end s q
+        pub value_closed : not d ≡ false → Some (q + 1 + m) ≡ value_end s q
         unfolding value_end
         value_closed h = rw (← eb, not-false b hb, ← value_is, ← ed, not-false d h)
 
-pub value_within : (s : List ℕ) (q end : ℕ) → IsPos end ≡ value_end s q → (q + 1 ≤ end) × (end + 1 ≤ length s)
+pub value_within : (s : List ℕ) (q end : ℕ) → Some end ≡ value_end s q → (q + 1 ≤ end) × (end + 1 ≤ length s)
 unfolding value_end
 value_within s q end e = go (is_at s q 34) (is_at s (q + 1 + m) 34) refl refl e
   where
     m : ℕ
     m = quoted_len false (drop (q + 1) s)
 
-    go : (b d : Bool) → is_at s q 34 ≡ b → is_at s (q + 1 + m) 34 ≡ d → IsPos end ≡ (if b && d then IsPos (q + 1 + m) else NoPos)
+    go : (b d : Bool) → is_at s q 34 ≡ b → is_at s (q + 1 + m) 34 ≡ d → Some end ≡ (if b && d then Some (q + 1 + m) else None)
         → (q + 1 ≤ end) × (end + 1 ≤ length s)
     go true true p r e =
         let z : end ≡ q + 1 + m = cc in
@@ -73,13 +70,17 @@ value_within s q end e = go (is_at s q 34) (is_at s (q + 1 + m) 34) refl refl e
 
 pub ruleset value_laws = (value_unquoted, behind_quote, quote_fits, value_fits, value_open, value_closed)
 
+-- a parameter that is there
+abbrev pub param : ℕ → ℕ → ℕ → ℕ → Option Param
+param n v m len = Some (record { name = n; value = v; value_len = m; len = len })
+
 -- A parameter of a name of `n` bytes and a value between the quotes at `q` and `end`
-param_of : ℕ → ℕ → Pos → Param
-param_of n q NoPos = NoParam
-param_of n q (IsPos end) = IsParam n (q + 1) (end - (q + 1)) (end + 1)
+param_of : ℕ → ℕ → Option ℕ → Option Param
+param_of n q None = None
+param_of n q (Some end) = param n (q + 1) (end - (q + 1)) (end + 1)
 
 module _ (t : List ℕ) (n : ℕ) (en : n ≡ run is_named t) where
-  pub param_unnamed : n ≡ 0 → NoParam ≡ param_at t
+  pub param_unnamed : n ≡ 0 → None ≡ param_at t
   unfolding param_at
   param_unnamed z = rw (← en, z)
 
@@ -87,7 +88,7 @@ module _ (t : List ℕ) (n : ℕ) (en : n ≡ run is_named t) where
     some_name : leb 1 n ≡ true
     some_name = le-leb 1 n (omega arith)
 
-    pub param_no_equals : not a ≡ true → NoParam ≡ param_at t
+    pub param_no_equals : not a ≡ true → None ≡ param_at t
     unfolding param_at
     param_no_equals h = rw (← en, some_name, ← ea, not-true a h)
 
@@ -106,21 +107,21 @@ module _ (t : List ℕ) (n : ℕ) (en : n ≡ run is_named t) where
             m : ℕ
             m = quoted_len false (drop (q + 1) t)
 
-            go : (b d : Bool) → (if b && d then IsParam n (q + 1) m (q + m + 2) else NoParam) ≡ param_of n q (if b && d then IsPos (q + 1 + m) else NoPos)
+            go : (b d : Bool) → (if b && d then param n (q + 1) m (q + m + 2) else None) ≡ param_of n q (if b && d then Some (q + 1 + m) else None)
             go true true =
                 let l : m ≡ q + 1 + m - (q + 1) = omega arith in
                 let k : q + m + 2 ≡ q + 1 + m + 1 = omega arith in
-                ap₂ (IsParam n (q + 1)) l k
+                ap₂ (λ (j i : ℕ). param n (q + 1) j i) l k
             go true false = refl
             go false d = refl
 
-        module _ (g : Pos) (eg : g ≡ value_end t q) where
-          pub param_open : g ≡ NoPos → NoParam ≡ param_at t
+        module _ (g : Option ℕ) (eg : g ≡ value_end t q) where
+          pub param_open : g ≡ None → None ≡ param_at t
           unfolding param_of
           param_open h = sym (param_is ∙ ap (param_of n q) (sym eg ∙ h))
 
-          module _ (end : ℕ) (h : g ≡ IsPos end) where
-            pub param_found : IsParam n (q + 1) (end - (q + 1)) (end + 1) ≡ param_at t
+          module _ (end : ℕ) (h : g ≡ Some end) where
+            pub param_found : param n (q + 1) (end - (q + 1)) (end + 1) ≡ param_at t
             unfolding param_of
             param_found = sym (param_is ∙ ap (param_of n q) (sym eg ∙ h))
 
@@ -206,7 +207,7 @@ module _ (t : List ℕ) (n q m : ℕ) (c : Parts t n q m) where
         anew = value_anew;
       }
 
-pub param_lies : (t : List ℕ) (n v m len : ℕ) → IsParam n v m len ≡ param_at t → Lies t n v m len
+pub param_lies : (t : List ℕ) (n v m len : ℕ) → param n v m len ≡ param_at t → Lies t n v m len
 unfolding param_at
 param_lies t n v m len e = go (leb 1 n') (is_at t n' 61) (is_at t q 34) (is_at t (q + 1 + m') 34) refl refl refl refl e
   where
@@ -220,13 +221,14 @@ param_lies t n v m len e = go (leb 1 n') (is_at t n' 61) (is_at t q 34) (is_at t
     m' = quoted_len false (drop (q + 1) t)
 
     go : (a b c d : Bool) → leb 1 n' ≡ a → is_at t n' 61 ≡ b → is_at t q 34 ≡ c → is_at t (q + 1 + m') 34 ≡ d
-        → IsParam n v m len ≡ (if a && b && c && d then IsParam n' (q + 1) m' (q + m' + 2) else NoParam)
+        → param n v m len ≡ (if a && b && c && d then param n' (q + 1) m' (q + m' + 2) else None)
         → Lies t n v m len
     go true true true true a b c d e =
-        let p : n ≡ n' = cc in
-        let r : v ≡ q + 1 = cc in
-        let k : m ≡ m' = cc in
-        let j : len ≡ q + m' + 2 = cc in
+        let y : ◌≡◌ {A = Param} (record { name = n; value = v; value_len = m; len = len }) (record { name = n'; value = q + 1; value_len = m'; len = q + m' + 2 }) = cc in
+        let p : n ≡ n' = ap (λ (x : Param). x.name) y in
+        let r : v ≡ q + 1 = ap (λ (x : Param). x.value) y in
+        let k : m ≡ m' = ap (λ (x : Param). x.value_len) y in
+        let j : len ≡ q + m' + 2 = ap (λ (x : Param). x.len) y in
         rw (p, r, k, j) (parts_lie t n' q m' (record { name = refl; some = leb-true 1 n' a; equals = b; blanks = refl; opens = c; value = refl; closes = d }))
     go true true true false a b c d e = clash (cc)
     go true true false _ a b c d e = clash (cc)

@@ -1,5 +1,5 @@
 -- The walk over an element's parameters: one step of it, its ends, how far it goes, and what a `]` that it passes says of its end.
-use Rattle.std.specs.Prelude.{if◌then◌else◌}
+use Rattle.std.specs.Prelude.{if◌then◌else◌, Option, Some, None}
 use Prim.Native.Nat.{ℕ, zero, suc, ◌+◌, ◌-◌, ◌≤◌, ◌<◌}
 use mathlib.Core.Path.{◌≡◌, refl, sym, ap, ◌∙◌}
 use mathlib.Core.Bool.{Bool, true, false}
@@ -16,7 +16,6 @@ use Rattle.structured_data.specs.Param.{quoted_len, param_at}
 use Rattle.structured_data.specs.Element.{Params, none_at, param_and, more_params, params_from}
 use Rattle.structured_data.specs.Steps.{walk_of, walk_from, fate_of}
 use Rattle.structured_data.specs.declared.Param.{Param}
-use Rattle.structured_data.specs.declared.Param.TheVariants.{NoParam, IsParam}
 use Rattle.structured_data.specs.declared.Walk.{Walk}
 use Rattle.structured_data.proofs.Params.{Lies, param_lies, at_part, unbracket}
 
@@ -55,10 +54,10 @@ module _ (e : ℕ) (s : List ℕ) where
 
   -- a step of the walk
   module _ (start before : ℕ) where
-    pub ahead_none : param_at (drop start s) ≡ NoParam → ahead e start before (drop start s) ≡ none_at before
+    pub ahead_none : param_at (drop start s) ≡ None → ahead e start before (drop start s) ≡ none_at before
     ahead_none q = rw q
 
-    module _ (h : start ≤ length s) (n v m len : ℕ) (q : param_at (drop start s) ≡ IsParam n v m len) where
+    module _ (h : start ≤ length s) (n v m len : ℕ) (q : param_at (drop start s) ≡ Some (record { name = n; value = v; value_len = m; len = len })) where
       lies : Lies (drop start s) n v m len
       lies = param_lies (drop start s) n v m len (sym q)
 
@@ -87,11 +86,11 @@ module _ (e at before : ℕ) (t : List ℕ) (more : ℕ → Params) (h : before 
       → Reaches before (at + length t) (param_and e at before (param_at t) more)
   and_reaches r = go (param_at t) refl
     where
-      go : (p : Param) → p ≡ param_at t → Reaches before (at + length t) (param_and e at before p more)
-      go NoParam q = record { few = omega arith; end_within = omega arith }
-      go (IsParam n v m len) q =
-          let l = param_lies t n v m len q in
-          let i = r len l.within_t in
+      go : (p : Option Param) → p ≡ param_at t → Reaches before (at + length t) (param_and e at before p more)
+      go None q = record { few = omega arith; end_within = omega arith }
+      go (Some x) q =
+          let l = param_lies t x.name x.value x.value_len x.len q in
+          let i = r x.len l.within_t in
           record { few = omega (arith, i.few, l.value_inside); end_within = i.end_within }
 
 more_reaches : (e k at : ℕ) (t : List ℕ) → k ≤ length t → Reaches (at + k) (at + length t) (more_params e k at t)
@@ -119,10 +118,10 @@ unfolding params_from
 params_reach e at s h = ahead_reaches e at at s (omega arith) h
 
 -- Neither the count nor the position depends on the element's number
-and_any : (e at before : ℕ) (p : Param) (more more' : ℕ → Params) → ((len : ℕ) → walk_of (more len) ≡ walk_of (more' len))
+and_any : (e at before : ℕ) (p : Option Param) (more more' : ℕ → Params) → ((len : ℕ) → walk_of (more len) ≡ walk_of (more' len))
     → walk_of (param_and e at before p more) ≡ walk_of (param_and 0 at before p more')
-and_any e at before NoParam more more' r = refl
-and_any e at before (IsParam n v m len) more more' r = ap (λ (w : Walk). record { count = suc w.count; next = w.next }) (r len)
+and_any e at before None more more' r = refl
+and_any e at before (Some x) more more' r = ap (λ (w : Walk). record { count = suc w.count; next = w.next }) (r x.len)
 
 more_any : (e k at : ℕ) (t : List ℕ) → walk_of (more_params e k at t) ≡ walk_of (more_params 0 k at t)
 unfolding more_params
@@ -142,15 +141,15 @@ pub some_unclosed : (s : List ℕ) (at : ℕ) → 1 ≤ (walk_from s at).count �
 unfolding params_from
 some_unclosed s at h = go (param_at (drop at s)) refl
   where
-    go : (p : Param) → param_at (drop at s) ≡ p → is_at s at 93 ≡ false
-    go NoParam q = absurd (omega (arith, ap (λ (ps : Params). length ps.rows) (ahead_none 0 s at at q)))
-    go (IsParam n v m len) q =
+    go : (p : Option Param) → param_at (drop at s) ≡ p → is_at s at 93 ≡ false
+    go None q = absurd (omega (arith, ap (λ (ps : Params). length ps.rows) (ahead_none 0 s at at q)))
+    go (Some x) q =
         let z : at + 0 ≡ at = omega arith in
-        sym (at_part s at 0 93 ∙ ap (λ (k : ℕ). is_at s k 93) z) ∙ (param_lies (drop at s) n v m len (sym q)).unclosed
+        sym (at_part s at 0 93 ∙ ap (λ (k : ℕ). is_at s k 93) z) ∙ (param_lies (drop at s) x.name x.value x.value_len x.len (sym q)).unclosed
 
 -- A walk that passes a `]` ends where each other walk does that passes it
 module _ (s : List ℕ) (r : ℕ) (b : is_at s r 93 ≡ true) where
-  in_param : (start n v m len : ℕ) → param_at (drop start s) ≡ IsParam n v m len → start ≤ r → r < start + len
+  in_param : (start n v m len : ℕ) → param_at (drop start s) ≡ Some (record { name = n; value = v; value_len = m; len = len }) → start ≤ r → r < start + len
       → r + 2 + quoted_len false (drop (r + 1) s) ≡ start + len
   in_param start n v m len q h l =
       let k = r - start in
@@ -169,22 +168,22 @@ module _ (s : List ℕ) (r : ℕ) (b : is_at s r 93 ≡ true) where
       w : start ≤ length s
       w = omega (arith, at_below s r 92 b)
 
-      go : (p : Param) → param_at (drop start s) ≡ p → (ahead 0 start before (drop start s)).next ≡ fate_of s r
-      go NoParam q = absurd (omega (arith, ap (λ (ps : Params). ps.next) (ahead_none 0 s start before q)))
-      go (IsParam n v m len) q = there (dec_le (start + len) r)
+      go : (p : Option Param) → param_at (drop start s) ≡ p → (ahead 0 start before (drop start s)).next ≡ fate_of s r
+      go None q = absurd (omega (arith, ap (λ (ps : Params). ps.next) (ahead_none 0 s start before q)))
+      go (Some y) q = there (dec_le (start + y.len) r)
         where
-          there : Dec (start + len ≤ r) → (ahead 0 start before (drop start s)).next ≡ fate_of s r
+          there : Dec (start + y.len ≤ r) → (ahead 0 start before (drop start s)).next ≡ fate_of s r
           there (no k) =
-              ap (λ (ps : Params). ps.next) (ahead_first 0 s start before w n v m len q)
-              ∙ ap (λ (i : ℕ). (more_params 0 0 i (drop i s)).next) (sym (in_param start n v m len q h (omega arith)))
-          there (yes k) = behind (is_at s (start + len) 32) refl
+              ap (λ (ps : Params). ps.next) (ahead_first 0 s start before w y.name y.value y.value_len y.len q)
+              ∙ ap (λ (i : ℕ). (more_params 0 0 i (drop i s)).next) (sym (in_param start y.name y.value y.value_len y.len q h (omega arith)))
+          there (yes k) = behind (is_at s (start + y.len) 32) refl
             where
-              behind : (c : Bool) → is_at s (start + len) 32 ≡ c → (ahead 0 start before (drop start s)).next ≡ fate_of s r
-              behind false e = absurd (omega (arith, ap (λ (ps : Params). ps.next) (ahead_last 0 s start before w n v m len q e)))
+              behind : (c : Bool) → is_at s (start + y.len) 32 ≡ c → (ahead 0 start before (drop start s)).next ≡ fate_of s r
+              behind false e = absurd (omega (arith, ap (λ (ps : Params). ps.next) (ahead_last 0 s start before w y.name y.value y.value_len y.len q e)))
               behind true e =
-                  let a = ap (λ (ps : Params). ps.next) (ahead_on 0 s start before w n v m len q e) in
-                  let z : start + len ≡ r → ⊥ = λ z. clash (sym b ∙ ap (λ (i : ℕ). is_at s i 93) (sym z) ∙ unbracket (λ x. eqb x 32) refl s (start + len) e) in
-                  a ∙ ih (start + len) (omega arith) (omega arith) (omega arith) (rw (← a) l)
+                  let a = ap (λ (ps : Params). ps.next) (ahead_on 0 s start before w y.name y.value y.value_len y.len q e) in
+                  let z : start + y.len ≡ r → ⊥ = λ z. clash (sym b ∙ ap (λ (i : ℕ). is_at s i 93) (sym z) ∙ unbracket (λ x. eqb x 32) refl s (start + y.len) e) in
+                  a ∙ ih (start + y.len) (omega arith) (omega arith) (omega arith) (rw (← a) l)
 
   fate_from : (fuel start before : ℕ) → length s ≤ start + fuel → Fated start before
   unfolding Fated

@@ -1,4 +1,5 @@
 -- The position behind the structured data lies in the line.
+use Rattle.std.specs.Prelude.{Option, Some}
 use Prim.Native.Nat.{ℕ, zero, suc, ◌+◌, ◌-◌, ◌≤◌}
 use mathlib.Core.Path.{◌≡◌, sym, ◌∙◌}
 use mathlib.Core.List.{List, [], ◌∷◌}
@@ -13,7 +14,6 @@ use Rattle.structured_data.specs.Data.Data.{no_data, is_data}
 use Rattle.structured_data.specs.Tables.{counts_of}
 use Rattle.structured_data.specs.declared.Rules.{Rules}
 use Rattle.structured_data.specs.declared.Counts.{Counts}
-use Rattle.structured_data.specs.declared.Counts.TheVariants.{IsData}
 use Rattle.structured_data.proofs.Hyphen.{hyphen_there}
 
 item_within : (e at n : ℕ) (i : Item) (more : ℕ → ℕ → Rows) → at ≤ n → ((f next : ℕ) → (more f next).next ≤ n) → (item_and e at i more).next ≤ n
@@ -40,13 +40,13 @@ data_in rules s at h =
     (λ d. by_if (DataIn (length s)) (eqb (elements_from rules 0 0 at (drop at s)).next at) _ _ (λ q. tt)
     (λ q. omega (arith, elements_within rules 0 0 at (drop at s), length-drop at s)))
 
-pub data_within : (rules : Rules) (s : List ℕ) (at : ℕ) → at ≤ length s → (g : Counts) → g ≡ counts_of (data_from rules s at)
-    → (e p n : ℕ) → g ≡ IsData e p n → n ≤ length s
-data_within rules s at h g eg e p n z = go (data_from rules s at) (data_in rules s at h) (sym eg ∙ z)
+pub data_within : (rules : Rules) (s : List ℕ) (at : ℕ) → at ≤ length s → (g : Option Counts) → g ≡ counts_of (data_from rules s at)
+    → (c : Counts) → g ≡ Some c → c.next ≤ length s
+data_within rules s at h g eg c z = go (data_from rules s at) (data_in rules s at h) (sym eg ∙ z)
   where
-    go : (d : Data) → DataIn (length s) d → counts_of d ≡ IsData e p n → n ≤ length s
+    go : (d : Data) → DataIn (length s) d → counts_of d ≡ Some c → c.next ≤ length s
     go no_data i q = let m : ◌≡◌ {A = ℕ} 0 1 = cc in absurd (omega arith)
-    go (is_data rows) i q = let m : rows.next ≡ n = cc in omega arith
+    go (is_data rows) i q = let m : rows.next ≡ c.next = cc in omega arith
 
 pub rows_within : (rules : Rules) (s : List ℕ) (at : ℕ) (rows : Rows) → data_from rules s at ≡ is_data rows → at ≤ length s → rows.next ≤ length s
 rows_within rules s at rows e h = rw e at (data_in rules s at h)

@@ -1,12 +1,11 @@
 -- structured_data.rs, an element: `[`, id (one or more characters up to white space, `]` or `=`), blanks, parameters separated by one space, `]`.
-use Rattle.std.specs.Prelude.{ℕ, zero, suc, ◌+◌, ◌-◌, List, [], ◌∷◌, not, ◌&&◌, ◌||◌, leb, eqb, drop, if◌then◌else◌}
+use Rattle.std.specs.Prelude.{ℕ, zero, suc, ◌+◌, ◌-◌, List, [], ◌∷◌, not, ◌&&◌, ◌||◌, leb, eqb, drop, if◌then◌else◌, Option, Some, None}
 use Rattle.base.specs.Choose.{is_at}
 use Rattle.base.specs.Runs.{run}
 use Rattle.white.specs.White.{white_len}
 use Rattle.parsers.specs.Steps.{is_blank}
 use Rattle.structured_data.specs.Param.{param_at}
 use Rattle.structured_data.specs.declared.Param.{Param}
-use Rattle.structured_data.specs.declared.Param.TheVariants.{NoParam, IsParam}
 
 -- how many bytes come before the first white character, `]` or `=`
 unfoldable pub id_len : List ℕ → ℕ
@@ -22,11 +21,11 @@ abbrev pub none_at : ℕ → Params
 none_at at = record { rows = []; next = at }
 
 -- a parameter of element `e` at `at`, and those of `more` after it; or none, at `before`
-abbrev pub param_and : ℕ → ℕ → ℕ → Param → (ℕ → Params) → Params
-param_and e at before NoParam more = none_at before
-param_and e at before (IsParam n v m len) more =
-    let ps = more len in
-    record { rows = (e ∷ at ∷ n ∷ (at + v) ∷ m ∷ []) ∷ ps.rows; next = ps.next }
+abbrev pub param_and : ℕ → ℕ → ℕ → Option Param → (ℕ → Params) → Params
+param_and e at before None more = none_at before
+param_and e at before (Some x) more =
+    let ps = more x.len in
+    record { rows = (e ∷ at ∷ x.name ∷ (at + x.value) ∷ x.value_len ∷ []) ∷ ps.rows; next = ps.next }
 
 -- after a parameter: one space and a parameter, again and again. `k` bytes of the text still belong to the parameter before.
 unfoldable pub more_params : ℕ → ℕ → ℕ → List ℕ → Params

@@ -1,11 +1,9 @@
 -- For private contracts alone: steps of the walk over structured data, by positions of the text `s`.
-use Rattle.std.specs.Prelude.{ℕ, ◌+◌, ◌-◌, ◌≤◌, ◌<◌, ◌≡◌, List, Bool, true, false, ◌&&◌, leb, length, take, drop, if◌then◌else◌}
+use Rattle.std.specs.Prelude.{ℕ, ◌+◌, ◌-◌, ◌≤◌, ◌<◌, ◌≡◌, List, Bool, true, false, ◌&&◌, leb, length, take, drop, if◌then◌else◌, Option, Some, None}
 use Rattle.std.proofs.lemmas.List.Edits.{sets}
 use Rattle.base.specs.Choose.{within, is_at}
 use Rattle.record.specs.Params.{blank}
 use Rattle.parsers.specs.Steps.{blanks_from}
-use Rattle.parsers.specs.declared.Pos.{Pos}
-use Rattle.parsers.specs.declared.Pos.TheVariants.{NoPos, IsPos}
 use Rattle.structured_data.specs.Param.{is_named, quoted_len}
 use Rattle.structured_data.specs.Element.{Params, id_len, more_params, params_from}
 use Rattle.structured_data.specs.Data.{Item, item_from}
@@ -13,7 +11,6 @@ use Rattle.structured_data.specs.Data.Item.{taken, skipped, ended}
 use Rattle.structured_data.specs.declared.Rules.{Rules}
 use Rattle.structured_data.specs.declared.Rules.TheVariants.{Rfc3164Rules, Rfc5424Rules}
 use Rattle.structured_data.specs.declared.Param.{Param}
-use Rattle.structured_data.specs.declared.Param.TheVariants.{NoParam, IsParam}
 use Rattle.structured_data.specs.declared.Entry.{Entry}
 use Rattle.structured_data.specs.declared.Walk.{Walk}
 use Rattle.structured_data.specs.declared.Open.{Open}
@@ -24,10 +21,10 @@ abbrev pub is_plain : ℕ → Bool
 is_plain b = within 33 127 b && is_named b
 
 -- the quote that ends the value whose first quote is at `quote`
-unfoldable pub value_end : List ℕ → ℕ → Pos
+unfoldable pub value_end : List ℕ → ℕ → Option ℕ
 value_end s quote =
     let end = quote + 1 + quoted_len false (drop (quote + 1) s) in
-    if is_at s quote 34 && is_at s end 34 then IsPos end else NoPos
+    if is_at s quote 34 && is_at s end 34 then Some end else None
 
 -- how many parameters there are, and the position after them
 abbrev pub walk_of : Params → Walk
@@ -37,9 +34,9 @@ abbrev pub walk_from : List ℕ → ℕ → Walk
 walk_from s at = walk_of (params_from 0 at (drop at s))
 
 -- the entry of a parameter of element `e` at `start`, and the position after it
-abbrev pub entry_of : ℕ → ℕ → Param → Entry
-entry_of e start NoParam = record { row = blank; next = start }
-entry_of e start (IsParam n v m len) = record { row = record { element = e; name_start = start; name_len = n; value_start = start + v; value_len = m }; next = start + len }
+abbrev pub entry_of : ℕ → ℕ → Option Param → Entry
+entry_of e start None = record { row = blank; next = start }
+entry_of e start (Some x) = record { row = record { element = e; name_start = start; name_len = x.name; value_start = start + x.value; value_len = x.value_len }; next = start + x.len }
 
 -- the element whose parameters start at `at` fails
 abbrev pub Fails : List ℕ → ℕ → Type 0

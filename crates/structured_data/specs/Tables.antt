@@ -1,16 +1,15 @@
 -- For private contracts alone: the rows of structured data as the code keeps them: counted, and then stored into tables.
-use Rattle.std.specs.Prelude.{ℕ, ◌≤◌, ◌≡◌, List, length}
+use Rattle.std.specs.Prelude.{ℕ, ◌≤◌, ◌≡◌, List, length, Option, Some, None}
 use Rattle.base.specs.Fills.{filled}
 use Rattle.structured_data.specs.Data.{Data, data_from, rows_or}
 use Rattle.structured_data.specs.Data.Data.{no_data, is_data}
 use Rattle.structured_data.specs.declared.Rules.{Rules}
 use Rattle.structured_data.specs.declared.Counts.{Counts}
-use Rattle.structured_data.specs.declared.Counts.TheVariants.{NoData, IsData}
 
 -- their counts, and the position after them
-abbrev pub counts_of : Data → Counts
-counts_of no_data = NoData
-counts_of (is_data rows) = IsData (length rows.elements) (length rows.params) rows.next
+abbrev pub counts_of : Data → Option Counts
+counts_of no_data = None
+counts_of (is_data rows) = Some (record { elements = length rows.elements; params = length rows.params; next = rows.next })
 
 -- tables with room for the rows, which are counted
 pub record Room (rules : Rules) (s : List ℕ) (at e p : ℕ) (elements params : List (List ℕ)) : Type 0 where

@@ -9,10 +9,7 @@ ghost use Rattle.structured_data.specs.Element.{id_len};
 ghost use Rattle.structured_data.specs.Element.Element.{no_element};
 ghost use Rattle.structured_data.specs.Data.{item_of, hyphen_at, data_from};
 ghost use Rattle.structured_data.specs.Tables.{counts_of, Room, Fills};
-ghost use Rattle.structured_data.specs.declared.Counts.TheVariants.{NoData, IsData};
 ghost use Rattle.structured_data.specs.Steps.{is_plain, value_end, entry_of, Stops, Ends, Holds, Stores, open_from, ends_list, turn_of, Stop, Closes, Turns};
-
-use parsers::Pos;
 
 // Which lines the rules are of: they differ in a hyphen, and in what follows an element that fails or has no parameters.
 #[derive(Clone, Copy)]
@@ -23,14 +20,11 @@ pub enum Rules {
 
 // A parameter at the front of a part: the length of its name, the start and the length of its value, and the length of all.
 #[derive(Clone, Copy)]
-pub enum Param {
-    NoParam,
-    IsParam {
-        name: usize,
-        value: usize,
-        value_len: usize,
-        len: usize,
-    },
+pub struct Param {
+    pub name: usize,
+    pub value: usize,
+    pub value_len: usize,
+    pub len: usize,
 }
 
 // The parameters of an element: their count, and the position after them.
@@ -65,38 +59,24 @@ struct Turn {
 
 // The counts of elements and parameters, and the position after them.
 #[derive(Clone, Copy)]
-pub enum Counts {
-    NoData,
-    IsData {
-        elements: usize,
-        params: usize,
-        next: usize,
-    },
+pub struct Counts {
+    pub elements: usize,
+    pub params: usize,
+    pub next: usize,
 }
 
+// Whether a name or an id may have the byte. Letters are asked for first.
 fn is_named(b: u8) -> bool
     ensures { result ≡ is_named b }
 {
-    !((b == b']') | (b == b'='))
+    94 <= b || (b != b']' && b != b'=')
 }
 
-// How many bytes at the front of `s` may be a name's. Letters are asked for first.
+// How many bytes at the front of `s` may be a name's.
 fn name_run(s: &[u8]) -> usize
     ensures { result ≡ run is_named s.now }
 {
-    let mut i = 0;
-    while i < s.len() {
-        let b = s[i];
-        if 94 <= b {
-            i += 1;
-        } else {
-            if !is_named(b) {
-                return i;
-            }
-            i += 1;
-        }
-    }
-    i
+    s.iter().take_while(|b| is_named(**b)).count()
 }
 
 // How many bytes of a value come before the quote that ends it: a backslash is passed with what it takes.
@@ -123,41 +103,36 @@ fn quoted_len(s: &[u8]) -> usize
 }
 
 // The position of the quote that ends the value whose first quote is at `quote`.
-fn value_end(s: &[u8], quote: usize) -> Pos
+fn value_end(s: &[u8], quote: usize) -> Option<usize>
     ensures { result ≡ value_end s.now quote }
 {
     if !base::is_at(s, quote, b'"') {
-        return Pos::NoPos;
+        return None;
     }
     let end = quote + 1 + quoted_len(base::past(s, quote + 1));
     if !base::is_at(s, end, b'"') {
-        return Pos::NoPos;
+        return None;
     }
-    Pos::IsPos(end)
+    Some(end)
 }
 
 // The parameter at the front of `s`.
-pub fn param_at(s: &[u8]) -> Param
+pub fn param_at(s: &[u8]) -> Option<Param>
     ensures { result ≡ param_at s.now }
 {
     let name = name_run(s);
-    if name == 0 {
-        return Param::NoParam;
-    }
-    if !base::is_at(s, name, b'=') {
-        return Param::NoParam;
+    if name == 0 || !base::is_at(s, name, b'=') {
+        return None;
     }
     let quote = parsers::blanks_from(s, name + 1);
-    let Pos::IsPos(end) = value_end(s, quote) else {
-        return Param::NoParam;
-    };
+    let end = value_end(s, quote)?;
     let value = quote + 1;
-    Param::IsParam {
+    Some(Param {
         name,
         value,
         value_len: end - value,
         len: end + 1,
-    }
+    })
 }
 
 // Whether the first eight bytes are ASCII above the space that ends no id. All are asked, so that the compiler makes one test of them.
@@ -217,13 +192,7 @@ fn entry_from(s: &[u8], e: usize, start: usize) -> Entry
     requires { start ≤ length s.now }
     ensures { result ≡ entry_of e start (param_at (drop start s.now)) }
 {
-    let Param::IsParam {
-        name,
-        value,
-        value_len,
-        len,
-    } = param_at(base::past(s, start))
-    else {
+    let Some(param) = param_at(base::past(s, start)) else {
         return Entry {
             row: record::blank(),
             next: start,
@@ -232,13 +201,13 @@ fn entry_from(s: &[u8], e: usize, start: usize) -> Entry
     let row = record::Param {
         element: e,
         name_start: start,
-        name_len: name,
-        value_start: start + value,
-        value_len,
+        name_len: param.name,
+        value_start: start + param.value,
+        value_len: param.value_len,
     };
     Entry {
         row,
-        next: start + len,
+        next: start + param.len,
     }
 }
 
@@ -432,17 +401,17 @@ fn turn_from(rules: Rules, s: &[u8], at: usize, id: usize, walk: Walk, dead: usi
 }
 
 // The counts of a list that started at `at`, and ended at `next`.
-fn counts_at(at: usize, elements: usize, params: usize, next: usize) -> Counts
-    ensures { result ≡ (if eqb next at then NoData else IsData elements params next) }
+fn counts_at(at: usize, elements: usize, params: usize, next: usize) -> Option<Counts>
+    ensures { result ≡ (if eqb next at then None else Some (record { elements = elements; params = params; next = next })) }
 {
     if next == at {
-        return Counts::NoData;
+        return None;
     }
-    Counts::IsData {
+    Some(Counts {
         elements,
         params,
         next,
-    }
+    })
 }
 
 // RFC 5424: `-` says that there are no elements. RFC 3164: a hyphen there belongs to the message.
@@ -456,15 +425,15 @@ fn hyphen_at(rules: Rules, s: &[u8], at: usize) -> bool
 }
 
 // The structured data at `at`: its counts, and the position after it.
-pub fn count_data(rules: Rules, s: &[u8], at: usize) -> Counts
+pub fn count_data(rules: Rules, s: &[u8], at: usize) -> Option<Counts>
     ensures { result ≡ counts_of (data_from rules s.now at) }
 {
     if hyphen_at(rules, s, at) {
-        return Counts::IsData {
+        return Some(Counts {
             elements: 0,
             params: 0,
             next: at + 1,
-        };
+        });
     }
     let mut elements = 0;
     let mut params = 0;

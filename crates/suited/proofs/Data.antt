@@ -1,4 +1,5 @@
 -- Structured data, by the rules of either protocol: ids, names and values lie in the line, and element numbers rise from 0 to below the count.
+use Rattle.std.specs.Prelude.{Option, Some, None}
 use Prim.Native.Nat.{ℕ, zero, suc, ◌+◌, ◌-◌, ◌≤◌}
 use mathlib.Core.Path.{◌≡◌, refl}
 use mathlib.Core.List.{List, [], ◌∷◌}
@@ -18,7 +19,6 @@ use Rattle.structured_data.specs.Element.Element.{no_element, is_element}
 use Rattle.structured_data.specs.Data.{Rows, Item, item_of, item_from, item_and, elements_from, Data, hyphen_at, data_from, rows_or}
 use Rattle.structured_data.specs.Data.Item.{taken, skipped, ended}
 use Rattle.structured_data.specs.declared.Param.{Param}
-use Rattle.structured_data.specs.declared.Param.TheVariants.{NoParam, IsParam}
 use Rattle.structured_data.specs.declared.Rules.{Rules}
 use Rattle.structured_data.specs.declared.Rules.TheVariants.{Rfc3164Rules, Rfc5424Rules}
 use Rattle.structured_data.proofs.Ids.{id_le}
@@ -33,11 +33,11 @@ module _ (line : List ℕ) where
       → RowsOf line e (param_and e at before (param_at t) more).rows
   param_and_lem e at before t more h k = go (param_at t) refl
     where
-      go : (p : Param) → p ≡ param_at t → RowsOf line e (param_and e at before p more).rows
-      go NoParam q = tt
-      go (IsParam n v m len) q =
-          let l = param_lies t n v m len q in
-          (record { from = omega arith; below = omega arith; name_in = omega (arith, l); value_in = omega (arith, l) }, k len)
+      go : (p : Option Param) → p ≡ param_at t → RowsOf line e (param_and e at before p more).rows
+      go None q = tt
+      go (Some x) q =
+          let l = param_lies t x.name x.value x.value_len x.len q in
+          (record { from = omega arith; below = omega arith; name_in = omega (arith, l); value_in = omega (arith, l) }, k x.len)
 
   more_params_lem : (e k at : ℕ) (t : List ℕ) → at + length t ≤ length line → RowsOf line e (more_params e k at t).rows
   unfolding more_params

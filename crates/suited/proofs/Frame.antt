@@ -1,4 +1,5 @@
 -- A loose reading that was done: the settings were right, the outcome is the record, and the tables hold its rows.
+use Rattle.std.specs.Prelude.{Ok}
 use Prim.Native.Nat.{ℕ}
 use mathlib.Core.Path.{◌≡◌, refl}
 use mathlib.Core.List.{List, []}
@@ -53,11 +54,11 @@ pub record Judged (o : Outcome) (r : Record) (e p : ℕ) : Type 0 where
   pub params_many : p ≡ length rows.params
 
 module _ {r : Record} {e p : ℕ} where
-  judged_is : (line : List ℕ) (o : Outcome) (m n : ℕ) → judged line o m n ≡ Read r e p → Judged o r e p
+  judged_is : (line : List ℕ) (o : Outcome) (m n : ℕ) → judged line o m n ≡ Ok (Read r e p) → Judged o r e p
   judged_is line no_reading m n h = let z : true ≡ false = cc in clash z
   judged_is line (is_reading x at rows) m n h =
-      let u = past (Read r e p) (read_done r e p) (ltb m (length rows.elements)) _ _ h in
-      let v = past (Read r e p) (read_done r e p) (ltb n (length rows.params)) _ _ u.1 in
+      let u = past (Ok (Read r e p)) (read_done r e p) (ltb m (length rows.elements)) _ _ h in
+      let v = past (Ok (Read r e p)) (read_done r e p) (ltb n (length rows.params)) _ _ u.1 in
       let w = v.1 in
       let er : r ≡ x = cc in
       record { at = at; rows = rows; outcome = rw er; elements_many = cc; params_many = cc }
@@ -68,12 +69,12 @@ module _ {r : Record} {e p : ℕ} where
   judged_suits line e₀ p₀ e₁ p₁ o at rows q n m s a b =
       rw (a, b, q, n, m) (suits_filled line r rows.elements rows.params e₀ p₀ (rw q at s))
 
-  module _ (line : List ℕ) (e₀ p₀ e₁ p₁ : List (List ℕ)) (variant year : ℕ) (offset : ℤ) (h : Reads line variant year offset e₀ p₀ (Read r e p) e₁ p₁) where
+  module _ (line : List ℕ) (e₀ p₀ e₁ p₁ : List (List ℕ)) (variant year : ℕ) (offset : ℤ) (h : Reads line variant year offset e₀ p₀ (Ok (Read r e p)) e₁ p₁) where
     abbrev outcome : Outcome
     outcome = outcome_of line variant year offset
 
-    reading_passes : Passed line variant year offset (judged line outcome (length e₀) (length p₀) ≡ Read r e p)
-    reading_passes = passes (Read r e p) (read_done r e p) line variant year offset (length e₀) (length p₀) h.answer
+    reading_passes : Passed line variant year offset (judged line outcome (length e₀) (length p₀) ≡ Ok (Read r e p))
+    reading_passes = passes (Ok (Read r e p)) (read_done r e p) line variant year offset (length e₀) (length p₀) h.answer
 
     pub reading_short : ltb line_limit (length line) ≡ false
     reading_short = reading_passes.short

@@ -1,4 +1,5 @@
 -- The records of both protocols: levels, timestamps and places that suit the line.
+use Rattle.std.specs.Prelude.{Option, Some, None}
 use Prim.Native.Nat.{ℕ, ◌+◌, ◌/◌, ◌%◌, ◌≤◌}
 use mathlib.Core.Path.{◌≡◌, refl}
 use mathlib.Core.List.{List}
@@ -11,20 +12,13 @@ use borrow.Author.Tests.{le-leb, leb-true, eq-eqb}
 use Rattle.base.specs.Choose.{is_at}
 use Rattle.base.proofs.Tests.{both, by_if}
 use Rattle.white.specs.Trim.{trimmed}
-use Rattle.digits.specs.declared.Number.{Number}
-use Rattle.digits.specs.declared.Number.TheVariants.{Nothing, Value}
 use Rattle.digits.specs.Digits.{number_at}
 use Rattle.calendar.specs.Calendar.{offset_limit, last_year}
-use Rattle.record.specs.declared.Level.{Level}
-use Rattle.record.specs.declared.Stamp.{Stamp}
-use Rattle.record.specs.declared.Stamp.TheVariants.{Unstamped, Stamped}
 use Rattle.pri.specs.Pri.{no_pri, pri_after, pri_at}
 use Rattle.pri.specs.declared.Pri.{Pri}
-use Rattle.parsers.specs.Steps.{blanks_from}
+use Rattle.parsers.specs.Steps.{blanks_from, on_read}
 use Rattle.parsers.proofs.Steps.{blanks_within}
 use Rattle.timestamp.specs.Timestamp.{rfc3164_from}
-use Rattle.timestamp.specs.declared.Stamping.{Stamping}
-use Rattle.timestamp.specs.declared.Stamping.TheVariants.{NoStamp, IsStamp}
 use Rattle.timestamp.proofs.Answers.{StampIn, rfc3164_within, rfc3164_stamp}
 use Rattle.structured_data.specs.Data.{data_from}
 use Rattle.structured_data.specs.declared.Rules.TheVariants.{Rfc3164Rules, Rfc5424Rules}
@@ -40,6 +34,7 @@ use Rattle.loose.specs.Loose.{outcome_of, settings_ok}
 use Rattle.loose.proofs.Variants.{of_variant}
 use Rattle.suited.proofs.Frame.{OutcomeSuits}
 use Rattle.suited.proofs.Data.{data_in}
+use Rattle.record.specs.declared.Timestamp.{Timestamp}
 
 -- the priority
 record PriSuits (p : Pri) : Type 0 where
@@ -53,21 +48,21 @@ pri_suits s = by_if PriSuits (is_at s 0 60) _ _ (λ h. after (number_at 255 (dro
     none : PriSuits no_pri
     none = record { facility = refl; severity = refl }
 
-    after : (r : Number) → PriSuits (pri_after s r)
-    after Nothing = none
-    after (Value v n) =
-        by_if PriSuits (is_at s (n + 1) 62) _ _
+    after : (r : Option (ℕ × ℕ)) → PriSuits (pri_after s r)
+    after None = none
+    after (Some x) =
+        by_if PriSuits (is_at s (x.1 + 1) 62) _ _
         (λ h.
         record {
-          facility = by_if (λ (l : Level). level_suits 23 l ≡ true) (leb (v / 8) 23) _ _ (λ q. q) (λ q. refl);
-          severity = le-leb (v % 8) 7 (omega arith);
+          facility = by_if (λ (l : Option ℕ). level_suits 23 l ≡ true) (leb (x.0 / 8) 23) _ _ (λ q. q) (λ q. refl);
+          severity = le-leb (x.0 % 8) 7 (omega arith);
         })
         (λ h. none)
 
 -- the timestamp
-pub stamp_suits_lem : (t : Stamp) → StampIn offset_limit t → stamp_suits t ≡ true
-stamp_suits_lem Unstamped h = refl
-stamp_suits_lem (Stamped t) h = rw (le-leb _ _ h.nanos_to, le-leb _ _ h.digits_to, eq-eqb _ 0 h.digits_show, le-leb _ _ h.offset_to, h.year_in)
+pub stamp_suits_lem : (t : Option Timestamp) → StampIn offset_limit t → stamp_suits t ≡ true
+stamp_suits_lem None h = refl
+stamp_suits_lem (Some t) h = rw (le-leb _ _ h.nanos_to, le-leb _ _ h.digits_to, eq-eqb _ 0 h.digits_show, le-leb _ _ h.offset_to, h.year_in)
 
 -- a line whose text `s`, from `start` on, is read
 module _ (line s : List ℕ) (inside : length s ≤ length line) (start : ℕ) where
@@ -107,16 +102,16 @@ module _ (line s : List ℕ) (inside : length s ≤ length line) (start : ℕ) w
         from : ℕ
         from = blanks_from s (start + pri.next)
 
-        go : (g : Stamping) → g ≡ rfc3164_from year offset s from → OutcomeSuits line (rfc3164.on_stamping g no_reading (λ stamp a. rfc3164.body_from pri stamp s a))
-        go NoStamp q = tt
-        go (IsStamp t a) q =
+        go : (g : Option (Option Timestamp × ℕ)) → g ≡ rfc3164_from year offset s from → OutcomeSuits line (on_read g no_reading (λ stamp a. rfc3164.body_from pri stamp s a))
+        go None q = tt
+        go (Some x) q =
             let p = pri_suits (drop start s) in
-            let places = body_in pri t s a (rfc3164_within s from _ t a refl year offset q) in
+            let places = body_in pri x.0 s x.1 (rfc3164_within s from _ x.0 x.1 refl year offset q) in
             record {
               of_record = record {
                 facility_in = p.facility;
                 severity_in = p.severity;
-                timestamp_in = stamp_suits_lem t (rfc3164_stamp s from _ t a refl year offset q range);
+                timestamp_in = stamp_suits_lem x.0 (rfc3164_stamp s from _ x.0 x.1 refl year offset q range);
                 host_in = omega (arith, places);
                 app_in = omega (arith, places);
                 procid_in = omega (arith, places);

@@ -1,4 +1,5 @@
 -- The division of a line: its fields and its elements lie in the line, and its timestamp can be shown.
+use Rattle.std.specs.Prelude.{Result, Ok, Err}
 use Prim.Native.Nat.{ℕ, ◌+◌, ◌-◌, ◌/◌, ◌%◌, ◌^◌, ◌≤◌}
 use mathlib.Core.Path.{◌≡◌, refl, ap}
 use mathlib.Core.Bool.{true, false, ◌&&◌}
@@ -22,7 +23,7 @@ use Rattle.calendar.proofs.ThereAndBack.{back}
 use Rattle.record.specs.Limits.{line_limit}
 use Rattle.record.specs.declared.Place.{Place}
 use Rattle.record.specs.declared.StrictRecord.{StrictRecord}
-use Rattle.record.specs.declared.StrictReading.TheVariants.{Read, Refused}
+use Rattle.record.specs.declared.StrictReading.{StrictReading}
 use Rattle.record.specs.declared.Refusal.{Refusal}
 use Rattle.grammar.specs.Abnf.{is_digit}
 use Rattle.grammar.specs.Line.{Param, Element, Timestamp, Division, Each, each_then, param_then, element_then, data_then, message_text, SecfracOk, TimestampOk, ParamOk, ElementOk, Derives}
@@ -146,8 +147,11 @@ module _ (line : List ℕ) where
 
 -- ---- the reading
 
-never : {A : Type 0} {s : StrictRecord} {e p : ℕ} (f : Refusal) → Read s e p ≡ Refused f → A
-never f h = let z : true ≡ false = cc in clash z
+never : {A : Type 0} {s : StrictRecord} {e p : ℕ} (f : Refusal) → ◌≡◌ {A = Result StrictReading Refusal} (Ok (record { reading = s; elements = e; params = p })) (Err f) → A
+never f h = absurd (cc)
+
+same_reading : {r q : StrictReading} → ◌≡◌ {A = Result StrictReading Refusal} (Ok r) (Ok q) → r ≡ q
+same_reading h = cc
 
 -- the division of a line that was read
 pub record Divided (line : List ℕ) (s : StrictRecord) (e p : ℕ) (e₀ p₀ e₁ p₁ : List (List ℕ)) : Type 0 where
@@ -170,15 +174,25 @@ divided_suits {line} e₀ p₀ d h q n m a b =
     (suits_filled line (record_of d).common (element_rows at es) (param_rows 0 at es) e₀ p₀ (division_suits line d h))
 
 module _ {line : List ℕ} {e₀ p₀ e₁ p₁ : List (List ℕ)} {s : StrictRecord} {e p : ℕ} where
-  pub reading_divided : StrictReads line e₀ p₀ (Read s e p) e₁ p₁ → Divided line s e p e₀ p₀ e₁ p₁
+  pub reading_divided : StrictReads line e₀ p₀ (Ok (record { reading = s; elements = e; params = p })) e₁ p₁ → Divided line s e p e₀ p₀ e₁ p₁
   reading_divided (too_long l a b c) = never _ a
   reading_divided (underivable l h a b c) = never _ a
   reading_divided (elements_over d l h m a b c) = never _ a
   reading_divided (params_over d l h k m a b c) = never _ a
   reading_divided (accepted d l h k m a b c) =
-      record { by = d; derives = h; short = l; its = cc; elements_many = cc; params_many = cc; elements_are = b; params_are = c }
+      let q = same_reading a in
+      record {
+        by = d;
+        derives = h;
+        short = l;
+        its = ap (λ (x : StrictReading). x.reading) q;
+        elements_many = ap (λ (x : StrictReading). x.elements) q;
+        params_many = ap (λ (x : StrictReading). x.params) q;
+        elements_are = b;
+        params_are = c;
+      }
 
-  module _ (h : StrictReads line e₀ p₀ (Read s e p) e₁ p₁) where
+  module _ (h : StrictReads line e₀ p₀ (Ok (record { reading = s; elements = e; params = p })) e₁ p₁) where
     pub reading_short : ltb line_limit (length line) ≡ false
     reading_short = le-ltb line_limit (length line) (reading_divided h).short
 

@@ -1,4 +1,5 @@
 -- Worked examples, computed from the definitions: one case that suits at every limit, and each sentence of refusal 7 broken once.
+use Rattle.std.specs.Prelude.{Option, Some, None}
 use Prim.Native.Nat.{ℕ}
 use mathlib.Core.Path.{◌≡◌, refl}
 use mathlib.Core.Bool.{Bool, true, false}
@@ -9,13 +10,10 @@ use Rattle.base.specs.Bytes.{bytes}
 use Rattle.calendar.specs.Instant.{shown}
 use Rattle.record.specs.Places.{absent, place}
 use Rattle.record.specs.declared.Place.{Place}
-use Rattle.record.specs.declared.Level.{Level}
-use Rattle.record.specs.declared.Level.TheVariants.{Unset, Set}
 use Rattle.record.specs.declared.Protocol.TheVariants.{Rfc3164}
 use Rattle.record.specs.declared.Record.{Record}
-use Rattle.record.specs.declared.Stamp.{Stamp}
-use Rattle.record.specs.declared.Stamp.TheVariants.{Unstamped, Stamped}
 use Rattle.suits.specs.Suits.{record_suits, elements_suit, params_suit, tables_suit, suits}
+use Rattle.record.specs.declared.Timestamp.{Timestamp}
 
 abbrev line : List ℕ
 line = bytes "0123456789"
@@ -30,7 +28,7 @@ record Case : Type 0 where
 abbrev suit : Case → Bool
 suit c = suits line c.of c.e c.p c.elements c.params
 
-abbrev fields : Level → Level → Stamp → Place → Place → Place → Place → ℕ → Record
+abbrev fields : Option ℕ → Option ℕ → Option Timestamp → Place → Place → Place → Place → ℕ → Record
 fields facility severity timestamp host app procid msgid message =
     record {
       protocol = Rfc3164;
@@ -45,11 +43,11 @@ fields facility severity timestamp host app procid msgid message =
     }
 
 -- the last second of the year 9999 at the offset, and the first of the year 0
-abbrev last : ℕ → ℕ → ℤ → Stamp
-last nanos digits offset = Stamped record { seconds = pos 253402300799; nanos = nanos; digits = digits; offset = offset }
+abbrev last : ℕ → ℕ → ℤ → Option Timestamp
+last nanos digits offset = Some record { seconds = pos 253402300799; nanos = nanos; digits = digits; offset = offset }
 
-abbrev first : ℤ → Stamp
-first offset = Stamped record { seconds = negsuc 62167219199; nanos = 0; digits = 0; offset = offset }
+abbrev first : ℤ → Option Timestamp
+first offset = Some record { seconds = negsuc 62167219199; nanos = 0; digits = 0; offset = offset }
 
 abbrev whole : Place
 whole = place 0 10
@@ -62,11 +60,11 @@ lost = record { present = false; start = 11; len = 0 }
 abbrev alone : Record → Case
 alone r = record { of = r; e = 0; p = 0; elements = []; params = [] }
 
-abbrev fraction : Stamp → Bool
-fraction t = suit (alone (fields Unset Unset t absent absent absent absent 8))
+abbrev fraction : Option Timestamp → Bool
+fraction t = suit (alone (fields None None t absent absent absent absent 8))
 
 abbrev plain : Record
-plain = fields Unset Unset Unstamped absent absent absent absent 8
+plain = fields None None None absent absent absent absent 8
 
 -- two elements, and parameters of them
 abbrev ids : List (List ℕ)
@@ -80,9 +78,9 @@ row k = k ∷ 3 ∷ 7 ∷ 10 ∷ 0 ∷ []
 
 taken : map suit
     (alone plain
-    ∷ alone (fields (Set 23) (Set 7) (last 999999999 9 (pos 0)) whole whole whole whole 8)
-    ∷ alone (fields (Set 0) (Set 0) (last 0 0 (negsuc 1438)) whole absent whole absent 8)
-    ∷ alone (fields Unset Unset (first (pos 1439)) absent absent absent absent 8)
+    ∷ alone (fields (Some 23) (Some 7) (last 999999999 9 (pos 0)) whole whole whole whole 8)
+    ∷ alone (fields (Some 0) (Some 0) (last 0 0 (negsuc 1438)) whole absent whole absent 8)
+    ∷ alone (fields None None (first (pos 1439)) absent absent absent absent 8)
     ∷ rows 3 (row 0 ∷ row 1 ∷ row 1 ∷ row 7 ∷ [])
     ∷ [])
     ≡ replicate 5 true
@@ -91,13 +89,13 @@ taken = refl
 
 -- facility, severity, nanoseconds, offset either way, local year 10000 and the one before 0
 numbers : map suit
-    (alone (fields (Set 24) Unset Unstamped absent absent absent absent 8)
-    ∷ alone (fields Unset (Set 8) Unstamped absent absent absent absent 8)
-    ∷ alone (fields Unset Unset (last 1000000000 9 (pos 0)) absent absent absent absent 8)
-    ∷ alone (fields Unset Unset (first (pos 1440)) absent absent absent absent 8)
-    ∷ alone (fields Unset Unset (last 0 0 (negsuc 1439)) absent absent absent absent 8)
-    ∷ alone (fields Unset Unset (last 0 0 (pos 1)) absent absent absent absent 8)
-    ∷ alone (fields Unset Unset (first (negsuc 0)) absent absent absent absent 8)
+    (alone (fields (Some 24) None None absent absent absent absent 8)
+    ∷ alone (fields None (Some 8) None absent absent absent absent 8)
+    ∷ alone (fields None None (last 1000000000 9 (pos 0)) absent absent absent absent 8)
+    ∷ alone (fields None None (first (pos 1440)) absent absent absent absent 8)
+    ∷ alone (fields None None (last 0 0 (negsuc 1439)) absent absent absent absent 8)
+    ∷ alone (fields None None (last 0 0 (pos 1)) absent absent absent absent 8)
+    ∷ alone (fields None None (first (negsuc 0)) absent absent absent absent 8)
     ∷ [])
     ≡ replicate 7 false
 unfolding suits tables_suit record_suits elements_suit params_suit shown
@@ -111,11 +109,11 @@ fractions = (refl, refl)
 
 -- a place past the line: each text, absent too, and the message
 places : map suit
-    (alone (fields Unset Unset Unstamped (place 8 3) absent absent absent 8)
-    ∷ alone (fields Unset Unset Unstamped absent lost absent absent 8)
-    ∷ alone (fields Unset Unset Unstamped absent absent (place 0 11) absent 8)
-    ∷ alone (fields Unset Unset Unstamped absent absent absent lost 8)
-    ∷ alone (fields Unset Unset Unstamped absent absent absent absent 9)
+    (alone (fields None None None (place 8 3) absent absent absent 8)
+    ∷ alone (fields None None None absent lost absent absent 8)
+    ∷ alone (fields None None None absent absent (place 0 11) absent 8)
+    ∷ alone (fields None None None absent absent absent lost 8)
+    ∷ alone (fields None None None absent absent absent absent 9)
     ∷ [])
     ≡ replicate 5 false
 unfolding suits tables_suit record_suits elements_suit params_suit shown

@@ -2,4 +2,3 @@ pub mod Rows
 pub mod Tests
 pub mod Suited
 pub mod Examples
-pub mod Checks

@@ -1,4 +1,5 @@
 -- What a record, counts and tables that suit a line tell a caller.
+use Rattle.std.specs.Prelude.{Option, Some, None}
 use Prim.Native.Nat.{ℕ, zero, suc, ◌+◌, ◌-◌, ◌%◌, ◌^◌, ◌≤◌, ◌<◌}
 use mathlib.Core.Path.{◌≡◌, refl, sym}
 use mathlib.Core.List.{List, [], ◌∷◌}
@@ -13,10 +14,7 @@ use Rattle.base.proofs.Tests.{clash, both}
 use Rattle.calendar.specs.Calendar.{offset_limit}
 use Rattle.calendar.specs.Instant.{shown, is_shown}
 use Rattle.calendar.specs.declared.DateTime.{DateTime}
-use Rattle.calendar.specs.declared.Shown.{Shown}
-use Rattle.calendar.specs.declared.Shown.TheVariants.{Outside, At}
 use Rattle.record.specs.declared.Record.{Record}
-use Rattle.record.specs.declared.Stamp.TheVariants.{Stamped}
 use Rattle.record.specs.declared.Timestamp.{Timestamp}
 use Rattle.suits.specs.Suits.{place_suits, level_suits, stamp_suits, record_suits, elements_suit, param_suits, params_suit, tables_suit, suits}
 
@@ -27,9 +25,9 @@ pub record StampIn (t : Timestamp) : Type 0 where
   pub digits_show : t.nanos % 10 ^ (9 - t.digits) ≡ 0
   pub offset_in : nat_abs t.offset ≤ offset_limit
   pub clock : DateTime
-  pub shows : shown t.seconds t.offset ≡ At clock
+  pub shows : shown t.seconds t.offset ≡ Some clock
 
-pub stamp_in_lem : (t : Timestamp) → stamp_suits (Stamped t) ≡ true → StampIn t
+pub stamp_in_lem : (t : Timestamp) → stamp_suits (Some t) ≡ true → StampIn t
 stamp_in_lem t h =
     let b = both _ _ h in
     let n = both _ _ b.0 in
@@ -39,9 +37,9 @@ stamp_in_lem t h =
     (shown t.seconds t.offset) refl b.1
   where
     at : t.nanos ≤ 999999999 → t.digits ≤ 9 → t.nanos % 10 ^ (9 - t.digits) ≡ 0 → nat_abs t.offset ≤ offset_limit
-        → (s : Shown) → shown t.seconds t.offset ≡ s → is_shown s ≡ true → StampIn t
-    at n d w o Outside e i = clash (sym i)
-    at n d w o (At c) e i = record { nanos_in = n; digits_in = d; digits_show = w; offset_in = o; clock = c; shows = e }
+        → (s : Option DateTime) → shown t.seconds t.offset ≡ s → is_shown s ≡ true → StampIn t
+    at n d w o None e i = clash (sym i)
+    at n d w o (Some c) e i = record { nanos_in = n; digits_in = d; digits_show = w; offset_in = o; clock = c; shows = e }
 
 -- a record's fields
 pub record RecordIn (line : List ℕ) (r : Record) : Type 0 where

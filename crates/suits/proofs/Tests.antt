@@ -1,74 +1,17 @@
 -- What the tests answer, from what the code knows at each return and each turn.
-use Prim.Native.Nat.{ℕ, ◌+◌, ◌-◌, ◌%◌, ◌^◌, ◌≤◌, ◌<◌}
-use mathlib.Core.Path.{◌≡◌, sym, ap, ◌∙◌}
-use mathlib.Core.List.{List, []}
-use mathlib.Core.Bool.{Bool, true, false, not, ◌&&◌}
-use native.Mathlib.Omega.{arith}
-use lib.Dec.{leb, eqb}
-use lib.ListN.{length, get_or, take, drop}
-use mir.Syntax.{w32, w64}
-use mir.Val.{SFits, to_z, of_z}
-use mir.ValLaws.{to_z-of_z}
-use borrow.Author.Tests.{le-leb, lt-leb, le-ltb, lt-ltb, leb-true, leb-false, not-true, not-false}
-use Rattle.base.proofs.Tests.{by_test}
-use Rattle.calendar.specs.Calendar.{valid_offset}
-use Rattle.calendar.specs.Instant.{shown, is_shown}
-use Rattle.calendar.specs.declared.Shown.{Shown}
-use Rattle.digits.proofs.Fractions.{unit_some}
-use Rattle.record.specs.Params.{row_of}
+use Prim.Native.Nat.{ℕ, zero, suc, ◌+◌, ◌≤◌, ◌<◌}
+use mathlib.Core.Path.{◌≡◌, refl, sym, ap, ◌∙◌}
+use mathlib.Core.List.{List, [], ◌∷◌}
+use mathlib.Core.Bool.{Bool, true, false, not, ◌&&◌, and-false}
+use lib.ListN.{length, get_or, take, drop, drop_of_length-le}
+use lib.Seq.{drop-cons}
+use native.Mathlib.Numerals.{add-one}
+use borrow.Author.Tests.{le-leb, lt-leb, not-true, not-false}
+use Rattle.record.specs.Params.{row_of, rows, blank}
+use Rattle.record.proofs.Params.{rows_length}
 use Rattle.record.specs.declared.Param.{Param}
 use Rattle.record.specs.declared.Record.{Record}
-use Rattle.record.specs.declared.Timestamp.{Timestamp}
-use Rattle.record.specs.declared.Stamp.TheVariants.{Stamped}
-use Rattle.suits.specs.Suits.{place_suits, fraction_suits, stamp_suits, record_suits, elements_suit, param_suits}
-use Rattle.suits.specs.Checks.{head_suits, check_at}
-use Rattle.suits.specs.declared.Check.{Check}
-use Rattle.suits.proofs.Rows.{row_step, rows_ended}
-
--- a place whose start is tested first
-pub place_past : (n start len : ℕ) → n < start → false ≡ leb (start + len) n
-place_past n start len h = sym (lt-leb (start + len) n (omega arith))
-
-pub place_from : (n start len : ℕ) → start ≤ n → leb len (n - start) ≡ leb (start + len) n
-place_from n start len h =
-    by_test (λ b. b ≡ leb (start + len) n) (leb len (n - start))
-    (λ e. sym (le-leb (start + len) n (omega (arith, leb-true len (n - start) e))))
-    (λ e. sym (lt-leb (start + len) n (omega (arith, leb-false len (n - start) e))))
-
-pub ruleset place_laws = (place_past, place_from)
-
--- a fraction's numbers
-module _ (n d : ℕ) where
-  pub nanos_over : 999999999 < n → false ≡ fraction_suits n d
-  nanos_over h = rw (lt-leb n 999999999 h)
-
-  module _ (h : n ≤ 999999999) where
-    pub digits_over : 9 < d → false ≡ fraction_suits n d
-    digits_over k = rw (le-leb n 999999999 h, lt-leb d 9 k)
-
-    pub digits_show : d ≤ 9 → (u : ℕ) → u ≡ 10 ^ (9 - d) → eqb (n % u) 0 ≡ fraction_suits n d
-    digits_show k u e = rw (le-leb n 999999999 h, le-leb d 9 k, e)
-
-pub ruleset fraction_laws = (nanos_over, digits_over, digits_show, unit_some)
-
--- a timestamp's numbers
-module _ (t : Timestamp) (f : Bool) (ef : f ≡ fraction_suits t.nanos t.digits) where
-  pub time_fraction : not f ≡ true → false ≡ stamp_suits (Stamped t)
-  time_fraction h = rw (← ef, not-true f h)
-
-  module _ (h : not f ≡ false) (fo : SFits w32 t.offset) (n : Bool) (e : n ≡ valid_offset (to_z w32 (of_z w32 t.offset))) where
-    offset : n ≡ valid_offset t.offset
-    offset = rw (to_z-of_z w32 t.offset fo) at e
-
-    pub time_far : not n ≡ true → false ≡ stamp_suits (Stamped t)
-    time_far k = rw (← ef, not-false f h, ← offset, not-true n k)
-
-    pub time_shown : not n ≡ false → SFits w64 t.seconds
-        → (s : Shown) → s ≡ shown (to_z w64 (of_z w64 t.seconds)) (to_z w32 (of_z w32 t.offset)) → (b : Bool) → b ≡ is_shown s → b ≡ stamp_suits (Stamped t)
-    time_shown k fs s es b eb =
-        rw (← ef, not-false f h, ← offset, not-false n k, eb, es, to_z-of_z w64 t.seconds fs, to_z-of_z w32 t.offset fo)
-
-pub ruleset time_laws = (time_fraction, time_far, time_shown)
+use Rattle.suits.specs.Suits.{place_suits, record_suits, elements_suit, param_suits, params_suit, tables_suit, suits}
 
 -- one test, and more after it
 module _ (t more : Bool) where
@@ -78,73 +21,73 @@ module _ (t more : Bool) where
   pub test_on : not t ≡ false → (t && more) ≡ more
   test_on h = rw (not-false t h)
 
-module _ (line : List ℕ) (rows : List (List ℕ)) (n i : ℕ) (fits : n ≤ length rows)
-    (inv : elements_suit line (take n rows) ≡ elements_suit line (drop i (take n rows))) where
-  pub elements_end : n ≤ i → true ≡ elements_suit line (take n rows)
+module _ (line : List ℕ) (ids : List (List ℕ)) (i : ℕ) (inv : elements_suit line ids ≡ elements_suit line (drop i ids)) where
+  pub elements_end : length ids ≤ i → true ≡ elements_suit line ids
   unfolding elements_suit
-  elements_end h = sym (inv ∙ ap (elements_suit line) (rows_ended rows n fits i h))
+  elements_end h = sym (inv ∙ ap (elements_suit line) (drop_of_length-le ids {i = i} h))
 
-  module _ (h : i < n) (t : Bool) (e : t ≡ place_suits line (get_or (get_or rows i []) 0 0) (get_or (get_or rows i []) 1 0)) where
-    element_more : elements_suit line (take n rows) ≡ (t && elements_suit line (drop (i + 1) (take n rows)))
+  module _ (h : i < length ids) (t : Bool) (e : t ≡ place_suits line (get_or (get_or ids i []) 0 0) (get_or (get_or ids i []) 1 0)) where
+    element_more : elements_suit line ids ≡ (t && elements_suit line (drop (i + 1) ids))
     unfolding elements_suit
-    element_more = inv ∙ ap (elements_suit line) (row_step rows n fits i [] h) ∙ rw e
+    element_more = inv ∙ rw (add-one, drop-cons ids i [] h, e)
 
-    pub element_off : not t ≡ true → false ≡ elements_suit line (take n rows)
+    pub element_off : not t ≡ true → false ≡ elements_suit line ids
     element_off k = test_off t _ k ∙ sym element_more
 
-    pub element_on : not t ≡ false → elements_suit line (take n rows) ≡ elements_suit line (drop (i + 1) (take n rows))
+    pub element_on : not t ≡ false → elements_suit line ids ≡ elements_suit line (drop (i + 1) ids)
     element_on k = element_more ∙ test_on t _ k
 
 pub ruleset elements_laws = (elements_end, element_off, element_on)
 
--- a parameter, test by test
-module _ (line : List ℕ) (count low : ℕ) (p : Param) where
-  pub param_before : p.element < low → false ≡ param_suits line count low (row_of p)
-  param_before h = rw (lt-leb low p.element h)
+-- the parameters from the i-th on, whose numbers are not below `low`
+module _ (line : List ℕ) (e low : ℕ) (ps : List Param) (i : ℕ) (inv : params_suit line e 0 (rows ps) ≡ params_suit line e low (rows (drop i ps))) where
+  pub params_end : length ps ≤ i → true ≡ params_suit line e 0 (rows ps)
+  unfolding params_suit rows
+  params_end h = sym (inv ∙ ap (λ (l : List Param). params_suit line e low (rows l)) (drop_of_length-le ps {i = i} h))
 
-  module _ (from : low ≤ p.element) where
-    pub param_behind : count ≤ p.element → false ≡ param_suits line count low (row_of p)
-    param_behind h = rw (le-leb low p.element from, le-ltb p.element count h)
+  module _ (h : i < length ps) (t : Bool) (et : t ≡ param_suits line e low (row_of (get_or ps i blank))) where
+    param_more : params_suit line e 0 (rows ps) ≡ (t && params_suit line e (get_or ps i blank).element (rows (drop (i + 1) ps)))
+    unfolding params_suit rows
+    param_more = inv ∙ rw (add-one, drop-cons ps i blank h, et)
 
-    module _ (below : p.element < count) (a : Bool) (ea : a ≡ place_suits line p.name_start p.name_len) where
-      pub param_unnamed : not a ≡ true → false ≡ param_suits line count low (row_of p)
-      param_unnamed h = rw (le-leb low p.element from, lt-ltb p.element count below, ← ea, not-true a h)
+    pub param_off : not t ≡ true → false ≡ params_suit line e 0 (rows ps)
+    param_off k = test_off t _ k ∙ sym param_more
 
-      pub param_named : not a ≡ false → (b : Bool) → b ≡ place_suits line p.value_start p.value_len → b ≡ param_suits line count low (row_of p)
-      param_named h b eb = eb ∙ rw (le-leb low p.element from, lt-ltb p.element count below, ← ea, not-false a h)
+    pub param_on : not t ≡ false → params_suit line e 0 (rows ps) ≡ params_suit line e (get_or ps i blank).element (rows (drop (i + 1) ps))
+    param_on k = param_more ∙ test_on t _ k
 
-pub ruleset param_laws = (param_before, param_behind, param_unnamed, param_named)
+pub ruleset params_laws = (params_end, param_off, param_on)
 
--- all but the parameters
-module _ (line : List ℕ) (r : Record) (e p : ℕ) (elements : List (List ℕ)) (m : ℕ) (t : Bool) (et : t ≡ record_suits line r) where
-  pub head_record : not t ≡ true → false ≡ head_suits line r e p elements m
-  unfolding head_suits
-  head_record h = rw (← et, not-true t h)
+rows_take : (ps : List Param) (n : ℕ) → rows (take n ps) ≡ take n (rows ps)
+unfolding rows
+rows_take ps zero = refl
+rows_take [] (suc n) = refl
+rows_take (p ∷ ps) (suc n) = ap (λ (l : List (List ℕ)). row_of p ∷ l) (rows_take ps n)
 
-  module _ (h : not t ≡ false) where
-    pub head_elements : length elements < e → false ≡ head_suits line r e p elements m
-    unfolding head_suits
-    head_elements k = rw (← et, not-false t h, lt-leb e (length elements) k)
+-- the whole
+module _ (line : List ℕ) (r : Record) (e p : ℕ) (elements : List (List ℕ)) (ps : List Param) where
+  pub few_ids : length elements < e → false ≡ suits line r e p elements (rows ps)
+  unfolding suits tables_suit
+  few_ids h = rw (lt-leb e (length elements) h, and-false)
 
-    module _ (he : e ≤ length elements) where
-      pub head_params : m < p → false ≡ head_suits line r e p elements m
-      unfolding head_suits
-      head_params k = rw (← et, not-false t h, le-leb e (length elements) he, lt-leb p m k)
+  pub few_entries : length ps < p → false ≡ suits line r e p elements (rows ps)
+  unfolding suits tables_suit
+  few_entries h = rw (lt-leb p (length (rows ps)) (rw rows_length h), and-false, and-false)
 
-      pub head_ids : p ≤ m → (u : Bool) → u ≡ elements_suit line (take e elements) → u ≡ head_suits line r e p elements m
-      unfolding head_suits
-      head_ids hp u eu = eu ∙ rw (← et, not-false t h, le-leb e (length elements) he, le-leb p m hp)
+  module _ (he : e ≤ length elements) (hp : p ≤ length ps) where
+    told_whole : suits line r e p elements (rows ps) ≡ (record_suits line r && (elements_suit line (take e elements) && params_suit line e 0 (rows (take p ps))))
+    unfolding suits tables_suit
+    told_whole = rw (le-leb e (length elements) he, le-leb p (length (rows ps)) (rw rows_length hp), rows_take)
 
-pub ruleset head_laws = (head_record, head_elements, head_params, head_ids)
+    module _ (t : Bool) (et : t ≡ record_suits line r) where
+      pub other_record : not t ≡ true → false ≡ suits line r e p elements (rows ps)
+      other_record h = sym (told_whole ∙ rw (← et, not-true t h))
 
-module _ (b : Bool) (next low count : ℕ) where
-  pub check_on : b ≡ true → record { next = next; low = low; suits = true } ≡ check_at b next low count
-  check_on h = rw h
+      module _ (h : not t ≡ false) (u : Bool) (eu : u ≡ elements_suit line (take e elements)) where
+        pub other_ids : u ≡ false → false ≡ suits line r e p elements (rows ps)
+        other_ids k = sym (told_whole ∙ rw (← et, not-false t h, ← eu, k))
 
-  pub check_off : b ≡ false → record { next = count; low = 0; suits = false } ≡ check_at b next low count
-  check_off h = rw h
+        pub all_suit : u ≡ true → (v : Bool) → v ≡ params_suit line e 0 (rows (take p ps)) → v ≡ suits line r e p elements (rows ps)
+        all_suit k v ev = ev ∙ sym (told_whole ∙ rw (← et, not-false t h, ← eu, k))
 
-  pub check_same : (a : Bool) → a ≡ b → (c : Check) → c ≡ check_at a next low count → c ≡ check_at b next low count
-  check_same a h c e = e ∙ ap (λ (x : Bool). check_at x next low count) h
-
-pub ruleset check_laws = (check_on, check_off, check_same)
+pub ruleset whole_laws = (few_ids, few_entries, other_record, other_ids, all_suit)

@@ -1,30 +1,27 @@
 -- Refusal 7: whether a record, counts and tables suit a line.
-use Rattle.std.specs.Prelude.{ℕ, ◌+◌, ◌-◌, ◌%◌, ◌^◌, List, [], ◌∷◌, Bool, true, ◌&&◌, leb, ltb, eqb, length, get_or, take}
+use Rattle.std.specs.Prelude.{ℕ, ◌+◌, ◌-◌, ◌%◌, ◌^◌, List, [], ◌∷◌, Bool, true, ◌&&◌, leb, ltb, eqb, length, get_or, take, Option, Some, None}
 use Rattle.calendar.specs.Calendar.{valid_offset}
 use Rattle.calendar.specs.Instant.{shown, is_shown}
-use Rattle.record.specs.declared.Level.{Level}
-use Rattle.record.specs.declared.Level.TheVariants.{Unset, Set}
-use Rattle.record.specs.declared.Stamp.{Stamp}
-use Rattle.record.specs.declared.Stamp.TheVariants.{Unstamped, Stamped}
 use Rattle.record.specs.declared.Record.{Record}
+use Rattle.record.specs.declared.Timestamp.{Timestamp}
 
 -- a place, of an absent text too, does not end past the line
 abbrev pub place_suits : List ℕ → ℕ → ℕ → Bool
 place_suits line start len = leb (start + len) (length line)
 
 -- facility not over 23, severity not over 7
-abbrev pub level_suits : ℕ → Level → Bool
-level_suits most Unset = true
-level_suits most (Set n) = leb n most
+abbrev pub level_suits : ℕ → Option ℕ → Bool
+level_suits most None = true
+level_suits most (Some n) = leb n most
 
 -- nanoseconds not over 999,999,999, which so many digits, at most 9, can show
 abbrev pub fraction_suits : ℕ → ℕ → Bool
 fraction_suits nanos digits = leb nanos 999999999 && leb digits 9 && eqb (nanos % 10 ^ (9 - digits)) 0
 
 -- the fraction, offset in range, the local year one of 0 to 9999
-abbrev pub stamp_suits : Stamp → Bool
-stamp_suits Unstamped = true
-stamp_suits (Stamped t) = fraction_suits t.nanos t.digits && valid_offset t.offset && is_shown (shown t.seconds t.offset)
+abbrev pub stamp_suits : Option Timestamp → Bool
+stamp_suits None = true
+stamp_suits (Some t) = fraction_suits t.nanos t.digits && valid_offset t.offset && is_shown (shown t.seconds t.offset)
 
 unfoldable pub record_suits : List ℕ → Record → Bool
 record_suits line r =

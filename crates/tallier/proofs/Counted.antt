@@ -1,5 +1,5 @@
 -- What a frame does to a tally, and the statements of specs/Frames.antt.
-use Rattle.std.specs.Prelude.{if◌then◌else◌}
+use Rattle.std.specs.Prelude.{if◌then◌else◌, Option, Result, Ok, Err}
 use Prim.Native.Nat.{ℕ, suc, ◌≤◌}
 use mathlib.Core.Path.{◌≡◌, refl, sym, ap, ◌∙◌}
 use mathlib.Core.Bool.{true, false}
@@ -7,56 +7,29 @@ use mathlib.Core.List.{List, [], ◌∷◌}
 use native.Mathlib.Omega.{arith}
 use lib.ListN.{length}
 use Rattle.base.proofs.Tests.{by_test, clash}
-use Rattle.record.specs.declared.Level.{Level}
 use Rattle.record.specs.declared.Refusal.{Refusal}
-use Rattle.record.specs.declared.StrictRecord.{StrictRecord}
 use Rattle.record.specs.declared.StrictReading.{StrictReading}
-use Rattle.record.specs.declared.StrictReading.TheVariants.{Read, Refused}
-use Rattle.strict.specs.Scan.{answered}
 use Rattle.strict.proofs.Readings.{answers}
 use Rattle.frames.specs.declared.Options.{Options}
 use Rattle.frames.specs.declared.State.{State}
 use Rattle.frames.specs.States.{start_of}
-use Rattle.tally.specs.declared.Added.{Added}
-use Rattle.tally.specs.declared.Added.TheVariants as added
-use Rattle.tally.specs.Tally.{Tally, row_of, column_of, addition, after, Adds}
+use Rattle.tally.specs.Tally.{Tally, row_of, column_of, addition, after}
 use Rattle.tally.specs.Counts.{Additions, none, accepted}
 use Rattle.tally.proofs.Sums.{counts_accepted}
 use Rattle.tallier.specs.declared.Tallied.{Tallied}
-use Rattle.tallier.specs.declared.Tallied.TheVariants as tallied
 use Rattle.tallier.specs.Frames.{told_of, reading_of, TalliesReading, Tallies, ReadAsListed, is_accepted, accept_count, is_refused, After, start, next, SumIsAccepted, Onward}
-
--- ---- one frame
-
-pub told_refused : (a : Added) (f : Refusal) → a ≡ added.Refused f → tallied.Refused f ≡ told_of a
-told_refused a f e = rw e
-
-pub ruleset told_laws = (told_refused)
-
-module _ (old new : Tally) where
-  pub reading_added : (reading : StrictReading) (r : StrictRecord) (e p : ℕ) (a : Added) (t : Tallied)
-      → reading ≡ Read r e p → Adds old r.common.facility r.common.severity a new → t ≡ told_of a → TalliesReading old reading t new
-  reading_added reading r e p a t q h s = rw q (record { told = s ∙ ap told_of h.answers; leaves = rw h.answers at h.leaves })
-
-  pub reading_passed : (reading : StrictReading) (f : Refusal) → reading ≡ Refused f → new ≡ old → TalliesReading old reading tallied.Passed new
-  reading_passed reading f q h = rw q (record { told = refl; leaves = h })
-
-  pub frame_added : (frame : List ℕ) (r : StrictReading) (a : Tallied) → r ≡ answered frame 64 256 → TalliesReading old r a new → Tallies old frame a new
-  frame_added frame r a e h = record { tallies = rw e at h }
-
-pub ruleset reading_laws = (reading_added, reading_passed, frame_added)
 
 -- ---- frames one behind the other
 
 -- a record that the tally refuses changes nothing
-after_refused : (old new : Tally) (i j : ℕ) (a : Tallied) (d : Added) → a ≡ told_of d → new ≡ after d old i j → is_refused a ≡ true → new ≡ old
-after_refused old new i j a added.Done q l t = clash (sym t ∙ ap is_refused q)
-after_refused old new i j a (added.Refused f) q l t = l
+after_refused : (old new : Tally) (i j : ℕ) (a : Tallied) (d : Result (Unit {0}) Refusal) → a ≡ told_of d → new ≡ after d old i j → is_refused a ≡ true → new ≡ old
+after_refused old new i j a (Ok tt) q l t = clash (sym t ∙ ap is_refused q)
+after_refused old new i j a (Err f) q l t = l
 
-refused_kept : (old new : Tally) (r : StrictReading) (a : Tallied) → TalliesReading old r a new → is_refused a ≡ true → new ≡ old
-refused_kept old new (Read r e p) a h t =
-    after_refused old new (row_of r.common.facility) (column_of r.common.severity) a (addition old (row_of r.common.facility) (column_of r.common.severity)) h.told h.leaves t
-refused_kept old new (Refused f) a h t = h.leaves
+refused_kept : (old new : Tally) (r : Result StrictReading Refusal) (a : Tallied) → TalliesReading old r a new → is_refused a ≡ true → new ≡ old
+refused_kept old new (Ok x) a h t =
+    after_refused old new (row_of x.reading.common.facility) (column_of x.reading.common.severity) a (addition old (row_of x.reading.common.facility) (column_of x.reading.common.severity)) h.told h.leaves t
+refused_kept old new (Err f) a h t = h.leaves
 
 pub onward_same : (t : Tally) → Onward t t
 onward_same t = record { made = λ m. m }
@@ -93,16 +66,16 @@ pub ruleset run_laws = (onward_same, onward_frame, run_starts, run_turns)
 
 -- ---- the statements
 
-adds_one : (old new : Tally) (n : ℕ) (facility severity : Level) (a : Tallied) (d : Added) → d ≡ addition old (row_of facility) (column_of severity) → Additions old n → a ≡ told_of d
+adds_one : (old new : Tally) (n : ℕ) (facility severity : Option ℕ) (a : Tallied) (d : Result (Unit {0}) Refusal) → d ≡ addition old (row_of facility) (column_of severity) → Additions old n → a ≡ told_of d
     → new ≡ after d old (row_of facility) (column_of severity) → is_refused a ≡ false → Additions new (suc n)
-adds_one old new n facility severity a added.Done q before e l t = accepted {facility = facility} {severity = severity} before (record { answers = q; leaves = l })
-adds_one old new n facility severity a (added.Refused f) q before e l t = clash (sym (ap is_refused e) ∙ t)
+adds_one old new n facility severity a (Ok tt) q before e l t = accepted {facility = facility} {severity = severity} before (record { answers = q; leaves = l })
+adds_one old new n facility severity a (Err f) q before e l t = clash (sym (ap is_refused e) ∙ t)
 
-adds : (old new : Tally) (n : ℕ) (r : StrictReading) (a : Tallied) → Additions old n → TalliesReading old r a new → is_refused a ≡ false
+adds : (old new : Tally) (n : ℕ) (r : Result StrictReading Refusal) (a : Tallied) → Additions old n → TalliesReading old r a new → is_refused a ≡ false
     → Additions new (if is_accepted r then suc n else n)
-adds old new n (Read r e p) a before h t =
-    adds_one old new n r.common.facility r.common.severity a (addition old (row_of r.common.facility) (column_of r.common.severity)) refl before h.told h.leaves t
-adds old new n (Refused f) a before h t = rw h.leaves before
+adds old new n (Ok x) a before h t =
+    adds_one old new n x.reading.common.facility x.reading.common.severity a (addition old (row_of x.reading.common.facility) (column_of x.reading.common.severity)) refl before h.told h.leaves t
+adds old new n (Err f) a before h t = rw h.leaves before
 
 additions_of : (frames : List (List ℕ)) (t : Tally) → After frames t → Additions t (accept_count frames)
 unfolding accept_count

@@ -1,35 +1,33 @@
 -- Which cell a frame raises. The statements are to be read without their proofs, which are in proofs/Counted.antt.
-use Rattle.std.specs.Prelude.{ℕ, suc, ◌≡◌, Bool, true, false, List, [], ◌∷◌, length, if◌then◌else◌}
+use Rattle.std.specs.Prelude.{ℕ, suc, ◌≡◌, Bool, true, false, List, [], ◌∷◌, length, if◌then◌else◌, Result, Ok, Err}
 use Rattle.record.specs.declared.StrictReading.{StrictReading}
-use Rattle.record.specs.declared.StrictReading.TheVariants.{Read, Refused}
 use Rattle.grammar.specs.Reading.{StrictReads}
 use Rattle.strict.specs.Scan.{answered}
-use Rattle.tally.specs.declared.Added.{Added}
-use Rattle.tally.specs.declared.Added.TheVariants as added
 use Rattle.tally.specs.Tally.{Tally, row_count, empty, row_of, column_of, addition, after, row_sum, sum_of}
 use Rattle.tallier.specs.declared.Tallied.{Tallied}
 use Rattle.tallier.specs.declared.Tallied.TheVariants as tallied
+use Rattle.record.specs.declared.Refusal.{Refusal}
 
 -- ---- one frame
 
-abbrev pub told_of : Added → Tallied
-told_of added.Done = tallied.Added
-told_of (added.Refused f) = tallied.Refused f
+abbrev pub told_of : Result (Unit {0}) Refusal → Tallied
+told_of (Ok tt) = tallied.Added
+told_of (Err f) = tallied.Refused f
 
 -- A line that is read is added by its own facility and severity, as they stand; a refused one is passed over.
-abbrev pub answer_to : Tally → StrictReading → Tallied
-answer_to t (Read r e p) = told_of (addition t (row_of r.common.facility) (column_of r.common.severity))
-answer_to t (Refused f) = tallied.Passed
+abbrev pub answer_to : Tally → Result StrictReading Refusal → Tallied
+answer_to t (Ok x) = told_of (addition t (row_of x.reading.common.facility) (column_of x.reading.common.severity))
+answer_to t (Err f) = tallied.Passed
 
-abbrev pub tally_after : Tally → StrictReading → Tally
-tally_after t (Read r e p) = after (addition t (row_of r.common.facility) (column_of r.common.severity)) t (row_of r.common.facility) (column_of r.common.severity)
-tally_after t (Refused f) = t
+abbrev pub tally_after : Tally → Result StrictReading Refusal → Tally
+tally_after t (Ok x) = after (addition t (row_of x.reading.common.facility) (column_of x.reading.common.severity)) t (row_of x.reading.common.facility) (column_of x.reading.common.severity)
+tally_after t (Err f) = t
 
 -- what the strict reader answers to a frame, with tables of 64 and 256 entries
-abbrev pub reading_of : List ℕ → StrictReading
+abbrev pub reading_of : List ℕ → Result StrictReading Refusal
 reading_of frame = answered frame 64 256
 
-pub record TalliesReading (old : Tally) (r : StrictReading) (a : Tallied) (new : Tally) : Type 0 where
+pub record TalliesReading (old : Tally) (r : Result StrictReading Refusal) (a : Tallied) (new : Tally) : Type 0 where
   pub told : a ≡ answer_to old r
   pub leaves : new ≡ tally_after old r
 
@@ -49,9 +47,9 @@ ReadAsListed = (frame : List ℕ) (e₀ p₀ : List (List ℕ)) → length e₀ 
 -- ---- frames one behind the other
 
 -- whether the listing writes `accept`
-abbrev pub is_accepted : StrictReading → Bool
-is_accepted (Read r e p) = true
-is_accepted (Refused f) = false
+abbrev pub is_accepted : Result StrictReading Refusal → Bool
+is_accepted (Ok x) = true
+is_accepted (Err f) = false
 
 -- how many of them it accepts
 unfoldable pub accept_count : List (List ℕ) → ℕ

@@ -6,14 +6,13 @@ ghost use Rattle.std.specs.Prelude.{◌≡◌, ◌+◌, ◌≤◌, ◌<◌, leng
 ghost use Rattle.output.specs.Output.{Wrote};
 ghost use Rattle.frames.specs.Tasks.{to_read};
 ghost use Rattle.frames.specs.States.{Keeps};
-ghost use Rattle.tally.specs.Tally.{cell, row_count, column_count};
+ghost use Rattle.tally.specs.Tally.{row_count};
 ghost use Rattle.tallier.specs.Text.{cell_text, row_text, tally_text};
-ghost use Rattle.tallier.specs.Frames.{told_of, TalliesReading, Tallies, Onward};
+ghost use Rattle.tallier.specs.Frames.{TalliesReading, Tallies, Onward};
 
 use frames::{Options, State, Task};
 use program::{Process, Status, Takes};
 use record::{Refusal, StrictReading};
-use tally::Added;
 
 // What becomes of a frame: it is added, or passed over since it is not read, or its record is refused by the tally.
 #[derive(Clone, Copy)]
@@ -25,27 +24,18 @@ pub enum Tallied {
 
 // ---- frames
 
-fn told_of(a: Added) -> Tallied
-    ensures { result ≡ told_of a }
-{
-    match a {
-        Added::Done => Tallied::Added,
-        Added::Refused(f) => Tallied::Refused(f),
-    }
-}
-
 // What the strict reader answered, in the tally.
-fn add_reading(tally: &mut [[u32; 9]; 25], reading: StrictReading) -> Tallied
+fn add_reading(tally: &mut [[u32; 9]; 25], reading: Result<StrictReading, Refusal>) -> Tallied
     ensures { TalliesReading tally.old reading result tally.new }
 {
-    match reading {
-        StrictReading::Read(r, _, _) => {
-            let common = r.common;
-            let facility = common.facility;
-            let severity = common.severity;
-            return told_of(tally::add(tally, facility, severity));
-        }
-        StrictReading::Refused(_) => return Tallied::Passed,
+    let Ok(read) = reading else {
+        return Tallied::Passed;
+    };
+    let facility = read.reading.common.facility;
+    let severity = read.reading.common.severity;
+    match tally::add(tally, facility, severity) {
+        Ok(()) => Tallied::Added,
+        Err(f) => Tallied::Refused(f),
     }
 }
 
@@ -59,14 +49,6 @@ pub fn add_frame(tally: &mut [[u32; 9]; 25], frame: &[u8]) -> Tallied
 
 // ---- the text
 
-fn count_at(tally: &[[u32; 9]; 25], i: u32, j: u32) -> u32
-    requires i_lt_row_count { i < row_count }
-    requires j_lt_column_count { j < column_count }
-    ensures { result ≡ cell tally.now i j }
-{
-    tally[i as usize][j as usize]
-}
-
 // The line of a cell that is not zero.
 fn put_cell(out: &mut [u8], at: usize, i: u32, j: u32, n: u32) -> usize
     requires { at + 33 ≤ length out.old }
@@ -75,11 +57,12 @@ fn put_cell(out: &mut [u8], at: usize, i: u32, j: u32, n: u32) -> usize
     ensures out_len_unchanged { length out.new ≡ length out.old }
 {
     if n == 0 {
-        return at;
+        at
+    } else {
+        let second = frames::put_count(out, at, i, b' ');
+        let third = frames::put_count(out, second, j, b' ');
+        frames::put_count(out, third, n, b'\n')
     }
-    let second = frames::put_count(out, at, i, b' ');
-    let third = frames::put_count(out, second, j, b' ');
-    frames::put_count(out, third, n, b'\n')
 }
 
 fn put_row(out: &mut [u8], at: usize, tally: &[[u32; 9]; 25], i: u32) -> usize
@@ -90,11 +73,9 @@ fn put_row(out: &mut [u8], at: usize, tally: &[[u32; 9]; 25], i: u32) -> usize
     ensures out_len_unchanged { length out.new ≡ length out.old }
 {
     let mut next = at;
-    let mut j: u32 = 0;
-    while j < 9 {
-        let n = count_at(tally, i, j);
+    for j in 0..9 {
+        let n = tally[i as usize][j as usize];
         next = put_cell(out, next, i, j, n);
-        j += 1;
     }
     next
 }
@@ -105,10 +86,8 @@ pub fn put_tally(out: &mut [u8; 8192], tally: &[[u32; 9]; 25]) -> usize
     ensures upper_bound { result ≤ 8192 }
 {
     let mut next = 0;
-    let mut i: u32 = 0;
-    while i < 25 {
+    for i in 0..25 {
         next = put_row(out, next, tally, i);
-        i += 1;
     }
     next
 }
@@ -119,12 +98,11 @@ pub fn put_tally(out: &mut [u8; 8192], tally: &[[u32; 9]; 25]) -> usize
 fn said_of(process: &Process, told: Tallied) -> bool {
     match told {
         Tallied::Refused(f) => {
-            let n = record::refusal_number(f);
             frames::complain(
                 process,
                 b"tally",
                 b": the tally refuses a record with ",
-                n,
+                u32::from(f),
                 b", and nothing is tallied behind it\n",
             );
             false
@@ -154,13 +132,12 @@ fn done(process: &Process, tally: &mut [[u32; 9]; 25], line: &[u8], s: State) ->
     ensures onward { Onward tally.old tally.new }
 {
     if frames::is_read(s) {
-        let n = frames::to_read(s);
-        let told = add_frame(tally, &line[0..n]);
-        return frames::kept(s, said_of(process, told));
+        let told = add_frame(tally, &line[..frames::to_read(s)]);
+        frames::kept(s, said_of(process, told))
+    } else {
+        report(process, s.task);
+        s
     }
-    let task = s.task;
-    report(process, task);
-    frames::kept(s, true)
 }
 
 fn turn(
@@ -195,12 +172,6 @@ pub fn run(
         s = turn(process, line, chunk, tally, s);
     }
     s.ok
-}
-
-fn write_front(process: &Process, text: &[u8], n: usize) -> bool
-    requires { n ≤ length text.now }
-{
-    frames::write(process, b"tally", &text[0..n])
 }
 
 // What `./tally` does in memory that it is lent: what its arguments ask for. Behind the input its line buffer holds what is written.
@@ -238,6 +209,6 @@ pub fn tally_input(
     }
     let ok = run(process, line, chunk, tally, frames::options_of(a));
     let n = put_tally(line, tally);
-    let written = write_front(process, line, n);
+    let written = frames::write(process, b"tally", &line[..n]);
     program::end(process, b"tally", ok & written)
 }

@@ -1,75 +1,23 @@
 -- What the functions answer, return by return.
-use Rattle.std.specs.Prelude.{if◌then◌else◌}
-use Prim.Native.Nat.{ℕ, suc, ◌+◌, ◌*◌, ◌≤◌, ◌<◌}
-use mathlib.Core.Path.{◌≡◌, refl, sym, ap, subst, ◌∙◌}
+use Rattle.std.specs.Prelude.{if◌then◌else◌, ok_or, Option, Some, None, Result, Ok, Err}
+use Prim.Native.Nat.{ℕ, ◌+◌, ◌*◌, ◌≤◌, ◌<◌}
+use mathlib.Core.Path.{◌≡◌, refl, sym, ap, ◌∙◌}
 use mathlib.Core.Bool.{Bool, true, false, ◌&&◌}
 use mathlib.Core.List.{[]}
 use native.Mathlib.Numerals.{add-one}
 use native.Mathlib.Omega.{arith}
-use lib.Dec.{eqb, leb}
+use lib.Dec.{eqb, ltb}
 use lib.ListN.{length, get_or, set}
-use borrow.Author.Tests.{lt-ltb, le-ltb, le-leb, lt-leb, eq-eqb, ne_eqb}
-use Rattle.record.specs.Refusals.{refusal_number}
-use Rattle.record.specs.declared.Level.{Level}
-use Rattle.record.specs.declared.Level.TheVariants.{Unset, Set}
+use borrow.Author.Tests.{le-ltb, ltb-false, eq-eqb, ne_eqb}
+use Rattle.std.specs.Option.{SomeIff}
 use Rattle.record.specs.declared.Refusal.{Refusal}
 use Rattle.record.specs.declared.Refusal.TheVariants.{Unsuitable, OutputShort, CellFull}
-use Rattle.tally.specs.declared.Added.{Added}
-use Rattle.tally.specs.declared.Added.TheVariants.{Done, Refused}
-use Rattle.tally.specs.declared.CellRead.{CellRead}
-use Rattle.tally.specs.declared.CellRead.TheVariants as cells
-use Rattle.tally.specs.declared.SumRead.{SumRead}
-use Rattle.tally.specs.declared.SumRead.TheVariants as sums
-use Rattle.tally.specs.declared.CellAnswer.{CellAnswer}
-use Rattle.tally.specs.declared.SumAnswer.{SumAnswer}
-use Rattle.tally.specs.Tally.{Tally, no_facility, no_severity, row_count, full, cell, is_row, is_column, is_cell, place_of, row_of, column_of, addition, raised, after, Adds, sum_of, row_sum, column_sum, cell_read, row_read, column_read}
-use Rattle.tally.specs.Numbers.{place_in, or_short, addition_in, cell_read_in, row_read_in, column_read_in, AddsIn, added_number, cell_answer_of, sum_answer_of, AddsAt, AddsNumbers}
-
--- ---- places
-
-module _ (none n : ℕ) where
-  pub place_there : n < none → n ≡ place_of none (Set n)
-  place_there h = rw (lt-ltb n none h)
-
-  pub place_past : none ≤ n → none + 1 ≡ place_of none (Set n)
-  place_past h = rw (le-ltb n none h, add-one)
-
-pub ruleset place_laws = (place_there, place_past)
-
-module _ (none : ℕ) (level : Level) where
-  pub level_unset : level ≡ Unset → none ≡ place_of none level
-  level_unset e = rw e
-
-  pub level_set : (n r : ℕ) → level ≡ Set n → r ≡ place_of none (Set n) → r ≡ place_of none level
-  level_set n r e q = q ∙ rw e
-
-pub ruleset level_laws = (level_unset, level_set)
-
-module _ (none mark n : ℕ) where
-  pub mark_none : (eqb mark 0 && eqb n 0) ≡ true → none ≡ place_in none mark n
-  mark_none e = rw e
-
-  module _ (z : (eqb mark 0 && eqb n 0) ≡ false) where
-    pub mark_given : (r : ℕ) → mark ≡ 1 → r ≡ place_of none (Set n) → r ≡ place_in none mark n
-    mark_given r e q = q ∙ rw (z, eq-eqb mark 1 e)
-
-    pub mark_other : (mark ≡ 1 → ⊥) → none + 1 ≡ place_in none mark n
-    mark_other e = rw (z, ne_eqb mark 1 e, add-one)
-
-pub ruleset mark_laws = (mark_none, mark_given, mark_other)
+use Rattle.tally.specs.Tally.{Tally, no_facility, row_count, full, cell, is_row, is_column, is_cell, row_of, column_of, addition, raised, Adds, sum_of, row_sum, column_sum, cell_read, row_read, column_read}
+use Rattle.tally.specs.Numbers.{or_short, addition_in, demanded, cell_read_in, row_read_in, column_read_in, AddsIn}
 
 -- ---- rows that are enough, and too few
 
-there : (i j : ℕ) → i ≤ no_facility → j ≤ no_severity → is_cell i j ≡ true
-there i j p q = rw (le-leb i no_facility p, le-leb j no_severity q)
-
 module _ {A : Type 0} (there : Bool) (t : Tally) (short a : A) where
-  or_gone : there ≡ false → or_short there t short a ≡ a
-  or_gone e = rw e
-
-  or_short_lem : there ≡ true → length t ≤ no_facility → or_short there t short a ≡ short
-  or_short_lem e l = let l' : length t < row_count = omega arith in rw (e, lt-ltb (length t) row_count l')
-
   pub or_enough : no_facility < length t → or_short there t short a ≡ a
   or_enough l = let l' : row_count ≤ length t = omega arith in rw (le-ltb (length t) row_count l') (both_no there)
     where
@@ -77,45 +25,96 @@ module _ {A : Type 0} (there : Bool) (t : Tally) (short a : A) where
       both_no true = refl
       both_no false = refl
 
--- ---- an addition
+-- what is demanded, told of what is answered then
+abbrev answers : {A : Type 0} → Bool → Tally → Result A Refusal → Result A Refusal
+answers there t a = or_short there t (Err OutputShort) (if there then a else Err Unsuitable)
+
+pub refused : {A : Type 0} (there : Bool) (t : Tally) (f : Refusal) (a : Result A Refusal) → demanded there t ≡ Err f → Err f ≡ answers there t a
+refused true t f a h = short (ltb (length t) row_count) h
+  where
+    short : (s : Bool) → ◌≡◌ {A = Result (Unit {0}) Refusal} (if s then Err OutputShort else Ok tt) (Err f) → Err f ≡ (if s then Err OutputShort else a)
+    short true e = let q : f ≡ OutputShort = cc in ap Err q
+    short false e = cc
+refused false t f a h = let q : f ≡ Unsuitable = cc in ap Err q
+
+pub record Demanded (there : Bool) (t : Tally) : Type 0 where
+  pub is_there : there ≡ true
+  pub enough : no_facility < length t
+
+pub passed : (there : Bool) (t : Tally) → demanded there t ≡ Ok tt → Demanded there t
+passed true t h = record { is_there = refl; enough = rows (ltb (length t) row_count) refl h }
+  where
+    rows : (s : Bool) → ltb (length t) row_count ≡ s → ◌≡◌ {A = Result (Unit {0}) Refusal} (if s then Err OutputShort else Ok tt) (Ok tt) → no_facility < length t
+    rows true e k = cc
+    rows false e k = omega (arith, ltb-false (length t) row_count e)
+passed false t h = cc
+
+pub answered : {A : Type 0} (there : Bool) (t : Tally) (a : Result A Refusal) → Demanded there t → a ≡ answers there t a
+answered there t a d = ap (λ (b : Bool). if b then a else Err Unsuitable) (sym d.is_there) ∙ sym (or_enough there t (Err OutputShort) (if there then a else Err Unsuitable) d.enough)
 
 module _ (t : Tally) (i j : ℕ) where
-  pub add_no_row : no_facility < i → AddsIn t i j (Refused Unsuitable) t
+  pub cell_refused : (f : Refusal) → demanded (is_cell i j) t ≡ Err f → Err f ≡ cell_read_in t i j
+  unfolding cell_read_in cell_read
+  cell_refused f = refused (is_cell i j) t f (Ok (cell t i j))
+
+  pub cell_is : demanded (is_cell i j) t ≡ Ok tt → Ok (cell t i j) ≡ cell_read_in t i j
+  unfolding cell_read_in cell_read
+  cell_is h = answered (is_cell i j) t (Ok (cell t i j)) (passed (is_cell i j) t h)
+
+  pub row_refused : (f : Refusal) → demanded (is_row i) t ≡ Err f → Err f ≡ row_read_in t i
+  unfolding row_read_in row_read
+  row_refused f = refused (is_row i) t f (Ok (row_sum t i))
+
+  pub row_is : (s : ℕ) → demanded (is_row i) t ≡ Ok tt → s ≡ row_sum t i → Ok s ≡ row_read_in t i
+  unfolding row_read_in row_read
+  row_is s h e = ap Ok e ∙ answered (is_row i) t (Ok (row_sum t i)) (passed (is_row i) t h)
+
+  pub column_refused : (f : Refusal) → demanded (is_column j) t ≡ Err f → Err f ≡ column_read_in t j
+  unfolding column_read_in column_read
+  column_refused f = refused (is_column j) t f (Ok (column_sum t j))
+
+  pub column_is : (s : ℕ) → demanded (is_column j) t ≡ Ok tt → s ≡ column_sum t j → Ok s ≡ column_read_in t j
+  unfolding column_read_in column_read
+  column_is s h e = ap Ok e ∙ answered (is_column j) t (Ok (column_sum t j)) (passed (is_column j) t h)
+
+  pub add_refused : (f : Refusal) → demanded (is_cell i j) t ≡ Err f → AddsIn t i j (Err f) t
   unfolding addition_in addition
-  add_no_row h = record { answers = rw (lt-leb i no_facility h); leaves = refl }
+  add_refused f h = record { answers = refused (is_cell i j) t f (if eqb (cell t i j) full then Err CellFull else Ok tt) h; leaves = refl }
 
-  module _ (p : i ≤ no_facility) where
-    pub add_no_column : no_severity < j → AddsIn t i j (Refused Unsuitable) t
+  module _ (h : demanded (is_cell i j) t ≡ Ok tt) where
+    added : (a : Result (Unit {0}) Refusal) → a ≡ (if eqb (cell t i j) full then Err CellFull else Ok tt) → a ≡ addition_in t i j
     unfolding addition_in addition
-    add_no_column h = record { answers = rw (le-leb i no_facility p, lt-leb j no_severity h); leaves = refl }
+    added a e = e ∙ answered (is_cell i j) t (if eqb (cell t i j) full then Err CellFull else Ok tt) (passed (is_cell i j) t h)
 
-    module _ (q : j ≤ no_severity) where
-      pub add_short : length t ≤ no_facility → AddsIn t i j (Refused OutputShort) t
-      unfolding addition_in
-      add_short l = record { answers = sym (or_short_lem (is_cell i j) t (Refused OutputShort) (addition t i j) (there i j p q) l); leaves = refl }
+    module _ (o : Option ℕ) (e : SomeIff o (cell t i j + 1 < 4294967296) (cell t i j + 1)) where
+      pub add_full : (f : Refusal) → cell t i j ≤ full → ok_or o CellFull ≡ Err f → AddsIn t i j (Err f) t
+      add_full f l q =
+          let (n, g) = none o e f q in
+          let z : cell t i j ≡ full = omega (arith, n) in
+          rw g (record { answers = added (Err CellFull) (rw (eq-eqb (cell t i j) full z)); leaves = refl })
+        where
+          none : (o : Option ℕ) → SomeIff o (cell t i j + 1 < 4294967296) (cell t i j + 1) → (f : Refusal) → ok_or o CellFull ≡ Err f → (cell t i j + 1 < 4294967296 → ⊥) × (f ≡ CellFull)
+          none None e f q = (e, cc)
+          none (Some n) e f q = cc
 
-      module _ (l : no_facility < length t) where
-        added : (a : Added) → a ≡ (if eqb (cell t i j) full then Refused CellFull else Done) → a ≡ addition_in t i j
-        unfolding addition_in addition
-        added a e = e ∙ sym (rw (there i j p q)) ∙ sym (or_enough (is_cell i j) t (Refused OutputShort) (addition t i j) l)
-
-        pub add_full : cell t i j ≡ full → AddsIn t i j (Refused CellFull) t
-        add_full f = record { answers = added (Refused CellFull) (rw (eq-eqb (cell t i j) full f)); leaves = refl }
-
-        pub add_done : (cell t i j ≡ full → ⊥) → (n : ℕ) → n ≡ suc (cell t i j) → AddsIn t i j Done (set t i (set (get_or t i []) j n))
-        unfolding raised
-        add_done f n e = record { answers = added Done (rw (ne_eqb (cell t i j) full f)); leaves = rw e }
-
-pub ruleset add_laws = (add_no_row, add_no_column, add_short, add_full, add_done)
+      pub add_done : (n : ℕ) → ok_or o CellFull ≡ Ok n → AddsIn t i j (Ok tt) (set t i (set (get_or t i []) j n))
+      unfolding raised
+      add_done n q =
+          let (l, g) = some o e n q in
+          record { answers = added (Ok tt) (rw (ne_eqb (cell t i j) full (λ z. omega (arith, l)))); leaves = rw (g, add-one) }
+        where
+          some : (o : Option ℕ) → SomeIff o (cell t i j + 1 < 4294967296) (cell t i j + 1) → (n : ℕ) → ok_or o CellFull ≡ Ok n → (cell t i j + 1 < 4294967296) × (n ≡ cell t i j + 1)
+          some None e n q = cc
+          some (Some m) e n q = let z : m ≡ n = cc in (e.0, sym z ∙ e.1)
 
 -- rows of the right number
-pub add_whole : (t : Tally) (facility severity : Level) (i j : ℕ) (a : Added) (new : Tally) → length t ≡ row_count → i ≡ row_of facility → j ≡ column_of severity
+pub add_whole : (t : Tally) (facility severity : Option ℕ) (i j : ℕ) (a : Result (Unit {0}) Refusal) (new : Tally) → length t ≡ row_count → i ≡ row_of facility → j ≡ column_of severity
     → AddsIn t i j a new → Adds t facility severity a new
 unfolding addition_in
 add_whole t f s i j a new l p q h =
     let n : no_facility < length t = omega arith in
     record {
-      answers = h.answers ∙ or_enough (is_cell i j) t (Refused OutputShort) (addition t i j) n ∙ rw (p, q);
+      answers = h.answers ∙ or_enough (is_cell i j) t (Err OutputShort) (addition t i j) n ∙ rw (p, q);
       leaves = h.leaves ∙ rw (p, q);
     }
 
@@ -139,122 +138,19 @@ module _ (f : ℕ → ℕ) (n : ℕ) where
   pub sum_all : (k sum : ℕ) → Summing f n k sum → n ≤ k → sum ≡ sum_of n f
   sum_all k sum h l = let q : k ≡ n = omega (arith, h.inside) in h.so_far ∙ rw q
 
-pub ruleset sum_laws = (sum_none, sum_one, sum_all)
-
--- ---- the reads
-
-module _ (t : Tally) (i j : ℕ) where
-  pub cell_no_row : no_facility < i → cells.Refused Unsuitable ≡ cell_read_in t i j
-  unfolding cell_read_in cell_read
-  cell_no_row h = rw (lt-leb i no_facility h)
-
-  module _ (p : i ≤ no_facility) where
-    pub cell_no_column : no_severity < j → cells.Refused Unsuitable ≡ cell_read_in t i j
-    unfolding cell_read_in cell_read
-    cell_no_column h = rw (le-leb i no_facility p, lt-leb j no_severity h)
-
-    module _ (q : j ≤ no_severity) where
-      pub cell_short : length t ≤ no_facility → cells.Refused OutputShort ≡ cell_read_in t i j
-      unfolding cell_read_in
-      cell_short l = sym (or_short_lem (is_cell i j) t (cells.Refused OutputShort) (cell_read t i j) (there i j p q) l)
-
-      pub cell_read_lem : no_facility < length t → cells.Count (cell t i j) ≡ cell_read_in t i j
-      unfolding cell_read_in cell_read
-      cell_read_lem l = sym (rw (there i j p q)) ∙ sym (or_enough (is_cell i j) t (cells.Refused OutputShort) (cell_read t i j) l)
-
-pub ruleset cell_laws = (cell_no_row, cell_no_column, cell_short, cell_read_lem)
-
--- a sum at place k, of which `last` is the last
-module _ (t : Tally) (sum : ℕ → ℕ) (last k : ℕ) where
-  abbrev read : SumRead
-  read = if leb k last then sums.Sum (sum k) else sums.Refused Unsuitable
-
-  sum_nowhere : last < k → sums.Refused Unsuitable ≡ or_short (leb k last) t (sums.Refused OutputShort) read
-  sum_nowhere h = rw (lt-leb k last h)
-
-  sum_short : k ≤ last → length t ≤ no_facility → sums.Refused OutputShort ≡ or_short (leb k last) t (sums.Refused OutputShort) read
-  sum_short h l = sym (or_short_lem (leb k last) t (sums.Refused OutputShort) read (le-leb k last h) l)
-
-  sum_read : k ≤ last → no_facility < length t → (s : ℕ) → s ≡ sum k → sums.Sum s ≡ or_short (leb k last) t (sums.Refused OutputShort) read
-  sum_read h l s q = ap sums.Sum q ∙ sym (rw (le-leb k last h)) ∙ sym (or_enough (leb k last) t (sums.Refused OutputShort) read l)
-
-module _ (t : Tally) (i : ℕ) where
-  pub row_nowhere : no_facility < i → sums.Refused Unsuitable ≡ row_read_in t i
-  unfolding row_read_in row_read
-  row_nowhere = sum_nowhere t (row_sum t) no_facility i
-
-  pub row_short : i ≤ no_facility → length t ≤ no_facility → sums.Refused OutputShort ≡ row_read_in t i
-  unfolding row_read_in row_read
-  row_short = sum_short t (row_sum t) no_facility i
-
-  pub row_read_lem : i ≤ no_facility → no_facility < length t → (s : ℕ) → s ≡ row_sum t i → sums.Sum s ≡ row_read_in t i
-  unfolding row_read_in row_read
-  row_read_lem = sum_read t (row_sum t) no_facility i
-
-module _ (t : Tally) (j : ℕ) where
-  pub column_nowhere : no_severity < j → sums.Refused Unsuitable ≡ column_read_in t j
-  unfolding column_read_in column_read
-  column_nowhere = sum_nowhere t (column_sum t) no_severity j
-
-  pub column_short : j ≤ no_severity → length t ≤ no_facility → sums.Refused OutputShort ≡ column_read_in t j
-  unfolding column_read_in column_read
-  column_short = sum_short t (column_sum t) no_severity j
-
-  pub column_read_lem : j ≤ no_severity → no_facility < length t → (s : ℕ) → s ≡ column_sum t j → sums.Sum s ≡ column_read_in t j
-  unfolding column_read_in column_read
-  column_read_lem = sum_read t (column_sum t) no_severity j
-
-pub ruleset row_laws = (row_nowhere, row_short, row_read_lem)
-
-pub ruleset column_laws = (column_nowhere, column_short, column_read_lem)
-
 -- rows of the right number
 module _ (t : Tally) (l : length t ≡ row_count) where
   enough : no_facility < length t
   enough = omega arith
 
-  pub cell_whole : (i j : ℕ) (a : CellRead) → a ≡ cell_read_in t i j → a ≡ cell_read t i j
+  pub cell_whole : (i j : ℕ) (a : Result ℕ Refusal) → a ≡ cell_read_in t i j → a ≡ cell_read t i j
   unfolding cell_read_in
-  cell_whole i j a q = q ∙ or_enough (is_cell i j) t (cells.Refused OutputShort) (cell_read t i j) enough
+  cell_whole i j a q = q ∙ or_enough (is_cell i j) t (Err OutputShort) (cell_read t i j) enough
 
-  pub row_whole : (i : ℕ) (a : SumRead) → a ≡ row_read_in t i → a ≡ row_read t i
+  pub row_whole : (i : ℕ) (a : Result ℕ Refusal) → a ≡ row_read_in t i → a ≡ row_read t i
   unfolding row_read_in
-  row_whole i a q = q ∙ or_enough (is_row i) t (sums.Refused OutputShort) (row_read t i) enough
+  row_whole i a q = q ∙ or_enough (is_row i) t (Err OutputShort) (row_read t i) enough
 
-  pub column_whole : (j : ℕ) (a : SumRead) → a ≡ column_read_in t j → a ≡ column_read t j
+  pub column_whole : (j : ℕ) (a : Result ℕ Refusal) → a ≡ column_read_in t j → a ≡ column_read t j
   unfolding column_read_in
-  column_whole j a q = q ∙ or_enough (is_column j) t (sums.Refused OutputShort) (column_read t j) enough
-
-pub ruleset whole_laws = (cell_whole, row_whole, column_whole)
-
--- ---- in numbers
-
-module _ (r : CellRead) where
-  pub cell_counted : (n : ℕ) → r ≡ cells.Count n → record { number = 0; count = n } ≡ cell_answer_of r
-  cell_counted n e = rw e
-
-  pub cell_refused : (f : Refusal) (n : ℕ) → r ≡ cells.Refused f → n ≡ refusal_number f → record { number = n; count = 0 } ≡ cell_answer_of r
-  cell_refused f n e q = rw (e, q)
-
-module _ (r : SumRead) where
-  pub sum_summed : (n : ℕ) → r ≡ sums.Sum n → record { number = 0; sum = n } ≡ sum_answer_of r
-  sum_summed n e = rw e
-
-  pub sum_refused : (f : Refusal) (n : ℕ) → r ≡ sums.Refused f → n ≡ refusal_number f → record { number = n; sum = 0 } ≡ sum_answer_of r
-  sum_refused f n e q = rw (e, q)
-
-pub ruleset answer_laws = (cell_counted, cell_refused, sum_summed, sum_refused)
-
-pub cell_told : (r s : CellRead) (a : CellAnswer) → r ≡ s → a ≡ cell_answer_of r → a ≡ cell_answer_of s
-cell_told r s a e q = q ∙ rw e
-
-pub sum_told : (r s : SumRead) (a : SumAnswer) → r ≡ s → a ≡ sum_answer_of r → a ≡ sum_answer_of s
-sum_told r s a e q = q ∙ rw e
-
-pub add_told : (t : Tally) (fm f sm s i j n : ℕ) (a : Added) (new : Tally) → i ≡ place_in no_facility fm f → j ≡ place_in no_severity sm s
-    → AddsIn t i j a new → n ≡ added_number a → AddsNumbers t fm f sm s n new
-add_told t fm f sm s i j n a new p q h e =
-    let g : AddsAt t i j n new = record { told = e ∙ ap added_number h.answers; leaves = h.leaves ∙ ap (λ (x : Added). after x t i j) h.answers } in
-    record { adds = subst (λ (x : ℕ). AddsAt t x (place_in no_severity sm s) n new) p (subst (λ (x : ℕ). AddsAt t i x n new) q g) }
-
-pub ruleset told_laws = (cell_told, sum_told, add_told)
+  column_whole j a q = q ∙ or_enough (is_column j) t (Err OutputShort) (column_read t j) enough

@@ -1,5 +1,5 @@
 -- Sums, a cell raised, and the statements of specs/Counts.antt.
-use Rattle.std.specs.Prelude.{if◌then◌else◌}
+use Rattle.std.specs.Prelude.{if◌then◌else◌, Option, Result, Ok, Err}
 use Prim.Native.Nat.{ℕ, zero, suc, ◌+◌, ◌≤◌, ◌<◌}
 use mathlib.Core.Path.{◌≡◌, refl, sym, ap, ap₂, subst, ◌∙◌}
 use mathlib.Core.Bool.{Bool, true, false, ◌&&◌}
@@ -10,11 +10,8 @@ use lib.ListN.{length, get_or, set, replicate, length-set, get_or-replicate, get
 use lib.Seq.{get_or-set_same, get_or-set_other}
 use borrow.Author.Tests.{eqb-true, eqb-false, eq-eqb, leb-true, leb-false}
 use Rattle.base.proofs.Tests.{by_test, both, clash}
-use Rattle.record.specs.declared.Level.{Level}
 use Rattle.record.specs.declared.Refusal.{Refusal}
 use Rattle.record.specs.declared.Refusal.TheVariants.{Unsuitable, CellFull}
-use Rattle.tally.specs.declared.Added.{Added}
-use Rattle.tally.specs.declared.Added.TheVariants.{Done, Refused}
 use Rattle.tally.specs.Tally.{Tally, no_facility, no_severity, row_count, column_count, full, empty, cell, is_row, is_column, is_cell, row_of, column_of, addition, raised, after, Adds, sum_of}
 use Rattle.tally.specs.Counts.{Whole, Raises, AcceptedRaisesOne, RefusedLeavesAll, OneResult, Additions, none, accepted, refused, of_kind, Counts, CountsAccepted}
 
@@ -100,16 +97,16 @@ module _ (t : Tally) (i j : ℕ) (w : Whole t) (p : i < row_count) (q : j < colu
 
 -- ---- an addition
 
-never : {A : Type 0} {f : Refusal} → Done ≡ Refused f → A
+never : {A : Type 0} {f : Refusal} → ◌≡◌ {A = Result (Unit {0}) Refusal} (Ok tt) (Err f) → A
 never e = let z : ◌≡◌ {A = ℕ} 0 1 = cc in absurd (omega arith)
 
 -- an accepted one: there is such a cell, and it is not full
-pub done_at : (b c : Bool) → Done ≡ (if b then (if c then Refused CellFull else Done) else Refused Unsuitable) → (b ≡ true) × (c ≡ false)
+pub done_at : (b c : Bool) → ◌≡◌ {A = Result (Unit {0}) Refusal} (Ok tt) (if b then (if c then Err CellFull else (Ok tt)) else Err Unsuitable) → (b ≡ true) × (c ≡ false)
 done_at true true e = never e
 done_at true false e = (refl, refl)
 done_at false c e = never e
 
-module _ {old new : Tally} {facility severity : Level} (h : Adds old facility severity Done new) where
+module _ {old new : Tally} {facility severity : (Option ℕ)} (h : Adds old facility severity (Ok tt) new) where
   at : (is_cell (row_of facility) (column_of severity) ≡ true) × (eqb (cell old (row_of facility) (column_of severity)) full ≡ false)
   unfolding addition
   at = done_at _ _ h.answers
@@ -138,7 +135,7 @@ refused_leaves_all old new facility severity f h = h.leaves
 pub one_result : OneResult
 one_result old new new' facility severity a a' h k =
     let q : a ≡ a' = h.answers ∙ sym k.answers in
-    (q, h.leaves ∙ ap (λ (x : Added). after x old (row_of facility) (column_of severity)) q ∙ sym k.leaves)
+    (q, h.leaves ∙ ap (λ (x : Result (Unit {0}) Refusal). after x old (row_of facility) (column_of severity)) q ∙ sym k.leaves)
 
 -- ---- any sequence of additions
 

@@ -1,10 +1,6 @@
 -- Additions one behind the other, from the empty tally: the statements, to be read without their proofs, which are in proofs/Sums.antt.
-use Rattle.std.specs.Prelude.{ℕ, suc, ◌≤◌, ◌<◌, ◌≡◌, ◌&&◌, [], eqb, length, get_or, if◌then◌else◌}
-use Rattle.record.specs.declared.Level.{Level}
-use Rattle.record.specs.declared.Level.TheVariants.{Unset, Set}
+use Rattle.std.specs.Prelude.{ℕ, suc, ◌≤◌, ◌<◌, ◌≡◌, ◌&&◌, [], eqb, length, get_or, if◌then◌else◌, Option, Some, None, Result, Ok, Err}
 use Rattle.record.specs.declared.Refusal.{Refusal}
-use Rattle.tally.specs.declared.Added.{Added}
-use Rattle.tally.specs.declared.Added.TheVariants.{Done, Refused}
 use Rattle.tally.specs.Tally.{Tally, row_count, column_count, full, empty, cell, place_of, row_of, column_of, Adds, sum_of, row_sum, column_sum}
 use Rattle.tally.specs.Numbers.{place_in, AddsNumbers}
 
@@ -24,23 +20,23 @@ pub record Raises (old : Tally) (i j : ℕ) (new : Tally) : Type 0 where
 
 -- So it is with each accepted addition.
 abbrev pub AcceptedRaisesOne : Type 0
-AcceptedRaisesOne = (old new : Tally) (facility severity : Level) → Whole old → Adds old facility severity Done new → Raises old (row_of facility) (column_of severity) new
+AcceptedRaisesOne = (old new : Tally) (facility severity : Option ℕ) → Whole old → Adds old facility severity (Ok tt) new → Raises old (row_of facility) (column_of severity) new
 
 -- A refused one leaves all.
 abbrev pub RefusedLeavesAll : Type 0
-RefusedLeavesAll = (old new : Tally) (facility severity : Level) (f : Refusal) → Adds old facility severity (Refused f) new → new ≡ old
+RefusedLeavesAll = (old new : Tally) (facility severity : Option ℕ) (f : Refusal) → Adds old facility severity (Err f) new → new ≡ old
 
 -- Any two results that the contract of an addition allows are equal.
 abbrev pub OneResult : Type 0
-OneResult = (old new new' : Tally) (facility severity : Level) (a a' : Added) → Adds old facility severity a new → Adds old facility severity a' new' → (a ≡ a') × (new ≡ new')
+OneResult = (old new new' : Tally) (facility severity : Option ℕ) (a a' : Result (Unit {0}) Refusal) → Adds old facility severity a new → Adds old facility severity a' new' → (a ≡ a') × (new ≡ new')
 
 -- ---- any sequence of additions
 
 -- calls of `add`, each on what the one before it left: the tally behind them, and how many were accepted
 pub data Additions : Tally → ℕ → Type 0 where
   none : Additions empty 0
-  accepted : {old new : Tally} {n : ℕ} {facility severity : Level} → Additions old n → Adds old facility severity Done new → Additions new (suc n)
-  refused : {old new : Tally} {n : ℕ} {facility severity : Level} {f : Refusal} → Additions old n → Adds old facility severity (Refused f) new → Additions new n
+  accepted : {old new : Tally} {n : ℕ} {facility severity : (Option ℕ)} → Additions old n → Adds old facility severity (Ok tt) new → Additions new (suc n)
+  refused : {old new : Tally} {n : ℕ} {facility severity : (Option ℕ)} {f : Refusal} → Additions old n → Adds old facility severity (Err f) new → Additions new n
 
 -- how many of the accepted had row i and column j
 unfoldable pub of_kind : {t : Tally} {n : ℕ} → ℕ → ℕ → Additions t n → ℕ
@@ -65,12 +61,12 @@ CountsAccepted = (t : Tally) (n : ℕ) (calls : Additions t n) → Counts t n ca
 -- ---- the same in numbers, on 25 rows
 
 -- the level of a mark and a number
-abbrev pub level_in : ℕ → ℕ → Level
-level_in mark n = if eqb mark 0 then Unset else Set n
+abbrev pub level_in : ℕ → ℕ → Option ℕ
+level_in mark n = if eqb mark 0 then None else Some n
 
 -- A call that answers 0 is an accepted addition of its levels, so that all the above holds of such calls; any other leaves all.
 pub record CallAdds (old : Tally) (facility_mark facility severity_mark severity number : ℕ) (new : Tally) : Type 0 where
-  pub accepts : number ≡ 0 → Adds old (level_in facility_mark facility) (level_in severity_mark severity) Done new
+  pub accepts : number ≡ 0 → Adds old (level_in facility_mark facility) (level_in severity_mark severity) (Ok tt) new
   pub leaves : (number ≡ 0 → ⊥) → new ≡ old
 
 abbrev pub CallsAdd : Type 0
@@ -79,7 +75,7 @@ CallsAdd = (old new : Tally) (facility_mark facility severity_mark severity numb
 
 -- The levels of a record, by the words that its memory has of them, have their own cell.
 abbrev pub OwnCell : Type 0
-OwnCell = (last n : ℕ) → (place_in last 0 0 ≡ place_of last Unset) × (place_in last 1 n ≡ place_of last (Set n))
+OwnCell = (last n : ℕ) → (place_in last 0 0 ≡ place_of last None) × (place_in last 1 n ≡ place_of last (Some n))
 
 -- Any two results that the contract of a call allows are equal.
 abbrev pub OneAnswer : Type 0

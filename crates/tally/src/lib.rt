@@ -1,32 +1,12 @@
 // The tally: how many records of each facility and each severity came in. 25 rows, facilities 0 to 23 and none, of 9 columns, severities 0 to 7 and none.
 #![tactic(auto)]
 
-ghost use Rattle.std.specs.Prelude.{◌≡◌, suc, ◌≤◌, ◌<◌, length};
-ghost use Rattle.tally.specs.Tally.{no_facility, column_count, full, cell, place_of, Adds, row_sum, column_sum, cell_read, row_read, column_read};
-ghost use Rattle.tally.specs.Numbers.{place_in, added_number, cell_answer_of, sum_answer_of, AddsNumbers, cell_read_in, row_read_in, column_read_in, AddsIn};
+ghost use Rattle.std.specs.Prelude.{◌≡◌, ◌<◌, length, slice_index, MatchResult};
+ghost use Rattle.record.specs.Refusals.{refusal_number};
+ghost use Rattle.tally.specs.Tally.{no_facility, column_count, place_of, Adds, sum_of, column_sum, cell_read, row_read, column_read};
+ghost use Rattle.tally.specs.Numbers.{place_in, demanded, cell_answer_of, sum_answer_of, AddsNumbers, cell_read_in, row_read_in, column_read_in, AddsIn};
 
-use record::{Level, Refusal};
-
-// What an addition answers.
-#[derive(Clone, Copy)]
-pub enum Added {
-    Done,
-    Refused(Refusal),
-}
-
-// What the read of a cell answers.
-#[derive(Clone, Copy)]
-pub enum CellRead {
-    Count(u32),
-    Refused(Refusal),
-}
-
-// What the read of a row sum or of a column sum answers.
-#[derive(Clone, Copy)]
-pub enum SumRead {
-    Sum(u64),
-    Refused(Refusal),
-}
+use record::Refusal;
 
 // The answers as a C caller gets them: a number (0: done) and the value, which is 0 where the call is refused.
 #[repr(C)]
@@ -53,19 +33,16 @@ pub const NO_SEVERITY: usize = 8;
 // The place of number `n`, where the last place is `none`; the one behind it where there is none.
 fn place(none: usize, n: usize) -> usize
     requires { none < 255 }
-    ensures { result ≡ place_of none (Level.Set n) }
+    ensures { result ≡ place_of none (Some n) }
 {
     if n < none { n } else { none + 1 }
 }
 
-fn place_of(none: usize, level: Level) -> usize
+fn place_of(none: usize, level: Option<u8>) -> usize
     requires { none < 255 }
     ensures { result ≡ place_of none level }
 {
-    match level {
-        Level::Unset => none,
-        Level::Set(n) => place(none, n as usize),
-    }
+    level.map_or(none, |n| place(none, n as usize))
 }
 
 // The same of a mark and a number.
@@ -73,84 +50,49 @@ fn place_in(none: usize, mark: u32, n: u32) -> usize
     requires { none < 255 }
     ensures { result ≡ place_in none mark n }
 {
-    if (mark == 0) & (n == 0) {
-        return none;
+    match (mark, n) {
+        (0, 0) => none,
+        (1, n) => place(none, n as usize),
+        _ => none + 1,
     }
-    if mark == 1 {
-        return place(none, n as usize);
-    }
-    none + 1
 }
 
 // ---- over rows, of which there may be too few
 
-fn one_more(n: u32) -> u32
-    requires { n ≡ full → ⊥ }
-    ensures { result ≡ suc n }
+// Whether there is a place, and then whether the rows are all there.
+fn demand(there: bool, rows: &[[u32; 9]]) -> Result<(), Refusal>
+    ensures { result ≡ demanded there rows.now }
 {
-    n + 1
+    if !there {
+        Err(Refusal::Unsuitable)
+    } else if rows.len() <= NO_FACILITY {
+        Err(Refusal::OutputShort)
+    } else {
+        Ok(())
+    }
 }
 
-fn add_at(rows: &mut [[u32; 9]], i: usize, j: usize) -> Added
+fn add_at(rows: &mut [[u32; 9]], i: usize, j: usize) -> Result<(), Refusal>
     ensures { AddsIn rows.old i j result rows.new }
 {
-    if NO_FACILITY < i {
-        return Added::Refused(Refusal::Unsuitable);
-    }
-    if NO_SEVERITY < j {
-        return Added::Refused(Refusal::Unsuitable);
-    }
-    if rows.len() <= NO_FACILITY {
-        return Added::Refused(Refusal::OutputShort);
-    }
-    let n = rows[i][j];
-    if n == u32::MAX {
-        return Added::Refused(Refusal::CellFull);
-    }
-    rows[i][j] = one_more(n);
-    Added::Done
+    demand((i <= NO_FACILITY) & (j <= NO_SEVERITY), rows)?;
+    rows[i][j] = rows[i][j].checked_add(1).ok_or(Refusal::CellFull)?;
+    Ok(())
 }
 
-fn cell_at(rows: &[[u32; 9]], i: usize, j: usize) -> CellRead
+fn cell_at(rows: &[[u32; 9]], i: usize, j: usize) -> Result<u32, Refusal>
     ensures { result ≡ cell_read_in rows.now i j }
 {
-    if NO_FACILITY < i {
-        return CellRead::Refused(Refusal::Unsuitable);
-    }
-    if NO_SEVERITY < j {
-        return CellRead::Refused(Refusal::Unsuitable);
-    }
-    if rows.len() <= NO_FACILITY {
-        return CellRead::Refused(Refusal::OutputShort);
-    }
-    CellRead::Count(rows[i][j])
+    demand((i <= NO_FACILITY) & (j <= NO_SEVERITY), rows)?;
+    Ok(rows[i][j])
 }
 
-fn wide(n: u32) -> u64
-    ensures value { result ≡ n }
-    ensures upper_bound { result ≤ full }
+fn row_sum(row: &[u32; 9]) -> u64
+    ensures { result ≡ sum_of column_count (λ j. slice_index row.now j) }
 {
-    n as u64
-}
-
-fn count_at(rows: &[[u32; 9]], i: usize, j: usize) -> u64
-    requires i_in_bounds { i < length rows.now }
-    requires j_lt_column_count { j < column_count }
-    ensures value { result ≡ cell rows.now i j }
-    ensures upper_bound { result ≤ full }
-{
-    wide(rows[i][j])
-}
-
-fn row_sum(rows: &[[u32; 9]], i: usize) -> u64
-    requires { i < length rows.now }
-    ensures { result ≡ row_sum rows.now i }
-{
-    let mut sum: u64 = 0;
-    let mut j = 0;
-    while j <= NO_SEVERITY {
-        sum += count_at(rows, i, j);
-        j += 1;
+    let mut sum = 0;
+    for n in row {
+        sum += u64::from(*n);
     }
     sum
 }
@@ -160,43 +102,35 @@ fn column_sum(rows: &[[u32; 9]], j: usize) -> u64
     requires j_lt_column_count { j < column_count }
     ensures { result ≡ column_sum rows.now j }
 {
-    let mut sum: u64 = 0;
-    let mut i = 0;
-    while i <= NO_FACILITY {
-        sum += count_at(rows, i, j);
-        i += 1;
+    let mut sum = 0;
+    for row in &rows[..=NO_FACILITY] {
+        sum += u64::from(row[j]);
     }
     sum
 }
 
-fn row_at(rows: &[[u32; 9]], i: usize) -> SumRead
+fn row_at(rows: &[[u32; 9]], i: usize) -> Result<u64, Refusal>
     ensures { result ≡ row_read_in rows.now i }
 {
-    if NO_FACILITY < i {
-        return SumRead::Refused(Refusal::Unsuitable);
-    }
-    if rows.len() <= NO_FACILITY {
-        return SumRead::Refused(Refusal::OutputShort);
-    }
-    SumRead::Sum(row_sum(rows, i))
+    demand(i <= NO_FACILITY, rows)?;
+    Ok(row_sum(&rows[i]))
 }
 
-fn column_at(rows: &[[u32; 9]], j: usize) -> SumRead
+fn column_at(rows: &[[u32; 9]], j: usize) -> Result<u64, Refusal>
     ensures { result ≡ column_read_in rows.now j }
 {
-    if NO_SEVERITY < j {
-        return SumRead::Refused(Refusal::Unsuitable);
-    }
-    if rows.len() <= NO_FACILITY {
-        return SumRead::Refused(Refusal::OutputShort);
-    }
-    SumRead::Sum(column_sum(rows, j))
+    demand(j <= NO_SEVERITY, rows)?;
+    Ok(column_sum(rows, j))
 }
 
 // ---- the services
 
 // One record more of a facility and a severity, as a record has them.
-pub fn add(tally: &mut [[u32; 9]; 25], facility: Level, severity: Level) -> Added
+pub fn add(
+    tally: &mut [[u32; 9]; 25],
+    facility: Option<u8>,
+    severity: Option<u8>,
+) -> Result<(), Refusal>
     ensures { Adds tally.old facility severity result tally.new }
 {
     let i = place_of(NO_FACILITY, facility);
@@ -205,21 +139,21 @@ pub fn add(tally: &mut [[u32; 9]; 25], facility: Level, severity: Level) -> Adde
 }
 
 // What a cell holds.
-pub fn cell(tally: &[[u32; 9]; 25], row: usize, column: usize) -> CellRead
+pub fn cell(tally: &[[u32; 9]; 25], row: usize, column: usize) -> Result<u32, Refusal>
     ensures { result ≡ cell_read tally.now row column }
 {
     cell_at(tally, row, column)
 }
 
 // The sum of a row's cells.
-pub fn row(tally: &[[u32; 9]; 25], row: usize) -> SumRead
+pub fn row(tally: &[[u32; 9]; 25], row: usize) -> Result<u64, Refusal>
     ensures { result ≡ row_read tally.now row }
 {
     row_at(tally, row)
 }
 
 // The sum of a column's cells.
-pub fn column(tally: &[[u32; 9]; 25], column: usize) -> SumRead
+pub fn column(tally: &[[u32; 9]; 25], column: usize) -> Result<u64, Refusal>
     ensures { result ≡ column_read tally.now column }
 {
     column_at(tally, column)
@@ -227,36 +161,31 @@ pub fn column(tally: &[[u32; 9]; 25], column: usize) -> SumRead
 
 // ---- for C: include/khamdoriem.h declares these functions, docs/INTERFACE.md says what they answer
 
-fn added_number(a: Added) -> u32
-    ensures { result ≡ added_number a }
+// The number of an answer, and its value, which is `none` where the call is refused.
+fn numbers<T: Copy>(r: Result<T, Refusal>, none: T) -> (u32, T)
+    ensures { MatchResult r (λ x. result ≡ (0, x)) (λ f. result ≡ (refusal_number f, none)) }
 {
-    match a {
-        Added::Done => 0,
-        Added::Refused(f) => record::refusal_number(f),
+    match r {
+        Ok(x) => (0, x),
+        Err(f) => (u32::from(f), none),
     }
 }
 
-fn cell_answer_of(r: CellRead) -> CellAnswer
-    ensures { result ≡ cell_answer_of r }
-{
-    match r {
-        CellRead::Count(count) => CellAnswer { number: 0, count },
-        CellRead::Refused(f) => CellAnswer {
-            number: record::refusal_number(f),
-            count: 0,
-        },
+impl From<Result<u32, Refusal>> for CellAnswer {
+    ghost from_gives = { λ r a. a ≡ cell_answer_of r };
+
+    fn from(r: Result<u32, Refusal>) -> CellAnswer {
+        let (number, count) = numbers(r, 0);
+        CellAnswer { number, count }
     }
 }
 
-fn sum_answer_of(r: SumRead) -> SumAnswer
-    ensures { result ≡ sum_answer_of r }
-{
-    match r {
-        SumRead::Sum(sum) => SumAnswer { number: 0, sum },
-        SumRead::Refused(f) => SumAnswer {
-            number: record::refusal_number(f),
-            sum: 0,
-        },
+impl From<Result<u64, Refusal>> for SumAnswer {
+    ghost from_gives = { λ r a. a ≡ sum_answer_of r };
+
+    fn from(r: Result<u64, Refusal>) -> SumAnswer {
+        let (number, sum) = numbers(r, 0);
+        SumAnswer { number, sum }
     }
 }
 
@@ -272,26 +201,26 @@ pub fn khamdoriem_tally_add(
 {
     let i = place_in(NO_FACILITY, facility_mark, facility);
     let j = place_in(NO_SEVERITY, severity_mark, severity);
-    added_number(add_at(rows, i, j))
+    numbers(add_at(rows, i, j), ()).0
 }
 
 // What a cell of a tally holds.
 pub fn khamdoriem_tally_cell(rows: &[[u32; 9]], row: u32, column: u32) -> CellAnswer
     ensures { result ≡ cell_answer_of (cell_read_in rows.now row column) }
 {
-    cell_answer_of(cell_at(rows, row as usize, column as usize))
+    CellAnswer::from(cell_at(rows, row as usize, column as usize))
 }
 
 // The sum of a row of a tally.
 pub fn khamdoriem_tally_row(rows: &[[u32; 9]], row: u32) -> SumAnswer
     ensures { result ≡ sum_answer_of (row_read_in rows.now row) }
 {
-    sum_answer_of(row_at(rows, row as usize))
+    SumAnswer::from(row_at(rows, row as usize))
 }
 
 // The sum of a column of a tally.
 pub fn khamdoriem_tally_column(rows: &[[u32; 9]], column: u32) -> SumAnswer
     ensures { result ≡ sum_answer_of (column_read_in rows.now column) }
 {
-    sum_answer_of(column_at(rows, column as usize))
+    SumAnswer::from(column_at(rows, column as usize))
 }

@@ -1,4 +1,5 @@
 // The tally again, run with `--counted` on the stream of `listing_counted`, which a bad count ends.
+// The stored input of each tallying program is its own, and so is its `main`: what they share is `tallier::tally_input`.
 #![tactic(auto)]
 
 use program::Process;

@@ -1,4 +1,5 @@
 // The tally again, run with `--crlf` on lines of many facilities and severities.
+// The stored input of each tallying program is its own, and so is its `main`: what they share is `tallier::tally_input`.
 #![tactic(auto)]
 
 use program::Process;

@@ -2,66 +2,28 @@
 #![tactic(auto)]
 
 use program::{Process, Status, Takes};
-use record::{Reading, Record, Stamp, Written};
+use record::Reading;
 use std::process::ExitCode;
-
-fn write_seconds(process: &mut Process, r: Record) -> bool {
-    let stamp = r.timestamp;
-    let Stamp::Stamped(t) = stamp else {
-        return false;
-    };
-    let seconds = base::split(t.seconds);
-    program::say_decimal(process, seconds.up) & program::say(process, b"\n")
-}
-
-fn write_printed(process: &mut Process, w: Written, out: &[u8]) -> bool {
-    let Written::Done(n) = w else {
-        return false;
-    };
-    if out.len() < n {
-        return false;
-    }
-    program::say(process, &out[0..n]) & program::say(process, b"\n")
-}
-
-// Reads a line with a parameter table of its own.
-fn read_line(
-    line: &[u8],
-    variant: u32,
-    year: u32,
-    offset: i32,
-    elements: &mut [[usize; 2]],
-) -> Reading {
-    let blank = record::blank();
-    let mut params = [blank; 4];
-    loose::read(line, variant, year, offset, elements, &mut params)
-}
-
-// Prints a record that has no parameters.
-fn print_line(
-    line: &[u8],
-    r: Record,
-    e: usize,
-    elements: &[[usize; 2]],
-    out: &mut [u8],
-) -> Written {
-    let blank = record::blank();
-    let params = [blank; 4];
-    message::print(line, r, e, 0, elements, &params, out)
-}
 
 // Whether the line was read, and all was written.
 fn show(process: &mut Process) -> bool {
     let line = *b"<13>Feb  5 10:01:02 gate7 reader[42]: tap ok";
     let mut elements = [[0usize; 2]; 4];
+    let mut params = [record::blank(); 4];
     let mut out = [0u8; 128];
-    let reading = read_line(&line, 0, 2023, 60, &mut elements);
-    let Reading::Read(r, e, _) = reading else {
+    let Ok(Reading::Read(r, e, p)) = loose::read(&line, 0, 2023, 60, &mut elements, &mut params)
+    else {
         return false;
     };
-    let timed = write_seconds(process, r);
-    let w = print_line(&line, r, e, &elements, &mut out);
-    timed & write_printed(process, w, &out)
+    let timed = match r.timestamp {
+        Some(t) => program::say_decimal(process, t.seconds.unsigned_abs())
+            && program::say(process, b"\n"),
+        None => false,
+    };
+    let Ok(n) = message::print(&line, r, e, p, &elements, &params, &mut out) else {
+        return false;
+    };
+    timed && program::say(process, &out[..n]) && program::say(process, b"\n")
 }
 
 fn run(process: &mut Process) -> Status {

@@ -1,4 +1,5 @@
 -- Structured data: ids, names and values are whole characters, and what is taken ends at a cut.
+use Rattle.std.specs.Prelude.{Option, Some, None}
 use Prim.Native.Nat.{ℕ, zero, suc, ◌+◌, ◌-◌, ◌<◌}
 use mathlib.Core.Path.{◌≡◌, refl, sym, ap, ◌∙◌}
 use mathlib.Core.List.{List, [], ◌∷◌, ◌++◌}
@@ -22,7 +23,6 @@ use Rattle.structured_data.specs.Data.Data.{no_data, is_data}
 use Rattle.parsers.specs.Steps.{is_inside}
 use Rattle.structured_data.specs.Steps.{open_from}
 use Rattle.structured_data.specs.declared.Param.{Param}
-use Rattle.structured_data.specs.declared.Param.TheVariants.{NoParam, IsParam}
 use Rattle.structured_data.specs.declared.Rules.{Rules}
 use Rattle.structured_data.specs.declared.Rules.TheVariants.{Rfc3164Rules, Rfc5424Rules}
 use Rattle.structured_data.proofs.Ids.{id_le}
@@ -68,9 +68,9 @@ module _ (s : List ℕ) (u : is_utf8 s ≡ true) where
       ap (λ (i : ℕ). is_at s i c) (sym z) ∙ sym (at_part s at 0 c) ∙ ap (λ (l : List ℕ). is_at l 0 c) (sym e) ∙ h
 
   -- a parameter
-  abbrev ParamAt : ℕ → Param → Type 0
-  ParamAt at NoParam = Unit {0}
-  ParamAt at (IsParam n v m len) = Between s at n × Between s (at + v) m
+  abbrev ParamAt : ℕ → Option Param → Type 0
+  ParamAt at None = Unit {0}
+  ParamAt at (Some x) = Between s at x.name × Between s (at + x.value) x.value_len
 
   param_cut : (at : ℕ) → Cut s at → ParamAt at (param_at (drop at s))
   unfolding param_at
@@ -94,10 +94,10 @@ module _ (s : List ℕ) (u : is_utf8 s ≡ true) where
       ))
       (λ h. tt)
 
-  and_cut : (e at from : ℕ) (p : Param) (more : ℕ → Params) → ParamAt at p → ((len : ℕ) → Each (ParamCut s) (more len).rows)
+  and_cut : (e at from : ℕ) (p : Option Param) (more : ℕ → Params) → ParamAt at p → ((len : ℕ) → Each (ParamCut s) (more len).rows)
       → Each (ParamCut s) (param_and e at from p more).rows
-  and_cut e at from NoParam more h k = tt
-  and_cut e at from (IsParam n v m len) more h k = (h, k len)
+  and_cut e at from None more h k = tt
+  and_cut e at from (Some x) more h k = (h, k x.len)
 
   more_cut : (e k at : ℕ) (t : List ℕ) → t ≡ drop at s → Each (ParamCut s) (more_params e k at t).rows
   unfolding more_params

@@ -1,4 +1,6 @@
 -- Worked examples, computed from the definitions: timestamps that are read and printed again.
+use Rattle.std.specs.Prelude as std
+use Rattle.std.specs.Prelude.{Some, None}
 use Prim.Native.Nat.{ℕ}
 use mathlib.Core.Path.{◌≡◌, refl}
 use mathlib.Core.List.{List, [], ◌∷◌, map}
@@ -14,16 +16,15 @@ use Rattle.timestamp.specs.Month.{named_from, month_of as numbered, month_from}
 use Rattle.timestamp.specs.Clock.{clock_from}
 use Rattle.timestamp.specs.Rfc3339.{fixed_from, either_from, date_from, time_from, nanos_from, minutes_from, zone_from, end_from, full_from, rfc3339_from}
 use Rattle.timestamp.specs.Timestamp.{day_from, without_year, with_year, rfc3164_from}
-use Rattle.timestamp.specs.declared.Stamping.{Stamping}
-use Rattle.timestamp.specs.declared.Stamping.TheVariants.{NoStamp, IsStamp}
 use Rattle.grammar.specs.Line.{Offset, Timestamp}
 use Rattle.grammar.specs.Reading.{stamp_of}
 use Rattle.output.specs.Numerals.{fixed}
 use Rattle.message_stamp.specs.Stamps.{date_text, time_text, clock_text, fraction_text, offset_text, stamp_text}
+use Rattle.record.specs.declared.Timestamp as stamped
 
-abbrev printed : Stamping → List ℕ
-printed NoStamp = []
-printed (IsStamp t n) = stamp_text t
+abbrev printed : std.Option (std.Option stamped.Timestamp × ℕ) → List ℕ
+printed None = []
+printed (Some x) = stamp_text x.0
 
 -- the digits as they stand: zeros at the end and zeros alone, none, nine, one; RFC 3164's own clock has none
 loose : map (λ t. printed (rfc3164_from 2023 (pos 0) (bytes t) 0))

@@ -1,4 +1,5 @@
 -- Printing: a text that is put together of ASCII and of texts of whole characters is UTF-8.
+use Rattle.std.specs.Prelude.{Option, Some, None}
 use Prim.Native.Nat.{ℕ, zero, suc, ◌+◌, ◌-◌, ◌*◌, ◌/◌, ◌%◌, ◌^◌, ◌<◌}
 use mathlib.Core.Path.{◌≡◌, refl, ◌∙◌}
 use mathlib.Core.List.{List, [], ◌∷◌, ◌++◌}
@@ -17,14 +18,10 @@ use Rattle.utf8.specs.Lead.{utf8_from, is_utf8}
 use Rattle.utf8.proofs.Texts.{utf8_char, utf8_append, utf8_sound, utf8_complete}
 use Rattle.calendar.specs.Instant.{shown}
 use Rattle.calendar.specs.declared.DateTime.{DateTime}
-use Rattle.calendar.specs.declared.Shown.{Shown}
-use Rattle.calendar.specs.declared.Shown.TheVariants.{Outside, At}
 use Rattle.record.specs.declared.Place.{Place}
 use Rattle.record.specs.declared.Protocol.{Protocol}
 use Rattle.record.specs.declared.Protocol.TheVariants.{Rfc3164, Rfc5424}
 use Rattle.record.specs.declared.Record.{Record}
-use Rattle.record.specs.declared.Stamp.{Stamp}
-use Rattle.record.specs.declared.Stamp.TheVariants.{Unstamped, Stamped}
 use Rattle.record.specs.declared.Timestamp.{Timestamp}
 use Rattle.grammar.specs.Line.{Each}
 use Rattle.output.specs.Numerals.{fixed, numeral, width}
@@ -89,17 +86,17 @@ offset_text_lem o =
     ascii (sign_of o) _ (sign_small o)
     (join (fixed 2 (nat_abs o / 60)) _ (fixed_text 2 (nat_abs o / 60)) (ascii 58 _ (omega arith) (fixed_text 2 (nat_abs o % 60))))
 
-shown_text_lem : (t : Timestamp) (s : Shown) → IsText (shown_text t s)
+shown_text_lem : (t : Timestamp) (s : Option DateTime) → IsText (shown_text t s)
 unfolding clock_text
-shown_text_lem t Outside = empty
-shown_text_lem t (At clock) =
+shown_text_lem t None = empty
+shown_text_lem t (Some clock) =
     join ((date_text clock ++ time_text clock) ++ fraction_text t.digits t.nanos) _
     (join (date_text clock ++ time_text clock) _ (join (date_text clock) _ (date_text_lem clock) (time_text_lem clock)) (fraction_text_lem t.digits t.nanos))
     (offset_text_lem t.offset)
 
-stamp_text_lem : (t : Stamp) → IsText (stamp_text t)
-stamp_text_lem Unstamped = ascii 45 [] (omega arith) empty
-stamp_text_lem (Stamped t) = shown_text_lem t (shown t.seconds t.offset)
+stamp_text_lem : (t : Option Timestamp) → IsText (stamp_text t)
+stamp_text_lem None = ascii 45 [] (omega arith) empty
+stamp_text_lem (Some t) = shown_text_lem t (shown t.seconds t.offset)
 
 -- the record
 pri_text_lem : (r : Record) → IsText (pri_text r)

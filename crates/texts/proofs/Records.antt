@@ -1,4 +1,5 @@
 -- The readings of both protocols: each text is whole characters.
+use Rattle.std.specs.Prelude.{Option, Some, None}
 use Prim.Native.Nat.{ℕ, ◌+◌, ◌-◌, ◌<◌}
 use mathlib.Core.Path.{◌≡◌, refl, sym, ap, ◌∙◌}
 use mathlib.Core.List.{List}
@@ -14,20 +15,13 @@ use Rattle.base.proofs.Tests.{both, by_if}
 use Rattle.utf8.specs.Lead.{is_utf8}
 use Rattle.record.specs.Places.{absent}
 use Rattle.record.specs.declared.Place.{Place}
-use Rattle.record.specs.declared.Stamp.{Stamp}
 use Rattle.record.specs.declared.Record.{Record}
 use Rattle.pri.specs.Pri.{pri_at}
 use Rattle.pri.specs.declared.Pri.{Pri}
-use Rattle.parsers.specs.Steps.{blanks_from, some_blanks_from, byte_from, number_from, host_from, plain_from, tag_from, on_pos, on_field}
-use Rattle.parsers.specs.declared.Pos.{Pos}
-use Rattle.parsers.specs.declared.Pos.TheVariants.{NoPos, IsPos}
-use Rattle.parsers.specs.declared.Field.{Field}
-use Rattle.parsers.specs.declared.Field.TheVariants.{NoField, IsField}
+use Rattle.parsers.specs.Steps.{blanks_from, some_blanks_from, byte_from, number_from, host_from, plain_from, tag_from, on_some, on_read}
 use Rattle.parsers.proofs.Steps.{at_there}
 use Rattle.timestamp.specs.Rfc3339.{rfc3339_from}
 use Rattle.timestamp.specs.Timestamp.{rfc3164_from}
-use Rattle.timestamp.specs.declared.Stamping.{Stamping}
-use Rattle.timestamp.specs.declared.Stamping.TheVariants.{NoStamp, IsStamp}
 use Rattle.timestamp.proofs.Onward.{on_num_lem, on_pos_lem}
 use Rattle.structured_data.specs.Data.{data_from}
 use Rattle.draft.specs.Outcome.{Outcome}
@@ -36,19 +30,16 @@ use Rattle.parsers.specs.Steps.{is_inside}
 use Rattle.structured_data.specs.declared.Rules.TheVariants.{Rfc3164Rules, Rfc5424Rules}
 use Rattle.rfc3164.specs.Names.{is_app, split_at, split_of, no_names, with_tag, only_field, host_and_tag}
 use Rattle.rfc3164.specs.Rfc3164 as rfc3164
-use Rattle.rfc3164.specs.declared.Split.{Split}
-use Rattle.rfc3164.specs.declared.Split.TheVariants.{Whole, Parts}
 use Rattle.rfc3164.specs.declared.Names.{Names}
 use Rattle.rfc3164.proofs.Lines.{by_header}
 use Rattle.rfc5424.specs.Rfc5424 as rfc5424
 use Rattle.rfc5424.specs.declared.Start.{Start}
-use Rattle.rfc5424.specs.declared.Start.TheVariants.{NoStart, IsStart}
 use Rattle.rfc5424.specs.declared.Four.{Four}
-use Rattle.rfc5424.specs.declared.Four.TheVariants.{NoFour, IsFour}
 use Rattle.rfc5424.proofs.Lines.{on_start_lem, on_four_lem, on_data_lem}
 use Rattle.texts.proofs.Cuts.{Cut, Between, blanks_on, at_start, at_end_lem}
 use Rattle.texts.proofs.Steps.{PosCut, StampCut, PlaceCut, FieldCut, some_cut, byte_cut, before_part, after_part, plain_cut, host_cut, tag_cut, colon_cut, rfc3339_cut, rfc3164_cut}
 use Rattle.texts.proofs.Data.{RowsCut, data_cut, rows_cut}
+use Rattle.record.specs.declared.Timestamp.{Timestamp}
 
 pub record RecordCut (s : List ℕ) (r : Record) : Type 0 where
   pub host : PlaceCut s r.host
@@ -92,9 +83,9 @@ module _ (s : List ℕ) (u : is_utf8 s ≡ true) where
 
   -- ---- RFC 5424
 
-  spaced : (x : Pos) (read : ℕ → Field) → PosCut s x → ((a : ℕ) → Cut s a → FieldCut s (read a)) → FieldCut s (on_pos x NoField read)
-  spaced NoPos read h k = tt
-  spaced (IsPos a) read h k = k a h
+  spaced : (x : Option ℕ) (read : ℕ → Option (Place × ℕ)) → PosCut s x → ((a : ℕ) → Cut s a → FieldCut s (read a)) → FieldCut s (on_some x None read)
+  spaced None read h k = tt
+  spaced (Some a) read h k = k a h
 
   blank_host_cut : (at : ℕ) → Cut s at → FieldCut s (rfc5424.blank_host s at)
   unfolding rfc5424.blank_host
@@ -104,14 +95,14 @@ module _ (s : List ℕ) (u : is_utf8 s ≡ true) where
   unfolding rfc5424.blank_plain
   blank_plain_cut at c = spaced (some_blanks_from s at) (plain_from s) (some_cut s at c) (plain_cut s u)
 
-  on_field_lem : {R : Type 0} (P : R → Type 0) (x : Field) (r : R) (k : Place → ℕ → R) → P r → FieldCut s x → ((p : Place) (n : ℕ) → PlaceCut s p → Cut s n → P (k p n))
-      → P (on_field x r k)
-  on_field_lem P NoField r k a h b = a
-  on_field_lem P (IsField p n) r k a h b = b p n h.0 h.1
+  on_field_lem : {R : Type 0} (P : R → Type 0) (x : Option (Place × ℕ)) (r : R) (k : Place → ℕ → R) → P r → FieldCut s x → ((p : Place) (n : ℕ) → PlaceCut s p → Cut s n → P (k p n))
+      → P (on_read x r k)
+  on_field_lem P None r k a h b = a
+  on_field_lem P (Some x) r k a h b = b x.0 x.1 h.0 h.1
 
-  abbrev FourCut : Four → Type 0
-  FourCut NoFour = Unit {0}
-  FourCut (IsFour h a p m n) = Places s h a p m n
+  abbrev FourCut : Option (Four × ℕ) → Type 0
+  FourCut None = Unit {0}
+  FourCut (Some x) = Places s x.0.host x.0.app x.0.procid x.0.msgid x.1
 
   four_cut : (at : ℕ) → Cut s at → FourCut (rfc5424.four_from s at)
   unfolding rfc5424.four_from
@@ -122,9 +113,9 @@ module _ (s : List ℕ) (u : is_utf8 s ≡ true) where
       on_field_lem FourCut (rfc5424.blank_plain s d) _ _ tt (blank_plain_cut d c3) λ msgid n h4 c4.
       record { host = h1; app = h2; procid = h3; msgid = h4; to = c4 }
 
-  abbrev StartCut : Start → Type 0
-  StartCut NoStart = Unit {0}
-  StartCut (IsStart v t n) = Cut s n
+  abbrev StartCut : Option (Start × ℕ) → Type 0
+  StartCut None = Unit {0}
+  StartCut (Some x) = Cut s x.1
 
   start_cut : (at : ℕ) → StartCut (rfc5424.start_from s at)
   unfolding rfc5424.start_from
@@ -133,9 +124,9 @@ module _ (s : List ℕ) (u : is_utf8 s ≡ true) where
       on_pos_lem StartCut (some_blanks_from s a) _ _ tt λ b e2.
       go version (rfc3339_from s b) (rfc3339_cut s u b)
     where
-      go : (v : ℕ) (x : Stamping) → StampCut s x → StartCut (rfc5424.start_of v x)
-      go v NoStamp h = tt
-      go v (IsStamp t n) h = h
+      go : (v : ℕ) (x : Option (Option Timestamp × ℕ)) → StampCut s x → StartCut (rfc5424.start_of v x)
+      go v None h = tt
+      go v (Some x) h = h
 
   pub rfc5424_cut : (start : ℕ) → OutcomeCut s (rfc5424.rfc5424 s start)
   unfolding rfc5424.rfc5424 rfc5424.body_from
@@ -157,9 +148,9 @@ module _ (s : List ℕ) (u : is_utf8 s ≡ true) where
 
   -- ---- RFC 3164
 
-  abbrev SplitCut : Place → Split → Type 0
-  SplitCut f Whole = Unit {0}
-  SplitCut f (Parts a p) = Between s f.start a × Between s (f.start + a + 1) p
+  abbrev SplitCut : Place → Option (ℕ × ℕ) → Type 0
+  SplitCut f None = Unit {0}
+  SplitCut f (Some x) = Between s f.start x.0 × Between s (f.start + x.0 + 1) x.1
 
   split_cut : (f : Place) → PlaceCut s f → SplitCut f (split_of s f)
   unfolding split_of split_at
@@ -186,18 +177,18 @@ module _ (s : List ℕ) (u : is_utf8 s ≡ true) where
   none_cut : NamesCut s no_names
   none_cut = record { host = absent_cut; app = absent_cut; procid = absent_cut }
 
-  tagged_cut : (host tag : Place) → PlaceCut s host → PlaceCut s tag → (g : Split) → SplitCut tag g → NamesCut s (with_tag host tag g)
-  tagged_cut host tag h t Whole q = record { host = h; app = t; procid = absent_cut }
-  tagged_cut host tag h t (Parts a p) q = record { host = h; app = q.0; procid = q.1 }
+  tagged_cut : (host tag : Place) → PlaceCut s host → PlaceCut s tag → (g : Option (ℕ × ℕ)) → SplitCut tag g → NamesCut s (with_tag host tag g)
+  tagged_cut host tag h t None q = record { host = h; app = t; procid = absent_cut }
+  tagged_cut host tag h t (Some x) q = record { host = h; app = q.0; procid = q.1 }
 
-  only_cut : (f : Place) → PlaceCut s f → (g : Split) → SplitCut f g → NamesCut s (only_field f g)
-  only_cut f h Whole q = record { host = h; app = absent_cut; procid = absent_cut }
-  only_cut f h (Parts a p) q = record { host = absent_cut; app = q.0; procid = q.1 }
+  only_cut : (f : Place) → PlaceCut s f → (g : Option (ℕ × ℕ)) → SplitCut f g → NamesCut s (only_field f g)
+  only_cut f h None q = record { host = h; app = absent_cut; procid = absent_cut }
+  only_cut f h (Some x) q = record { host = absent_cut; app = q.0; procid = q.1 }
 
-  names_cut : (host : Place) (tag : Field) → PlaceCut s host → FieldCut s tag → NamesCut s (host_and_tag s host tag)
+  names_cut : (host : Place) (tag : Option (Place × ℕ)) → PlaceCut s host → FieldCut s tag → NamesCut s (host_and_tag s host tag)
   unfolding host_and_tag
-  names_cut h (IsField t m) a b = by_if (NamesCut s) t.present _ _ (λ q. tagged_cut h t a b.0 (split_of s t) (split_cut t b.0)) (λ q. none_cut)
-  names_cut h NoField a b = by_if (NamesCut s) h.present _ _ (λ q. only_cut h a (split_of s h) (split_cut h a)) (λ q. none_cut)
+  names_cut h (Some x) a b = by_if (NamesCut s) x.0.present _ _ (λ q. tagged_cut h x.0 a b.0 (split_of s x.0) (split_cut x.0 b.0)) (λ q. none_cut)
+  names_cut h None a b = by_if (NamesCut s) h.present _ _ (λ q. only_cut h a (split_of s h) (split_cut h a)) (λ q. none_cut)
 
   space_cut : (at : ℕ) → PosCut s (byte_from s at 32)
   space_cut at = byte_cut s u at 32 refl
@@ -210,9 +201,9 @@ module _ (s : List ℕ) (u : is_utf8 s ≡ true) where
   unfolding rfc3164.spaced_tag
   spaced_tag_cut at = spaced (byte_from s at 32) (tag_from s) (space_cut at) (tag_cut s u)
 
-  after_cut : (at : ℕ) (f : Field) → Cut s at → FieldCut s f → Cut s (rfc3164.behind_field at f)
-  after_cut at NoField c h = c
-  after_cut at (IsField p n) c h = h.1
+  after_cut : (at : ℕ) (f : Option (Place × ℕ)) → Cut s at → FieldCut s f → Cut s (rfc3164.behind_field at f)
+  after_cut at None c h = c
+  after_cut at (Some x) c h = h.1
 
   tag_end_cut : (at : ℕ) → Cut s at → Cut s (rfc3164.tag_end s at)
   unfolding rfc3164.tag_end
@@ -221,11 +212,11 @@ module _ (s : List ℕ) (u : is_utf8 s ≡ true) where
   header_cut : (at : ℕ) → Cut s at → NamesCut s (rfc3164.header_from s at).names × Cut s (rfc3164.header_from s at).next
   header_cut at c =
       by_header s at (λ r. NamesCut s r.names × Cut s r.next) (λ z. (none_cut, c)) λ host a z.
-      let h : FieldCut s (IsField host a) = rw z at (spaced_host_cut at) in
+      let h : FieldCut s (Some (host, a)) = rw z at (spaced_host_cut at) in
       let tag = rfc3164.spaced_tag s a in
       (names_cut host tag h.0 (spaced_tag_cut a), after_cut a tag h.1 (spaced_tag_cut a))
 
-  body_cut : (pri : Pri) (stamp : Stamp) (at : ℕ) → Cut s at → OutcomeCut s (rfc3164.body_from pri stamp s at)
+  body_cut : (pri : Pri) (stamp : Option Timestamp) (at : ℕ) → Cut s at → OutcomeCut s (rfc3164.body_from pri stamp s at)
   unfolding rfc3164.body_from
   body_cut pri stamp at c =
       let (names, next) = header_cut at c in
@@ -250,6 +241,6 @@ module _ (s : List ℕ) (u : is_utf8 s ≡ true) where
       from : ℕ
       from = blanks_from s (start + pri.next)
 
-      go : (g : Stamping) → StampCut s g → OutcomeCut s (rfc3164.on_stamping g no_reading (λ stamp a. rfc3164.body_from pri stamp s a))
-      go NoStamp h = tt
-      go (IsStamp t a) h = body_cut pri t a h
+      go : (g : Option (Option Timestamp × ℕ)) → StampCut s g → OutcomeCut s (on_read g no_reading (λ stamp a. rfc3164.body_from pri stamp s a))
+      go None h = tt
+      go (Some x) h = body_cut pri x.0 x.1 h

@@ -1,4 +1,5 @@
 -- The steps of the loose reader, its fields and its timestamps: what each answers ends at a cut.
+use Rattle.std.specs.Prelude.{Option, Some, None}
 use Prim.Native.Nat.{ℕ, ◌+◌, ◌-◌}
 use mathlib.Core.Path.{◌≡◌, refl}
 use mathlib.Core.List.{List}
@@ -12,7 +13,6 @@ use Rattle.utf8.specs.Lead.{is_utf8}
 use Rattle.white.specs.Trim.{field_len}
 use Rattle.white.proofs.Walks.{field_le}
 use Rattle.white.proofs.ByCharacters.{field_cuts}
-use Rattle.digits.specs.declared.Number.{Number}
 use Rattle.digits.specs.Digits.{digit_run, decimal, number_at}
 use Rattle.record.specs.declared.Place.{Place}
 use Rattle.calendar.specs.Calendar.{valid}
@@ -22,12 +22,6 @@ use Rattle.parsers.specs.Parsers.{alone, or_absent, plain_at, host_at, tag_len, 
 use Rattle.parsers.specs.Steps.{is_blank, some_blanks_from, byte_from, moved, number_from, placed, plain_from, host_from, tag_from, colon_from}
 use Rattle.parsers.specs.declared.Text.{Text}
 use Rattle.parsers.specs.declared.Text.TheVariants.{Fails, Absent, Given}
-use Rattle.parsers.specs.declared.Num.{Num}
-use Rattle.parsers.specs.declared.Num.TheVariants.{NoNum, IsNum}
-use Rattle.parsers.specs.declared.Pos.{Pos}
-use Rattle.parsers.specs.declared.Pos.TheVariants.{NoPos, IsPos}
-use Rattle.parsers.specs.declared.Field.{Field}
-use Rattle.parsers.specs.declared.Field.TheVariants.{NoField, IsField}
 use Rattle.parsers.proofs.Texts.{tag_le}
 use Rattle.parsers.proofs.ByCharacters.{tag_cuts}
 use Rattle.structured_data.proofs.Params.{at_part}
@@ -35,36 +29,34 @@ use Rattle.timestamp.specs.Clock.{clock_from}
 use Rattle.timestamp.specs.Rfc3339.{either_from, date_from, time_from, nanos_from, zone_from, stamp_if, end_from, full_from, rfc3339_from}
 use Rattle.timestamp.specs.Timestamp.{day_from, without_year, utc_if, with_year, or_else, rfc3164_from}
 use Rattle.timestamp.specs.declared.Clock.{Clock}
-use Rattle.timestamp.specs.declared.Clock.TheVariants.{NoClock, IsClock}
-use Rattle.timestamp.specs.declared.Stamping.{Stamping}
-use Rattle.timestamp.specs.declared.Stamping.TheVariants.{NoStamp, IsStamp}
 use Rattle.timestamp.proofs.Onward.{on_num_lem, on_pos_lem, on_clock_lem, on_date_lem, on_day_lem, on_zone_lem}
 use Rattle.texts.proofs.Cuts.{Cut, is_ascii, Between, walk_on, blanks_on, digits_on, at_start, before, after}
+use Rattle.record.specs.declared.Timestamp.{Timestamp}
 
 -- ---- what an answer leads to
 
-abbrev pub PosCut : List ℕ → Pos → Type 0
-PosCut s NoPos = Unit {0}
-PosCut s (IsPos n) = Cut s n
+abbrev pub PosCut : List ℕ → Option ℕ → Type 0
+PosCut s None = Unit {0}
+PosCut s (Some n) = Cut s n
 
-abbrev NumCut : List ℕ → Num → Type 0
-NumCut s NoNum = Unit {0}
-NumCut s (IsNum v n) = Cut s n
+abbrev NumCut : List ℕ → Option (ℕ × ℕ) → Type 0
+NumCut s None = Unit {0}
+NumCut s (Some x) = Cut s x.1
 
-abbrev ClockCut : List ℕ → Clock → Type 0
-ClockCut s NoClock = Unit {0}
-ClockCut s (IsClock h m x n) = Cut s n
+abbrev ClockCut : List ℕ → Option (Clock × ℕ) → Type 0
+ClockCut s None = Unit {0}
+ClockCut s (Some y) = Cut s y.1
 
-abbrev pub StampCut : List ℕ → Stamping → Type 0
-StampCut s NoStamp = Unit {0}
-StampCut s (IsStamp t n) = Cut s n
+abbrev pub StampCut : List ℕ → Option (Option Timestamp × ℕ) → Type 0
+StampCut s None = Unit {0}
+StampCut s (Some x) = Cut s x.1
 
 abbrev pub PlaceCut : List ℕ → Place → Type 0
 PlaceCut s p = Between s p.start p.len
 
-abbrev pub FieldCut : List ℕ → Field → Type 0
-FieldCut s NoField = Unit {0}
-FieldCut s (IsField p n) = PlaceCut s p × Cut s n
+abbrev pub FieldCut : List ℕ → Option (Place × ℕ) → Type 0
+FieldCut s None = Unit {0}
+FieldCut s (Some x) = PlaceCut s x.0 × Cut s x.1
 
 abbrev TextCut : List ℕ → ℕ → Text → Type 0
 TextCut s at Fails = Unit {0}
@@ -81,7 +73,7 @@ module _ (s : List ℕ) (at : ℕ) (c : Cut s at) where
   number_cut : NumCut s (number_from s at)
   unfolding number_from number_at
   number_cut =
-      by_if (λ (r : Number). NumCut s (moved at r)) (leb 1 (digit_run (drop at s)) && leb (decimal (take (digit_run (drop at s)) (drop at s))) 4294967295) _ _
+      by_if (λ (r : Option (ℕ × ℕ)). NumCut s (moved at r)) (leb 1 (digit_run (drop at s)) && leb (decimal (take (digit_run (drop at s)) (drop at s))) 4294967295) _ _
       (λ h. digits_on s at c) (λ h. tt)
 
   field_on : Cut s (at + field_len (drop at s))
@@ -188,9 +180,9 @@ module _ (s : List ℕ) (u : is_utf8 s ≡ true) where
       on_clock_lem (StampCut s) (clock_from s c) _ _ tt λ hour minute second d e4.
       utc_cut _ o _ (colon_cut d (rw e4 at (clock_cut c)))
 
-  or_cut : (x y : Stamping) → StampCut s x → StampCut s y → StampCut s (or_else x y)
-  or_cut NoStamp y a b = b
-  or_cut (IsStamp t n) y a b = a
+  or_cut : (x y : Option (Option Timestamp × ℕ)) → StampCut s x → StampCut s y → StampCut s (or_else x y)
+  or_cut None y a b = b
+  or_cut (Some x) y a b = a
 
   pub rfc3164_cut : (year : ℕ) (o : ℤ) (at : ℕ) → StampCut s (rfc3164_from year o s at)
   unfolding rfc3164_from

@@ -1,5 +1,5 @@
 -- Whole characters, as specs/Texts.antt says it: what the loose reader leaves, and what lookup gives and printing writes of it.
-use Rattle.std.specs.Prelude.{if◌then◌else◌}
+use Rattle.std.specs.Prelude.{if◌then◌else◌, Result, Ok, Err}
 use Prim.Native.Nat.{ℕ}
 use mathlib.Core.Path.{◌≡◌, refl}
 use mathlib.Core.List.{List, [], ◌∷◌}
@@ -17,8 +17,6 @@ use Rattle.record.specs.Limits.{line_limit}
 use Rattle.record.specs.declared.Record.{Record}
 use Rattle.record.specs.declared.Reading.TheVariants.{Read, Whole}
 use Rattle.record.specs.declared.Refusal.{Refusal}
-use Rattle.record.specs.declared.Written.{Written}
-use Rattle.record.specs.declared.Written.TheVariants.{Done, Refused}
 use Rattle.grammar.specs.Line.{Each}
 use Rattle.structured_data.specs.Data.{Rows}
 use Rattle.draft.specs.Outcome.{Outcome}
@@ -54,13 +52,13 @@ judged_texts : (line : List ℕ) (r : Record) (e p : ℕ) (e₀ p₀ e₁ p₁ :
 judged_texts line r e p e₀ p₀ e₁ p₁ o at rows q n m t a b = rw (a, b, q, n, m) (texts_filled line r rows e₀ p₀ (rw q at t))
 
 reading_texts : {r : Record} {e p : ℕ} (line : List ℕ) (e₀ p₀ e₁ p₁ : List (List ℕ)) (variant year : ℕ) (offset : ℤ)
-    → Reads line variant year offset e₀ p₀ (Read r e p) e₁ p₁ → Texts line r e p e₁ p₁
+    → Reads line variant year offset e₀ p₀ (Ok (Read r e p)) e₁ p₁ → Texts line r e p e₁ p₁
 reading_texts line e₀ p₀ e₁ p₁ variant year offset h =
     let u = reading_utf8 line e₀ p₀ e₁ p₁ variant year offset h in
     let j = reading_judged line e₀ p₀ e₁ p₁ variant year offset h in
     judged_texts line _ _ _ e₀ p₀ e₁ p₁ _ j.at j.rows j.outcome j.elements_many j.params_many (outcome_texts line u variant year offset) h.elements h.params
 
-line_texts : {r : Record} (line : List ℕ) {e₀ p₀ e₁ p₁ : List (List ℕ)} {variant year : ℕ} {offset : ℤ} → Reads line variant year offset e₀ p₀ (Whole r) e₁ p₁
+line_texts : {r : Record} (line : List ℕ) {e₀ p₀ e₁ p₁ : List (List ℕ)} {variant year : ℕ} {offset : ℤ} → Reads line variant year offset e₀ p₀ (Ok (Whole r)) e₁ p₁
     → Texts line r 0 0 e₁ p₁
 line_texts line h = let w = whole_is h in record { of_record = rw w.is.alone (whole_texts line w.text); of_elements = tt; of_params = tt }
 
@@ -83,14 +81,14 @@ value_utf8 loose Found.nothing h = record { characters = []; each = tt; text = r
 value_utf8 loose (Found.value v) h = utf8_sound _ (unescaped_utf8 loose v (utf8_complete v h))
 
 module _ {n : ℕ} where
-  never : {A : Type 0} (f : Refusal) → Done n ≡ Refused f → A
+  never : {A : Type 0} (f : Refusal) → Ok n ≡ Err f → A
   never f h = let z : true ≡ false = cc in clash z
 
-  past : (b : Bool) (f : Refusal) (x : Written) → Done n ≡ (if b then Refused f else x) → Done n ≡ x
+  past : (b : Bool) (f : Refusal) (x : Result ℕ Refusal) → Ok n ≡ (if b then Err f else x) → Ok n ≡ x
   past true f x h = never f h
   past false f x h = h
 
-  value_length : (loose : Bool) (f : Found) (out : ℕ) → Done n ≡ value_answer loose f out → n ≡ length (value_text loose f)
+  value_length : (loose : Bool) (f : Found) (out : ℕ) → Ok n ≡ value_answer loose f out → n ≡ length (value_text loose f)
   value_length loose Found.nothing out h = never _ h
   value_length loose (Found.value v) out h = let q = past (ltb out (length (unescaped loose v))) _ _ h in cc
 
@@ -99,7 +97,7 @@ front_utf8 : (text old after : List ℕ) (n : ℕ) → after ≡ filled text old
 front_utf8 text old after n e l u = rw (e, l, take-append_seam text (drop (length text) old)) u
 
 lookup_utf8 : {line : List ℕ} {r : Record} {e p : ℕ} {elements params : List (List ℕ)} {id name : List ℕ} {kind n : ℕ} {before after : List ℕ}
-    → Texts line r e p elements params → Looks line r e p elements params id name kind before (Done n) after → Utf8 (take n after)
+    → Texts line r e p elements params → Looks line r e p elements params id name kind before (Ok n) after → Utf8 (take n after)
 lookup_utf8 {line} {r} {e} {p} {elements} {params} {id} {name} {kind} {n} {before} {after} t h =
     let f = found line elements id name (take p params) in
     let short = past (ltb line_limit (length line)) _ _ h.answer in
@@ -111,7 +109,7 @@ lookup_utf8 {line} {r} {e} {p} {elements} {params} {id} {name} {kind} {n} {befor
 -- ---- printing
 
 print_utf8 : {line : List ℕ} {r : Record} {e p : ℕ} {elements params : List (List ℕ)} {n : ℕ} {before after : List ℕ}
-    → Texts line r e p elements params → Prints line r e p elements params before (Done n) after → Utf8 (take n after)
+    → Texts line r e p elements params → Prints line r e p elements params before (Ok n) after → Utf8 (take n after)
 print_utf8 {line} {r} {e} {p} {elements} {params} {n} {before} {after} t h =
     let text = printed line r (take e elements) (take p params) in
     let short = past (ltb line_limit (length line)) _ _ h.answer in

@@ -1,11 +1,10 @@
 -- No character is ever cut: the loose reader takes lines of UTF-8 alone, and each text that it leaves is UTF-8 again, as are the value that lookup
 -- gives of it and the text that printing writes.
-use Rattle.std.specs.Prelude.{ℕ, List, get_or, take, ℤ}
+use Rattle.std.specs.Prelude.{ℕ, List, get_or, take, ℤ, Ok}
 use Rattle.base.specs.Texts.{text_at}
 use Rattle.utf8.specs.Rfc3629.{Utf8}
 use Rattle.record.specs.declared.Record.{Record}
 use Rattle.record.specs.declared.Reading.TheVariants.{Read, Whole}
-use Rattle.record.specs.declared.Written.TheVariants.{Done}
 use Rattle.grammar.specs.Line.{Each}
 use Rattle.loose.specs.Loose.{Reads}
 use Rattle.lookup.specs.Lookup.{Looks}
@@ -37,12 +36,12 @@ pub record Texts (line : List ℕ) (r : Record) (e p : ℕ) (elements params : L
 pub record WholeCharacters : Type 0 where
   -- Every text that the loose reader leaves is UTF-8.
   pub loose : {line : List ℕ} {variant year : ℕ} {offset : ℤ} {e₀ p₀ e₁ p₁ : List (List ℕ)} {r : Record} {e p : ℕ}
-      → Reads line variant year offset e₀ p₀ (Read r e p) e₁ p₁ → Texts line r e p e₁ p₁
+      → Reads line variant year offset e₀ p₀ (Ok (Read r e p)) e₁ p₁ → Texts line r e p e₁ p₁
   pub whole : {line : List ℕ} {variant year : ℕ} {offset : ℤ} {e₀ p₀ e₁ p₁ : List (List ℕ)} {r : Record}
-      → Reads line variant year offset e₀ p₀ (Whole r) e₁ p₁ → Texts line r 0 0 e₁ p₁
+      → Reads line variant year offset e₀ p₀ (Ok (Whole r)) e₁ p₁ → Texts line r 0 0 e₁ p₁
   -- Where they are, so is the value that lookup gives, by either unescaping: the first n bytes of the output;
   pub lookup : {line : List ℕ} {r : Record} {e p : ℕ} {elements params : List (List ℕ)} {id name : List ℕ} {kind n : ℕ} {before after : List ℕ}
-      → Texts line r e p elements params → Looks line r e p elements params id name kind before (Done n) after → Utf8 (take n after)
+      → Texts line r e p elements params → Looks line r e p elements params id name kind before (Ok n) after → Utf8 (take n after)
   -- and so is the text that printing writes.
   pub print : {line : List ℕ} {r : Record} {e p : ℕ} {elements params : List (List ℕ)} {n : ℕ} {before after : List ℕ}
-      → Texts line r e p elements params → Prints line r e p elements params before (Done n) after → Utf8 (take n after)
+      → Texts line r e p elements params → Prints line r e p elements params before (Ok n) after → Utf8 (take n after)

@@ -1,5 +1,6 @@
 -- What an answered timestamp is: below a second, with digits that show it, at an offset within bounds, in a year of 0 to 9999, and the position behind it
 -- in the line.
+use Rattle.std.specs.Prelude.{Option, Some, None}
 use Prim.Native.Nat.{ℕ, ◌+◌, ◌-◌, ◌%◌, ◌^◌, ◌≤◌}
 use mathlib.Core.Path.{◌≡◌, refl, ap}
 use mathlib.Core.List.{List}
@@ -13,16 +14,12 @@ use Rattle.calendar.specs.Calendar.{offset_limit, valid}
 use Rattle.calendar.specs.Instant.{seconds_of, shown, is_shown}
 use Rattle.calendar.specs.declared.DateTime.{DateTime}
 use Rattle.calendar.proofs.ThereAndBack.{back}
-use Rattle.record.specs.declared.Stamp.{Stamp}
-use Rattle.record.specs.declared.Stamp.TheVariants.{Unstamped, Stamped}
 use Rattle.record.specs.declared.Timestamp.{Timestamp}
 use Rattle.parsers.specs.Steps.{some_blanks_from, number_from}
 use Rattle.parsers.proofs.Steps.{at_there, colon_within}
 use Rattle.timestamp.specs.Clock.{clock_from}
 use Rattle.timestamp.specs.Rfc3339.{either_from, date_from, time_from, nanos_from, zone_from, stamp_if, end_from, full_from, rfc3339_from}
 use Rattle.timestamp.specs.Timestamp.{day_from, without_year, utc_if, with_year, or_else, rfc3164_from}
-use Rattle.timestamp.specs.declared.Stamping.{Stamping}
-use Rattle.timestamp.specs.declared.Stamping.TheVariants.{NoStamp, IsStamp}
 use Rattle.timestamp.proofs.Onward.{on_num_lem, on_pos_lem, on_clock_lem, on_date_lem, on_day_lem, on_zone_lem}
 use Rattle.timestamp.proofs.Zones.{zone_in}
 use Rattle.timestamp.proofs.Within.{nanos_in, clock_within, time_within}
@@ -35,13 +32,13 @@ pub record InRange (most : ℕ) (t : Timestamp) : Type 0 where
   pub offset_to : nat_abs t.offset ≤ most
   pub year_in : is_shown (shown t.seconds t.offset) ≡ true
 
-abbrev pub StampIn : ℕ → Stamp → Type 0
-StampIn most Unstamped = Unit {0}
-StampIn most (Stamped t) = InRange most t
+abbrev pub StampIn : ℕ → Option Timestamp → Type 0
+StampIn most None = Unit {0}
+StampIn most (Some t) = InRange most t
 
-abbrev pub StampingIn : ℕ → ℕ → Stamping → Type 0
-StampingIn most n NoStamp = Unit {0}
-StampingIn most n (IsStamp t m) = StampIn most t × (m ≤ n)
+abbrev pub StampingIn : ℕ → ℕ → Option (Option Timestamp × ℕ) → Type 0
+StampingIn most n None = Unit {0}
+StampingIn most n (Some x) = StampIn most x.0 × (x.1 ≤ n)
 
 module _ (most : ℕ) where
   stamp_in_lem : (n : ℕ) (t : DateTime) (nanos digits : ℕ) (o : ℤ) (next : ℕ) → nanos ≤ 999999999 → digits ≤ 9 → nanos % 10 ^ (9 - digits) ≡ 0 → nat_abs o ≤ most → next ≤ n
@@ -101,9 +98,9 @@ module _ (most : ℕ) where
             on_clock_lem (StampingIn most (length s)) (clock_from s c) _ _ tt λ hour minute second d e4.
             utc_in (length s) _ o _ most-o (colon_within s d (clock_within s c _ hour minute second d e4 refl))
 
-        or_in : (x y : Stamping) → StampingIn most (length s) x → StampingIn most (length s) y → StampingIn most (length s) (or_else x y)
-        or_in NoStamp y a b = b
-        or_in (IsStamp t n) y a b = a
+        or_in : (x y : Option (Option Timestamp × ℕ)) → StampingIn most (length s) x → StampingIn most (length s) y → StampingIn most (length s) (or_else x y)
+        or_in None y a b = b
+        or_in (Some x) y a b = a
 
         pub rfc3164_in : (year at : ℕ) → StampingIn most (length s) (rfc3164_from year o s at)
         unfolding rfc3164_from
@@ -112,7 +109,7 @@ module _ (most : ℕ) where
             (or_in (with_year o s at) (rfc3339_from s at) (with_in at) (rfc3339_in at))
 
 -- as a caller needs it
-module _ (s : List ℕ) (at : ℕ) (g : Stamping) (t : Stamp) (n : ℕ) (z : g ≡ IsStamp t n) where
+module _ (s : List ℕ) (at : ℕ) (g : Option (Option Timestamp × ℕ)) (t : Option Timestamp) (n : ℕ) (z : g ≡ Some (t, n)) where
   module _ (e : g ≡ rfc3339_from s at) where
     pub rfc3339_within : n ≤ length s
     rfc3339_within = (rw (← e, z) at (rfc3339_in offset_limit s (omega arith) at)).1

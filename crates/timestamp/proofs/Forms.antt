@@ -1,95 +1,88 @@
 -- RFC 3164's forms (a) and (b), and the three in turn.
+use Rattle.std.specs.Prelude.{Option, Some, None, MatchOption}
 use Prim.Native.Nat.{ℕ}
-use mathlib.Core.Path.{◌≡◌, ◌∙◌}
+use mathlib.Core.Path.{◌≡◌, refl, ap, ◌∙◌}
 use mathlib.Core.List.{List}
 use lib.IntN.{ℤ}
 use mir.Syntax.{w32}
 use mir.Val.{SFits, to_z, of_z}
 use mir.ValLaws.{to_z-of_z}
-use Rattle.record.specs.declared.Stamp.{Stamp}
 use Rattle.parsers.specs.Steps.{some_blanks_from, colon_from, number_from}
-use Rattle.parsers.specs.declared.Num.{Num}
-use Rattle.parsers.specs.declared.Num.TheVariants.{NoNum, IsNum}
-use Rattle.parsers.specs.declared.Pos.{Pos}
-use Rattle.parsers.specs.declared.Pos.TheVariants.{NoPos, IsPos}
 use Rattle.timestamp.specs.Month.{month_from}
 use Rattle.timestamp.specs.Clock.{clock_from}
 use Rattle.timestamp.specs.Rfc3339.{stamp_if, rfc3339_from}
-use Rattle.timestamp.specs.Timestamp.{day_from, without_year, utc_if, with_year, rfc3164_from}
+use Rattle.timestamp.specs.Timestamp.{day_from, without_year, utc_if, with_year, or_else, rfc3164_from}
 use Rattle.timestamp.specs.declared.Clock.{Clock}
-use Rattle.timestamp.specs.declared.Clock.TheVariants.{NoClock, IsClock}
 use Rattle.timestamp.specs.declared.Day.{Day}
-use Rattle.timestamp.specs.declared.Day.TheVariants.{NoDay, IsDay}
-use Rattle.timestamp.specs.declared.Stamping.{Stamping}
-use Rattle.timestamp.specs.declared.Stamping.TheVariants.{NoStamp, IsStamp}
+use Rattle.record.specs.declared.Timestamp.{Timestamp}
 
 -- month name, blanks, day, blanks
-module _ (s : List ℕ) (at : ℕ) (g1 : Num) (e1 : g1 ≡ month_from s at) where
-  pub day_month : g1 ≡ NoNum → NoDay ≡ day_from s at
+module _ (s : List ℕ) (at : ℕ) (g1 : Option (ℕ × ℕ)) (e1 : g1 ≡ month_from s at) where
+  pub day_month : g1 ≡ None → None ≡ day_from s at
   unfolding day_from
   day_month z = rw (← e1, z)
 
-  module _ (month a : ℕ) (z1 : g1 ≡ IsNum month a) (g2 : Pos) (e2 : g2 ≡ some_blanks_from s a) where
-    pub day_blanks : g2 ≡ NoPos → NoDay ≡ day_from s at
+  module _ (month a : ℕ) (z1 : g1 ≡ Some (month, a)) (g2 : Option ℕ) (e2 : g2 ≡ some_blanks_from s a) where
+    pub day_blanks : g2 ≡ None → None ≡ day_from s at
     unfolding day_from
     day_blanks z = rw (← e1, z1, ← e2, z)
 
-    module _ (b : ℕ) (z2 : g2 ≡ IsPos b) (g3 : Num) (e3 : g3 ≡ number_from s b) where
-      pub day_number_lem : g3 ≡ NoNum → NoDay ≡ day_from s at
+    module _ (b : ℕ) (z2 : g2 ≡ Some b) (g3 : Option (ℕ × ℕ)) (e3 : g3 ≡ number_from s b) where
+      pub day_number_lem : g3 ≡ None → None ≡ day_from s at
       unfolding day_from
       day_number_lem z = rw (← e1, z1, ← e2, z2, ← e3, z)
 
-      module _ (day c : ℕ) (z3 : g3 ≡ IsNum day c) (g4 : Pos) (e4 : g4 ≡ some_blanks_from s c) where
-        pub day_end : g4 ≡ NoPos → NoDay ≡ day_from s at
+      module _ (day c : ℕ) (z3 : g3 ≡ Some (day, c)) (g4 : Option ℕ) (e4 : g4 ≡ some_blanks_from s c) where
+        pub day_end : g4 ≡ None → None ≡ day_from s at
         unfolding day_from
         day_end z = rw (← e1, z1, ← e2, z2, ← e3, z3, ← e4, z)
 
-        pub day_is : (d : ℕ) → g4 ≡ IsPos d → IsDay month day d ≡ day_from s at
+        pub day_is : (d : ℕ) → g4 ≡ Some d → Some (record { month = month; day = day }, d) ≡ day_from s at
         unfolding day_from
         day_is d z = rw (← e1, z1, ← e2, z2, ← e3, z3, ← e4, z)
 
 pub ruleset day_laws = (day_month, day_blanks, day_number_lem, day_end, day_is)
 
 -- (a) and (b)
-module _ (o : ℤ) (f : SFits w32 o) (s : List ℕ) (at : ℕ) (g1 : Day) (e1 : g1 ≡ day_from s at) where
-  pub without_day : (year : ℕ) → g1 ≡ NoDay → NoStamp ≡ without_year year o s at
+module _ (o : ℤ) (f : SFits w32 o) (s : List ℕ) (at : ℕ) (g1 : Option (Day × ℕ)) (e1 : g1 ≡ day_from s at) where
+  pub without_day : (year : ℕ) → g1 ≡ None → None ≡ without_year year o s at
   unfolding without_year
   without_day year z = rw (← e1, z)
 
-  pub with_day : g1 ≡ NoDay → NoStamp ≡ with_year o s at
+  pub with_day : g1 ≡ None → None ≡ with_year o s at
   unfolding with_year
   with_day z = rw (← e1, z)
 
-  module _ (month day a : ℕ) (z1 : g1 ≡ IsDay month day a) where
-    module _ (year : ℕ) (g2 : Clock) (e2 : g2 ≡ clock_from s a) where
-      pub without_clock : g2 ≡ NoClock → NoStamp ≡ without_year year o s at
+  module _ (month day a : ℕ) (z1 : g1 ≡ Some (record { month = month; day = day }, a)) where
+    module _ (year : ℕ) (g2 : Option (Clock × ℕ)) (e2 : g2 ≡ clock_from s a) where
+      pub without_clock : g2 ≡ None → None ≡ without_year year o s at
       unfolding without_year
       without_clock z = rw (← e1, z1, ← e2, z)
 
-      module _ (hour minute second b : ℕ) (z2 : g2 ≡ IsClock hour minute second b) (n : ℕ) (en : n ≡ colon_from s b) where
-        pub without_is : (r : Stamping)
+      module _ (hour minute second b : ℕ) (z2 : g2 ≡ Some (record { hour = hour; minute = minute; second = second }, b)) (n : ℕ) (en : n ≡ colon_from s b) where
+        pub without_is : (r : Option (Option Timestamp × ℕ))
             → r ≡ stamp_if (record { year = year; month = month; day = day; hour = hour; minute = minute; second = second }) 0 0 (to_z w32 (of_z w32 o)) n
             → r ≡ without_year year o s at
         unfolding without_year
         without_is r q = q ∙ rw (to_z-of_z w32 o f, en, ← e1, z1, ← e2, z2)
 
-    module _ (g2 : Num) (e2 : g2 ≡ number_from s a) where
-      pub with_number : g2 ≡ NoNum → NoStamp ≡ with_year o s at
+    module _ (g2 : Option (ℕ × ℕ)) (e2 : g2 ≡ number_from s a) where
+      pub with_number : g2 ≡ None → None ≡ with_year o s at
       unfolding with_year
       with_number z = rw (← e1, z1, ← e2, z)
 
-      module _ (year b : ℕ) (z2 : g2 ≡ IsNum year b) (g3 : Pos) (e3 : g3 ≡ some_blanks_from s b) where
-        pub with_blanks : g3 ≡ NoPos → NoStamp ≡ with_year o s at
+      module _ (year b : ℕ) (z2 : g2 ≡ Some (year, b)) (g3 : Option ℕ) (e3 : g3 ≡ some_blanks_from s b) where
+        pub with_blanks : g3 ≡ None → None ≡ with_year o s at
         unfolding with_year
         with_blanks z = rw (← e1, z1, ← e2, z2, ← e3, z)
 
-        module _ (c : ℕ) (z3 : g3 ≡ IsPos c) (g4 : Clock) (e4 : g4 ≡ clock_from s c) where
-          pub with_clock : g4 ≡ NoClock → NoStamp ≡ with_year o s at
+        module _ (c : ℕ) (z3 : g3 ≡ Some c) (g4 : Option (Clock × ℕ)) (e4 : g4 ≡ clock_from s c) where
+          pub with_clock : g4 ≡ None → None ≡ with_year o s at
           unfolding with_year
           with_clock z = rw (← e1, z1, ← e2, z2, ← e3, z3, ← e4, z)
 
-          module _ (hour minute second d : ℕ) (z4 : g4 ≡ IsClock hour minute second d) (n : ℕ) (en : n ≡ colon_from s d) where
-            pub with_is : (r : Stamping)
+          module _ (hour minute second d : ℕ) (z4 : g4 ≡ Some (record { hour = hour; minute = minute; second = second }, d)) (n : ℕ) (en : n ≡ colon_from s d) where
+            pub with_is : (r : Option (Option Timestamp × ℕ))
                 → r ≡ utc_if (record { year = year; month = month; day = day; hour = hour; minute = minute; second = second }) (to_z w32 (of_z w32 o)) n
                 → r ≡ with_year o s at
             unfolding with_year
@@ -100,18 +93,20 @@ pub ruleset without_laws = (without_day, without_clock, without_is)
 pub ruleset with_laws = (with_day, with_number, with_blanks, with_clock, with_is)
 
 -- the first that is a reading
-module _ (year : ℕ) (o : ℤ) (f : SFits w32 o) (s : List ℕ) (at : ℕ) (x : Stamping) (ex : x ≡ without_year year (to_z w32 (of_z w32 o)) s at) where
-  pub first_form : (t : Stamp) (n : ℕ) → x ≡ IsStamp t n → x ≡ rfc3164_from year o s at
+or_else_is : (x y r : Option (Option Timestamp × ℕ)) → MatchOption x (r ≡ y) (λ v. r ≡ Some v) → r ≡ or_else x y
+or_else_is None y r h = h
+or_else_is (Some v) y r h = h
+
+or_else_again : (x y z : Option (Option Timestamp × ℕ)) → or_else (or_else x y) z ≡ or_else x (or_else y z)
+or_else_again None y z = refl
+or_else_again (Some v) y z = refl
+
+module _ (year : ℕ) (o : ℤ) (f : SFits w32 o) (s : List ℕ) (at : ℕ) (x : Option (Option Timestamp × ℕ)) (ex : x ≡ without_year year (to_z w32 (of_z w32 o)) s at) where
+  pub forms : (r : Option (Option Timestamp × ℕ)) → MatchOption x (r ≡ with_year (to_z w32 (of_z w32 o)) s at) (λ v. r ≡ Some v)
+      → (q : Option (Option Timestamp × ℕ)) → MatchOption r (q ≡ rfc3339_from s at) (λ v. q ≡ Some v)
+      → q ≡ rfc3164_from year o s at
   unfolding rfc3164_from
-  first_form t n z = z ∙ rw (← to_z-of_z w32 o f, ← ex, z)
-
-  module _ (zx : x ≡ NoStamp) (y : Stamping) (ey : y ≡ with_year (to_z w32 (of_z w32 o)) s at) where
-    pub second_form : (t : Stamp) (n : ℕ) → y ≡ IsStamp t n → y ≡ rfc3164_from year o s at
-    unfolding rfc3164_from
-    second_form t n z = z ∙ rw (← to_z-of_z w32 o f, ← ex, zx, ← ey, z)
-
-    pub third_form : y ≡ NoStamp → (r : Stamping) → r ≡ rfc3339_from s at → r ≡ rfc3164_from year o s at
-    unfolding rfc3164_from
-    third_form z r q = q ∙ rw (← to_z-of_z w32 o f, ← ex, zx, ← ey, z)
-
-pub ruleset form_laws = (first_form, second_form, third_form)
+  forms r hr q hq =
+      let e = or_else_is r (rfc3339_from s at) q hq in
+      let d = or_else_is x (with_year (to_z w32 (of_z w32 o)) s at) r hr in
+      e ∙ ap (λ (z : Option (Option Timestamp × ℕ)). or_else z (rfc3339_from s at)) d ∙ rw (ex, to_z-of_z w32 o f) (or_else_again (without_year year o s at) (with_year o s at) (rfc3339_from s at))

@@ -1,5 +1,5 @@
 -- A month's name, looked up as one number.
-use Rattle.std.specs.Prelude.{if◌then◌else◌}
+use Rattle.std.specs.Prelude.{if◌then◌else◌, Option, Some, None}
 use Prim.Native.Nat.{ℕ, ◌+◌, ◌*◌, ◌-◌, ◌≤◌, ◌<◌}
 use mathlib.Core.Path.{◌≡◌, refl, sym, ◌∙◌}
 use mathlib.Core.List.{List, [], ◌∷◌, map}
@@ -13,10 +13,9 @@ use mir.Syntax.{w8}
 use mir.Val.{Fits}
 use Rattle.base.specs.Texts.{same_text}
 use Rattle.base.specs.Choose.{within}
+use Rattle.base.proofs.Pairs.{some_second}
 use Rattle.base.proofs.Tests.{clash, both, by_if}
 use Rattle.base.proofs.Parts.{step}
-use Rattle.parsers.specs.declared.Num.{Num}
-use Rattle.parsers.specs.declared.Num.TheVariants.{NoNum, IsNum}
 use Rattle.timestamp.specs.Month.{lower, month_names, named_from, month_of, month_from}
 
 -- A letter in lower case
@@ -161,7 +160,7 @@ three s at h =
     rw (step s at (omega arith), step s (at + 1) (omega arith), n, step s (at + 2) (omega arith))
 
 module _ (s : List ℕ) (at : ℕ) where
-  pub month_short : length s - at < 3 → NoNum ≡ month_from s at
+  pub month_short : length s - at < 3 → None ≡ month_from s at
   unfolding month_from month_of all_names is_name
   month_short h = rw (short_none 1 month_names (map lower (take 3 (drop at s))) refl few)
     where
@@ -169,24 +168,30 @@ module _ (s : List ℕ) (at : ℕ) where
       few = simp (length-map, length-take, length-drop) (omega arith)
 
   module _ (h : 3 ≤ length s - at) (m : ℕ) (e : m ≡ month_of (get_or s at 0 ∷ get_or s (at + 1) 0 ∷ get_or s (at + 2) 0 ∷ [])) where
-    pub month_no : m ≡ 0 → NoNum ≡ month_from s at
+    pub month_no : m ≡ 0 → None ≡ month_from s at
     unfolding month_from
     month_no z = rw (three s at (omega arith), ← e, z)
 
-    pub month_yes : (m ≡ 0 → ⊥) → IsNum m (at + 3) ≡ month_from s at
+    pub month_yes : (m ≡ 0 → ⊥) → Some (m, at + 3) ≡ month_from s at
     unfolding month_from
     month_yes z = rw (three s at (omega arith), ← e, ne_eqb m 0 z)
 
-  pub month_within : (g : Num) → g ≡ month_from s at → (v n : ℕ) → g ≡ IsNum v n → n ≤ length s
+  abbrev Ends : ℕ → ℕ → Option (ℕ × ℕ) → Type 0
+  Ends v n x = x ≡ Some (v, n) → n ≤ length s
+
+  pub month_within : (g : Option (ℕ × ℕ)) → g ≡ month_from s at → (v n : ℕ) → g ≡ Some (v, n) → n ≤ length s
   unfolding month_from
   month_within g e v n z = go (dec_lt (length s - at) 3)
     where
-      never : NoNum ≡ IsNum v n → n ≤ length s
+      never : Ends v n None
       never q = let m : ◌≡◌ {A = ℕ} 0 1 = cc in absurd (omega arith)
+
+      found : (m : ℕ) → at + 3 ≤ length s → Ends v n (Some (m, at + 3))
+      found m l q = let e : at + 3 ≡ n = some_second q in omega arith
 
       go : Dec (length s - at < 3) → n ≤ length s
       go (yes h) = never (month_short h ∙ sym e ∙ z)
-      go (no h) = by_if (λ g. g ≡ IsNum v n → n ≤ length s) (eqb (month_of (take 3 (drop at s))) 0) _ _ (λ t. never) (λ t q. let m : at + 3 ≡ n = cc in omega arith) (sym e ∙ z)
+      go (no h) = by_if (Ends v n) (eqb (month_of (take 3 (drop at s))) 0) _ _ (λ t. never) (λ t. found _ (omega arith)) (sym e ∙ z)
 
 pub ruleset month_laws = (month_arm, month_none)
 

@@ -1,4 +1,5 @@
 -- Date, letter and clock of form (c) are 19 bytes, and what stands after them is the fraction that the timestamp has.
+use Rattle.std.specs.Prelude.{Option, Some, None}
 use Prim.Native.Nat.{ℕ, ◌+◌, ◌-◌, ◌≤◌, ◌<◌}
 use mathlib.Core.Path.{◌≡◌, refl, sym}
 use mathlib.Core.List.{List}
@@ -6,57 +7,49 @@ use mathlib.Core.Bool.{◌||◌}
 use native.Mathlib.Omega.{arith}
 use lib.ListN.{length, drop}
 use Rattle.base.specs.Choose.{is_at}
+use Rattle.base.proofs.Pairs.{some_second}
 use Rattle.base.proofs.Tests.{by_if}
 use Rattle.digits.specs.Digits.{fixed_at}
-use Rattle.digits.specs.declared.Number.{Number}
-use Rattle.digits.specs.declared.Number.TheVariants.{Nothing, Value}
 use Rattle.digits.proofs.Fixed.{fixed_len}
 use Rattle.calendar.specs.Calendar.{valid}
 use Rattle.calendar.specs.declared.DateTime.{DateTime}
-use Rattle.record.specs.declared.Stamp.TheVariants.{Unstamped, Stamped}
 use Rattle.record.specs.declared.Timestamp.{Timestamp}
 use Rattle.parsers.specs.Steps.{moved, byte_from}
-use Rattle.parsers.specs.declared.Num.TheVariants.{IsNum}
-use Rattle.parsers.specs.declared.Pos.TheVariants.{IsPos}
 use Rattle.timestamp.specs.Rfc3339.{fixed_from, either_from, date_from, time_from, nanos_from, zone_from, end_from, full_from, rfc3339_from}
 use Rattle.timestamp.specs.declared.Clock.{Clock}
-use Rattle.timestamp.specs.declared.Clock.TheVariants.{NoClock, IsClock}
 use Rattle.timestamp.specs.declared.Date.{Date}
-use Rattle.timestamp.specs.declared.Date.TheVariants.{NoDate, IsDate}
-use Rattle.timestamp.specs.declared.Stamping.{Stamping}
-use Rattle.timestamp.specs.declared.Stamping.TheVariants.{NoStamp, IsStamp}
 use Rattle.timestamp.proofs.Onward.{on_num_lem, on_pos_lem, on_clock_lem, on_date_lem, on_zone_lem}
 use Rattle.timestamp.proofs.Triples.{times, dates, triple_by}
 use Rattle.timestamp.proofs.Within.{time_within}
 
 -- ---- how far each step goes
 
-fixed_next : (k : ℕ) (s : List ℕ) (at v n : ℕ) → fixed_from k s at ≡ IsNum v n → n ≡ at + k
+fixed_next : (k : ℕ) (s : List ℕ) (at v n : ℕ) → fixed_from k s at ≡ Some (v, n) → n ≡ at + k
 unfolding fixed_from
 fixed_next k s at v n e = go (fixed_at k (drop at s)) refl e
   where
-    go : (r : Number) → fixed_at k (drop at s) ≡ r → moved at r ≡ IsNum v n → n ≡ at + k
-    go Nothing q z = let m : ◌≡◌ {A = ℕ} 0 1 = cc in absurd (omega arith)
-    go (Value w m) q z = let p : at + m ≡ n = cc in omega (arith, (fixed_len k (drop at s) w m q).0)
+    go : (r : Option (ℕ × ℕ)) → fixed_at k (drop at s) ≡ r → moved at r ≡ Some (v, n) → n ≡ at + k
+    go None q z = let m : ◌≡◌ {A = ℕ} 0 1 = cc in absurd (omega arith)
+    go (Some x) q z = let p : at + x.1 ≡ n = some_second z in omega (arith, (fixed_len k (drop at s) x.0 x.1 q).0)
 
 module _ (s : List ℕ) (at n : ℕ) where
-  byte_next_lem : (b : ℕ) → byte_from s at b ≡ IsPos n → n ≡ at + 1
+  byte_next_lem : (b : ℕ) → byte_from s at b ≡ Some n → n ≡ at + 1
   unfolding byte_from
   byte_next_lem b =
-      by_if (λ x. x ≡ IsPos n → n ≡ at + 1) (is_at s at b) _ _ (λ t q. let m : at + 1 ≡ n = cc in sym m) (λ t q. let m : ◌≡◌ {A = ℕ} 0 1 = cc in absurd (omega arith))
+      by_if (λ x. x ≡ Some n → n ≡ at + 1) (is_at s at b) _ _ (λ t q. let m : at + 1 ≡ n = cc in sym m) (λ t q. let m : ◌≡◌ {A = ℕ} 0 1 = cc in absurd (omega arith))
 
-  either_next : (a b : ℕ) → either_from s at a b ≡ IsPos n → n ≡ at + 1
+  either_next : (a b : ℕ) → either_from s at a b ≡ Some n → n ≡ at + 1
   unfolding either_from
   either_next a b =
-      by_if (λ x. x ≡ IsPos n → n ≡ at + 1) (is_at s at a || is_at s at b) _ _ (λ t q. let m : at + 1 ≡ n = cc in sym m) (λ t q. let m : ◌≡◌ {A = ℕ} 0 1 = cc in absurd (omega arith))
+      by_if (λ x. x ≡ Some n → n ≡ at + 1) (is_at s at a || is_at s at b) _ _ (λ t q. let m : at + 1 ≡ n = cc in sym m) (λ t q. let m : ◌≡◌ {A = ℕ} 0 1 = cc in absurd (omega arith))
 
-abbrev DateTo : ℕ → Date → Type 0
-DateTo n NoDate = Unit {0}
-DateTo n (IsDate y m d k) = k ≡ n
+abbrev DateTo : ℕ → Option (Date × ℕ) → Type 0
+DateTo n None = Unit {0}
+DateTo n (Some x) = x.1 ≡ n
 
-abbrev ClockTo : ℕ → Clock → Type 0
-ClockTo n NoClock = Unit {0}
-ClockTo n (IsClock h m x k) = k ≡ n
+abbrev ClockTo : ℕ → Option (Clock × ℕ) → Type 0
+ClockTo n None = Unit {0}
+ClockTo n (Some y) = y.1 ≡ n
 
 date_to : (s : List ℕ) (at : ℕ) → DateTo (at + 10) (date_from s at)
 date_to s at =
@@ -70,12 +63,12 @@ time_to s at =
 
 -- ---- nothing shorter is a timestamp
 
-pub full_short : (s : List ℕ) (at : ℕ) → at ≤ length s → length s - at < 19 → NoStamp ≡ full_from s at
+pub full_short : (s : List ℕ) (at : ℕ) → at ≤ length s → length s - at < 19 → None ≡ full_from s at
 unfolding full_from
 full_short s at h l =
-    on_date_lem (λ r. NoStamp ≡ r) (date_from s at) _ _ refl λ year month day a e1.
-    on_pos_lem (λ r. NoStamp ≡ r) (either_from s a 84 116) _ _ refl λ b e2.
-    on_clock_lem (λ r. NoStamp ≡ r) (time_from s b) _ _ refl λ hour minute second c e3.
+    on_date_lem (λ (r : Option (Option Timestamp × ℕ)). None ≡ r) (date_from s at) _ _ refl λ year month day a e1.
+    on_pos_lem (λ (r : Option (Option Timestamp × ℕ)). None ≡ r) (either_from s a 84 116) _ _ refl λ b e2.
+    on_clock_lem (λ (r : Option (Option Timestamp × ℕ)). None ≡ r) (time_from s b) _ _ refl λ hour minute second c e3.
     let i : a ≡ at + 10 = rw e1 at (date_to s at) in
     let j : c ≡ b + 8 = rw e3 at (time_to s b) in
     let k : c ≤ length s = time_within s b (time_from s b) hour minute second c e3 refl in
@@ -85,15 +78,18 @@ full_short s at h l =
 
 pub record Fractioned (s : List ℕ) (at : ℕ) (t : Timestamp) : Type 0 where
   pub next : ℕ
-  pub fraction : nanos_from s at ≡ IsNum t.nanos next
+  pub fraction : nanos_from s at ≡ Some (t.nanos, next)
   pub counted : t.digits ≡ next - at - 1
 
-abbrev pub FractionOf : List ℕ → ℕ → Stamping → Type 0
-FractionOf s at NoStamp = Unit {0}
-FractionOf s at (IsStamp Unstamped n) = Unit {0}
-FractionOf s at (IsStamp (Stamped t) n) = Fractioned s at t
+abbrev pub StampFraction : List ℕ → ℕ → Option Timestamp → Type 0
+StampFraction s at None = Unit {0}
+StampFraction s at (Some t) = Fractioned s at t
 
-moved_to : (s : List ℕ) (x y : ℕ) (r : Stamping) → x ≡ y → FractionOf s x r → FractionOf s y r
+abbrev pub FractionOf : List ℕ → ℕ → Option (Option Timestamp × ℕ) → Type 0
+FractionOf s at None = Unit {0}
+FractionOf s at (Some x) = StampFraction s at x.0
+
+moved_to : (s : List ℕ) (x y : ℕ) (r : Option (Option Timestamp × ℕ)) → x ≡ y → FractionOf s x r → FractionOf s y r
 moved_to s x y r e h = rw (← e) h
 
 end_of : (s : List ℕ) (t : DateTime) (at : ℕ) → FractionOf s at (end_from s t at)

@@ -1,4 +1,5 @@
 -- The offset of a zone: minutes, their sign, and what they may be.
+use Rattle.std.specs.Prelude.{Option, Some, None}
 use Prim.Native.Nat.{ℕ, zero, suc, ◌+◌, ◌-◌, ◌*◌, ◌≤◌, ◌<◌}
 use mathlib.Core.Path.{◌≡◌, refl, sym, ap, ◌∙◌}
 use mathlib.Core.List.{List}
@@ -18,14 +19,8 @@ use Rattle.base.proofs.Tests.{both, by_if}
 use Rattle.base.proofs.Diffs.{sub_ge, sub_lt}
 use Rattle.calendar.specs.Calendar.{offset_limit}
 use Rattle.parsers.specs.Steps.{byte_from}
-use Rattle.parsers.specs.declared.Num.{Num}
-use Rattle.parsers.specs.declared.Num.TheVariants.{NoNum, IsNum}
-use Rattle.parsers.specs.declared.Pos.{Pos}
-use Rattle.parsers.specs.declared.Pos.TheVariants.{NoPos, IsPos}
 use Rattle.parsers.proofs.Steps.{at_there}
 use Rattle.timestamp.specs.Rfc3339.{fixed_from, minutes_from, east_of, west_of, zone_from}
-use Rattle.timestamp.specs.declared.Zone.{Zone}
-use Rattle.timestamp.specs.declared.Zone.TheVariants.{NoZone, IsZone}
 use Rattle.timestamp.proofs.Onward.{on_num_lem, on_pos_lem}
 use Rattle.timestamp.proofs.Fixed.{fixed_within, either_there}
 
@@ -42,36 +37,36 @@ hours_fit h m e = record { fits = omega (arith, hour_to h m e) }
 pub minutes_fit : (h m : ℕ) → (leb h 23 && leb m 59) ≡ true → Fits w32 (h * 60 + m)
 minutes_fit h m e = record { fits = omega (arith, hour_to h m e, minute_to h m e) }
 
-module _ (s : List ℕ) (at : ℕ) (g1 : Num) (e1 : g1 ≡ fixed_from 2 s at) where
-  pub minutes_hour : g1 ≡ NoNum → NoNum ≡ minutes_from s at
+module _ (s : List ℕ) (at : ℕ) (g1 : Option (ℕ × ℕ)) (e1 : g1 ≡ fixed_from 2 s at) where
+  pub minutes_hour : g1 ≡ None → None ≡ minutes_from s at
   unfolding minutes_from
   minutes_hour z = rw (← e1, z)
 
-  module _ (h a : ℕ) (z1 : g1 ≡ IsNum h a) (g2 : Pos) (e2 : g2 ≡ byte_from s a 58) where
-    pub minutes_colon : g2 ≡ NoPos → NoNum ≡ minutes_from s at
+  module _ (h a : ℕ) (z1 : g1 ≡ Some (h, a)) (g2 : Option ℕ) (e2 : g2 ≡ byte_from s a 58) where
+    pub minutes_colon : g2 ≡ None → None ≡ minutes_from s at
     unfolding minutes_from
     minutes_colon z = rw (← e1, z1, ← e2, z)
 
-    module _ (b : ℕ) (z2 : g2 ≡ IsPos b) (g3 : Num) (e3 : g3 ≡ fixed_from 2 s b) where
-      pub minutes_minute : g3 ≡ NoNum → NoNum ≡ minutes_from s at
+    module _ (b : ℕ) (z2 : g2 ≡ Some b) (g3 : Option (ℕ × ℕ)) (e3 : g3 ≡ fixed_from 2 s b) where
+      pub minutes_minute : g3 ≡ None → None ≡ minutes_from s at
       unfolding minutes_from
       minutes_minute z = rw (← e1, z1, ← e2, z2, ← e3, z)
 
-      module _ (m c : ℕ) (z3 : g3 ≡ IsNum m c) where
-        pub minutes_yes : (leb h 23 && leb m 59) ≡ true → IsNum (h * 60 + m) c ≡ minutes_from s at
+      module _ (m c : ℕ) (z3 : g3 ≡ Some (m, c)) where
+        pub minutes_yes : (leb h 23 && leb m 59) ≡ true → Some (h * 60 + m, c) ≡ minutes_from s at
         unfolding minutes_from
         minutes_yes t = rw (← e1, z1, ← e2, z2, ← e3, z3, t)
 
-        pub minutes_no : (leb h 23 && leb m 59) ≡ false → NoNum ≡ minutes_from s at
+        pub minutes_no : (leb h 23 && leb m 59) ≡ false → None ≡ minutes_from s at
         unfolding minutes_from
         minutes_no t = rw (← e1, z1, ← e2, z2, ← e3, z3, t)
 
 pub ruleset minutes_laws = (hours_fit, minutes_fit, minutes_hour, minutes_colon, minutes_minute, minutes_yes, minutes_no)
 
 -- at most 23:59, and in the line
-abbrev pub MinutesIn : ℕ → Num → Type 0
-MinutesIn n NoNum = Unit {0}
-MinutesIn n (IsNum v m) = (v ≤ offset_limit) × (m ≤ n)
+abbrev pub MinutesIn : ℕ → Option (ℕ × ℕ) → Type 0
+MinutesIn n None = Unit {0}
+MinutesIn n (Some x) = (x.0 ≤ offset_limit) × (x.1 ≤ n)
 
 pub minutes_in : (s : List ℕ) (at : ℕ) → MinutesIn (length s) (minutes_from s at)
 unfolding minutes_from
@@ -83,7 +78,7 @@ minutes_in s at =
     (λ t. (omega (arith, hour_to h m t, minute_to h m t), fixed_within 2 (omega arith) s b _ refl m c e3))
     (λ t. tt)
 
-module _ (s : List ℕ) (at : ℕ) (g : Num) (e : g ≡ minutes_from s at) (v n : ℕ) (z : g ≡ IsNum v n) where
+module _ (s : List ℕ) (at : ℕ) (g : Option (ℕ × ℕ)) (e : g ≡ minutes_from s at) (v n : ℕ) (z : g ≡ Some (v, n)) where
   pub minutes_to : v ≤ offset_limit
   minutes_to = (rw (← e, z) at (minutes_in s at)).0
 
@@ -119,18 +114,18 @@ pub west_diff : (m : ℕ) → sub_ℕ 0 m ≡ neg_ℤ (pos m)
 west_diff zero = refl
 west_diff (suc m) = let e : suc m - 1 ≡ m = omega arith in sub_lt 0 (suc m) (omega arith) ∙ ap negsuc e
 
-module _ (s : List ℕ) (at : ℕ) (g : Num) (e : g ≡ minutes_from s at) where
-  pub east_no : g ≡ NoNum → NoZone ≡ east_of (minutes_from s at)
+module _ (s : List ℕ) (at : ℕ) (g : Option (ℕ × ℕ)) (e : g ≡ minutes_from s at) where
+  pub east_no : g ≡ None → None ≡ east_of (minutes_from s at)
   east_no z = rw (← e, z)
 
-  pub west_no : g ≡ NoNum → NoZone ≡ west_of (minutes_from s at)
+  pub west_no : g ≡ None → None ≡ west_of (minutes_from s at)
   west_no z = rw (← e, z)
 
-  module _ (m n : ℕ) (z : g ≡ IsNum m n) (o : ℤ) (f : SFits w32 o) where
-    pub east_yes : o ≡ sub_ℕ m 0 → IsZone (to_z w32 (of_z w32 o)) n ≡ east_of (minutes_from s at)
+  module _ (m n : ℕ) (z : g ≡ Some (m, n)) (o : ℤ) (f : SFits w32 o) where
+    pub east_yes : o ≡ sub_ℕ m 0 → Some (to_z w32 (of_z w32 o), n) ≡ east_of (minutes_from s at)
     east_yes q = rw (← e, z, to_z-of_z w32 o f, q, east_diff m)
 
-    pub west_yes : o ≡ sub_ℕ 0 m → IsZone (to_z w32 (of_z w32 o)) n ≡ west_of (minutes_from s at)
+    pub west_yes : o ≡ sub_ℕ 0 m → Some (to_z w32 (of_z w32 o), n) ≡ west_of (minutes_from s at)
     west_yes q = rw (← e, z, to_z-of_z w32 o f, q, west_diff m)
 
 pub ruleset east_laws = (minutes_to, east_no, east_yes)
@@ -142,30 +137,30 @@ pub sign_past : (s : List ℕ) (at b : ℕ) → 0 < b → (t : Bool) → t ≡ i
 sign_past s at b p t e h = let l = at_there s at b p (sym e ∙ h) in omega arith
 
 module _ (s : List ℕ) (at : ℕ) (t u : Bool) (et : t ≡ is_at s at 90) (eu : u ≡ is_at s at 122) where
-  pub zone_utc : (t || u) ≡ true → IsZone (pos 0) (at + 1) ≡ zone_from s at
+  pub zone_utc : (t || u) ≡ true → Some (pos 0, at + 1) ≡ zone_from s at
   unfolding zone_from
   zone_utc h = rw (← et, ← eu, h)
 
   module _ (h : (t || u) ≡ false) (p : Bool) (ep : p ≡ is_at s at 43) where
-    pub zone_east : p ≡ true → (g : Zone) → g ≡ east_of (minutes_from s (at + 1)) → g ≡ zone_from s at
+    pub zone_east : p ≡ true → (g : Option (ℤ × ℕ)) → g ≡ east_of (minutes_from s (at + 1)) → g ≡ zone_from s at
     unfolding zone_from
     zone_east hp g e = e ∙ rw (← et, ← eu, h, ← ep, hp)
 
     module _ (hp : p ≡ false) (q : Bool) (eq : q ≡ is_at s at 45) where
-      pub zone_west : q ≡ true → (g : Zone) → g ≡ west_of (minutes_from s (at + 1)) → g ≡ zone_from s at
+      pub zone_west : q ≡ true → (g : Option (ℤ × ℕ)) → g ≡ west_of (minutes_from s (at + 1)) → g ≡ zone_from s at
       unfolding zone_from
       zone_west hq g e = e ∙ rw (← et, ← eu, h, ← ep, hp, ← eq, hq)
 
-      pub zone_none : q ≡ false → NoZone ≡ zone_from s at
+      pub zone_none : q ≡ false → None ≡ zone_from s at
       unfolding zone_from
       zone_none hq = rw (← et, ← eu, h, ← ep, hp, ← eq, hq)
 
 pub ruleset zone_laws = (sign_past, zone_utc, zone_east, zone_west, zone_none)
 
 -- at most 23:59 either way, and in the line
-abbrev pub ZoneIn : ℕ → Zone → Type 0
-ZoneIn n NoZone = Unit {0}
-ZoneIn n (IsZone o m) = (nat_abs o ≤ offset_limit) × (m ≤ n)
+abbrev pub ZoneIn : ℕ → Option (ℤ × ℕ) → Type 0
+ZoneIn n None = Unit {0}
+ZoneIn n (Some x) = (nat_abs x.0 ≤ offset_limit) × (x.1 ≤ n)
 
 pub zone_in : (s : List ℕ) (at : ℕ) → ZoneIn (length s) (zone_from s at)
 unfolding zone_from
@@ -175,10 +170,10 @@ zone_in s at =
     by_if (ZoneIn (length s)) (is_at s at 45) _ _ (λ q. west (minutes_from s (at + 1)) (minutes_in s (at + 1))) λ q.
     tt
   where
-    east : (g : Num) → MinutesIn (length s) g → ZoneIn (length s) (east_of g)
-    east NoNum i = tt
-    east (IsNum m n) i = i
+    east : (g : Option (ℕ × ℕ)) → MinutesIn (length s) g → ZoneIn (length s) (east_of g)
+    east None i = tt
+    east (Some x) i = i
 
-    west : (g : Num) → MinutesIn (length s) g → ZoneIn (length s) (west_of g)
-    west NoNum i = tt
-    west (IsNum m n) i = (rw (← west_diff m) (diff_to 0 m (omega arith, i.0)), i.1)
+    west : (g : Option (ℕ × ℕ)) → MinutesIn (length s) g → ZoneIn (length s) (west_of g)
+    west None i = tt
+    west (Some x) i = (rw (← west_diff x.0) (diff_to 0 x.0 (omega arith, i.0)), i.1)

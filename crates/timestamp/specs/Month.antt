@@ -1,10 +1,8 @@
 -- A month's name: three letters in any case.
-use Rattle.std.specs.Prelude.{ℕ, ◌+◌, List, [], ◌∷◌, map, eqb, take, drop, if◌then◌else◌}
+use Rattle.std.specs.Prelude.{ℕ, ◌+◌, List, [], ◌∷◌, map, eqb, take, drop, if◌then◌else◌, Option, Some, None}
 use Rattle.base.specs.Choose.{within}
 use Rattle.base.specs.Texts.{same_text}
 use Rattle.base.specs.Bytes.{bytes}
-use Rattle.parsers.specs.declared.Num.{Num}
-use Rattle.parsers.specs.declared.Num.TheVariants.{NoNum, IsNum}
 
 abbrev pub lower : ℕ → ℕ
 lower b = if within 65 90 b then b + 32 else b
@@ -23,7 +21,7 @@ named_from m (n ∷ ns) t = if same_text n t then m else named_from (m + 1) ns t
 unfoldable pub month_of : List ℕ → ℕ
 month_of t = named_from 1 month_names (map lower t)
 
-unfoldable pub month_from : List ℕ → ℕ → Num
+unfoldable pub month_from : List ℕ → ℕ → Option (ℕ × ℕ)
 month_from s at =
     let m = month_of (take 3 (drop at s)) in
-    if eqb m 0 then NoNum else IsNum m (at + 3)
+    if eqb m 0 then None else Some (m, at + 3)

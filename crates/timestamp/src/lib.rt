@@ -10,52 +10,29 @@ ghost use Rattle.timestamp.specs.Rfc3339.{fixed_from, either_from, date_from, ti
 ghost use Rattle.timestamp.specs.Timestamp.{day_from, without_year, utc_if, with_year, rfc3164_from};
 
 use calendar::DateTime;
-use parsers::{Num, Pos};
-use record::{Stamp, Timestamp};
+use record::Timestamp;
 
-// Hour, minute and second, and the position after them.
+// Hour, minute and second.
 #[derive(Clone, Copy)]
-pub enum Clock {
-    NoClock,
-    IsClock {
-        hour: u32,
-        minute: u32,
-        second: u32,
-        next: usize,
-    },
+pub struct Clock {
+    pub hour: u32,
+    pub minute: u32,
+    pub second: u32,
 }
 
-// Year, month and day, and the position after them.
+// Year, month and day.
 #[derive(Clone, Copy)]
-pub enum Date {
-    NoDate,
-    IsDate {
-        year: u32,
-        month: u32,
-        day: u32,
-        next: usize,
-    },
+pub struct Date {
+    pub year: u32,
+    pub month: u32,
+    pub day: u32,
 }
 
-// Month and day, and the position after them and the blanks that follow.
+// Month and day.
 #[derive(Clone, Copy)]
-pub enum Day {
-    NoDay,
-    IsDay { month: u32, day: u32, next: usize },
-}
-
-// Minutes east of UTC, and the position after them.
-#[derive(Clone, Copy)]
-pub enum Zone {
-    NoZone,
-    IsZone(i32, usize),
-}
-
-// A timestamp, and the position after it.
-#[derive(Clone, Copy)]
-pub enum Stamping {
-    NoStamp,
-    IsStamp(Stamp, usize),
+pub struct Day {
+    pub month: u32,
+    pub day: u32,
 }
 
 fn lower(b: u8) -> u32
@@ -90,158 +67,121 @@ fn month_of(a: u8, b: u8, c: u8) -> u32
     }
 }
 
-pub fn month_from(s: &[u8], at: usize) -> Num
+pub fn month_from(s: &[u8], at: usize) -> Option<(u32, usize)>
     requires { at ≤ length s.now }
     ensures { result ≡ month_from s.now at }
 {
     if s.len() - at < 3 {
-        return Num::NoNum;
+        return None;
     }
     let month = month_of(s[at], s[at + 1], s[at + 2]);
     if month == 0 {
-        return Num::NoNum;
+        return None;
     }
-    Num::IsNum(month, at + 3)
+    Some((month, at + 3))
 }
 
 // hour:minute:second
-pub fn clock_from(s: &[u8], at: usize) -> Clock
+pub fn clock_from(s: &[u8], at: usize) -> Option<(Clock, usize)>
     requires { at ≤ length s.now }
     ensures { result ≡ clock_from s.now at }
 {
-    let Num::IsNum(hour, a) = parsers::number_from(s, at) else {
-        return Clock::NoClock;
-    };
-    let Pos::IsPos(b) = parsers::byte_from(s, a, b':') else {
-        return Clock::NoClock;
-    };
-    let Num::IsNum(minute, c) = parsers::number_from(s, b) else {
-        return Clock::NoClock;
-    };
-    let Pos::IsPos(d) = parsers::byte_from(s, c, b':') else {
-        return Clock::NoClock;
-    };
-    let Num::IsNum(second, e) = parsers::number_from(s, d) else {
-        return Clock::NoClock;
-    };
-    Clock::IsClock {
-        hour,
-        minute,
-        second,
-        next: e,
-    }
+    let (hour, a) = parsers::number_from(s, at)?;
+    let b = parsers::byte_from(s, a, b':')?;
+    let (minute, c) = parsers::number_from(s, b)?;
+    let d = parsers::byte_from(s, c, b':')?;
+    let (second, e) = parsers::number_from(s, d)?;
+    Some((
+        Clock {
+            hour,
+            minute,
+            second,
+        },
+        e,
+    ))
 }
 
-fn two_from(s: &[u8], at: usize) -> Num
+fn two_from(s: &[u8], at: usize) -> Option<(u32, usize)>
     requires { at ≤ length s.now }
     ensures { result ≡ fixed_from 2 s.now at }
 {
     parsers::moved(at, digits::two_digits(base::past(s, at)))
 }
 
-fn four_from(s: &[u8], at: usize) -> Num
+fn four_from(s: &[u8], at: usize) -> Option<(u32, usize)>
     requires { at ≤ length s.now }
     ensures { result ≡ fixed_from 4 s.now at }
 {
     parsers::moved(at, digits::four_digits(base::past(s, at)))
 }
 
-fn either_from(s: &[u8], at: usize, a: u8, b: u8) -> Pos
+fn either_from(s: &[u8], at: usize, a: u8, b: u8) -> Option<usize>
     requires { (0 < a) × (0 < b) }
     ensures { result ≡ either_from s.now at a b }
 {
     if base::is_at(s, at, a) | base::is_at(s, at, b) {
-        return Pos::IsPos(at + 1);
+        return Some(at + 1);
     }
-    Pos::NoPos
+    None
 }
 
 // YYYY-MM-DD
-pub fn date_from(s: &[u8], at: usize) -> Date
+pub fn date_from(s: &[u8], at: usize) -> Option<(Date, usize)>
     requires { at ≤ length s.now }
     ensures { result ≡ date_from s.now at }
 {
-    let Num::IsNum(year, a) = four_from(s, at) else {
-        return Date::NoDate;
-    };
-    let Pos::IsPos(b) = parsers::byte_from(s, a, b'-') else {
-        return Date::NoDate;
-    };
-    let Num::IsNum(month, c) = two_from(s, b) else {
-        return Date::NoDate;
-    };
-    let Pos::IsPos(d) = parsers::byte_from(s, c, b'-') else {
-        return Date::NoDate;
-    };
-    let Num::IsNum(day, e) = two_from(s, d) else {
-        return Date::NoDate;
-    };
-    Date::IsDate {
-        year,
-        month,
-        day,
-        next: e,
-    }
+    let (year, a) = four_from(s, at)?;
+    let b = parsers::byte_from(s, a, b'-')?;
+    let (month, c) = two_from(s, b)?;
+    let d = parsers::byte_from(s, c, b'-')?;
+    let (day, e) = two_from(s, d)?;
+    Some((Date { year, month, day }, e))
 }
 
 // hh:mm:ss
-pub fn time_from(s: &[u8], at: usize) -> Clock
+pub fn time_from(s: &[u8], at: usize) -> Option<(Clock, usize)>
     requires { at ≤ length s.now }
     ensures { result ≡ time_from s.now at }
 {
-    let Num::IsNum(hour, a) = two_from(s, at) else {
-        return Clock::NoClock;
-    };
-    let Pos::IsPos(b) = parsers::byte_from(s, a, b':') else {
-        return Clock::NoClock;
-    };
-    let Num::IsNum(minute, c) = two_from(s, b) else {
-        return Clock::NoClock;
-    };
-    let Pos::IsPos(d) = parsers::byte_from(s, c, b':') else {
-        return Clock::NoClock;
-    };
-    let Num::IsNum(second, e) = two_from(s, d) else {
-        return Clock::NoClock;
-    };
-    Clock::IsClock {
-        hour,
-        minute,
-        second,
-        next: e,
-    }
+    let (hour, a) = two_from(s, at)?;
+    let b = parsers::byte_from(s, a, b':')?;
+    let (minute, c) = two_from(s, b)?;
+    let d = parsers::byte_from(s, c, b':')?;
+    let (second, e) = two_from(s, d)?;
+    Some((
+        Clock {
+            hour,
+            minute,
+            second,
+        },
+        e,
+    ))
 }
 
 // The fraction of a second, in nanoseconds.
-pub fn nanos_from(s: &[u8], at: usize) -> Num
+pub fn nanos_from(s: &[u8], at: usize) -> Option<(u32, usize)>
     requires { at ≤ length s.now }
     ensures { result ≡ nanos_from s.now at }
 {
     if !base::is_at(s, at, b'.') {
-        return Num::IsNum(0, at);
+        return Some((0, at));
     }
     let first = at + 1;
     parsers::moved(first, digits::fraction(base::past(s, first), 9))
 }
 
 // The hh:mm of an offset, in minutes.
-pub fn minutes_from(s: &[u8], at: usize) -> Num
+pub fn minutes_from(s: &[u8], at: usize) -> Option<(u32, usize)>
     requires { at ≤ length s.now }
     ensures { result ≡ minutes_from s.now at }
 {
-    let Num::IsNum(hour, a) = two_from(s, at) else {
-        return Num::NoNum;
-    };
-    let Pos::IsPos(b) = parsers::byte_from(s, a, b':') else {
-        return Num::NoNum;
-    };
-    let Num::IsNum(minute, c) = two_from(s, b) else {
-        return Num::NoNum;
-    };
+    let (hour, a) = two_from(s, at)?;
+    let b = parsers::byte_from(s, a, b':')?;
+    let (minute, c) = two_from(s, b)?;
     if (hour <= 23) & (minute <= 59) {
-        return Num::IsNum(hour * 60 + minute, c);
+        return Some((hour * 60 + minute, c));
     }
-    Num::NoNum
+    None
 }
 
 // The offset of so many minutes east, less so many west.
@@ -252,32 +192,28 @@ fn offset_of(east: u32, west: u32) -> i32
     base::narrow(base::join(east as u64, west as u64))
 }
 
-fn east_from(s: &[u8], at: usize) -> Zone
+fn east_from(s: &[u8], at: usize) -> Option<(i32, usize)>
     requires { at ≤ length s.now }
     ensures { result ≡ east_of (minutes_from s.now at) }
 {
-    let Num::IsNum(minutes, next) = minutes_from(s, at) else {
-        return Zone::NoZone;
-    };
-    Zone::IsZone(offset_of(minutes, 0), next)
+    let (minutes, next) = minutes_from(s, at)?;
+    Some((offset_of(minutes, 0), next))
 }
 
-fn west_from(s: &[u8], at: usize) -> Zone
+fn west_from(s: &[u8], at: usize) -> Option<(i32, usize)>
     requires { at ≤ length s.now }
     ensures { result ≡ west_of (minutes_from s.now at) }
 {
-    let Num::IsNum(minutes, next) = minutes_from(s, at) else {
-        return Zone::NoZone;
-    };
-    Zone::IsZone(offset_of(0, minutes), next)
+    let (minutes, next) = minutes_from(s, at)?;
+    Some((offset_of(0, minutes), next))
 }
 
-pub fn zone_from(s: &[u8], at: usize) -> Zone
+pub fn zone_from(s: &[u8], at: usize) -> Option<(i32, usize)>
     requires { at ≤ length s.now }
     ensures { result ≡ zone_from s.now at }
 {
     if base::is_at(s, at, b'Z') | base::is_at(s, at, b'z') {
-        return Zone::IsZone(0, at + 1);
+        return Some((0, at + 1));
     }
     if base::is_at(s, at, b'+') {
         return east_from(s, at + 1);
@@ -285,74 +221,65 @@ pub fn zone_from(s: &[u8], at: usize) -> Zone
     if base::is_at(s, at, b'-') {
         return west_from(s, at + 1);
     }
-    Zone::NoZone
+    None
 }
 
 // The instant of a local date and clock, where they are valid.
-fn stamp_if(t: DateTime, nanos: u32, digits: u32, offset: i32, next: usize) -> Stamping
+fn stamp_if(
+    t: DateTime,
+    nanos: u32,
+    digits: u32,
+    offset: i32,
+    next: usize,
+) -> Option<(Option<Timestamp>, usize)>
     ensures { result ≡ stamp_if t nanos digits offset next }
 {
     if !calendar::is_valid(t) {
-        return Stamping::NoStamp;
+        return None;
     }
     let seconds = calendar::seconds_of(t, offset);
-    Stamping::IsStamp(
-        Stamp::Stamped(Timestamp {
+    Some((
+        Some(Timestamp {
             seconds,
             nanos,
             digits,
             offset,
         }),
         next,
-    )
+    ))
 }
 
 // After the clock: fraction, zone, and a space, which is not consumed.
-pub fn end_from(s: &[u8], t: DateTime, at: usize) -> Stamping
+pub fn end_from(s: &[u8], t: DateTime, at: usize) -> Option<(Option<Timestamp>, usize)>
     requires { at ≤ length s.now }
     ensures { result ≡ end_from s.now t at }
 {
-    let Num::IsNum(nanos, a) = nanos_from(s, at) else {
-        return Stamping::NoStamp;
-    };
-    let Zone::IsZone(offset, b) = zone_from(s, a) else {
-        return Stamping::NoStamp;
-    };
+    let (nanos, a) = nanos_from(s, at)?;
+    let (offset, b) = zone_from(s, a)?;
     if !base::is_at(s, b, b' ') {
-        return Stamping::NoStamp;
+        return None;
     }
     stamp_if(t, nanos, digits::after_point(a - at), offset, b)
 }
 
 // Date, letter and clock are 19 bytes; asked for at once, they need no test each.
-pub fn full_from(s: &[u8], at: usize) -> Stamping
+pub fn full_from(s: &[u8], at: usize) -> Option<(Option<Timestamp>, usize)>
     requires { at ≤ length s.now }
     ensures { result ≡ full_from s.now at }
 {
     if s.len() - at < 19 {
-        return Stamping::NoStamp;
+        return None;
     }
-    let Date::IsDate {
-        year,
-        month,
-        day,
-        next: a,
-    } = date_from(s, at)
-    else {
-        return Stamping::NoStamp;
-    };
-    let Pos::IsPos(b) = either_from(s, a, b'T', b't') else {
-        return Stamping::NoStamp;
-    };
-    let Clock::IsClock {
-        hour,
-        minute,
-        second,
-        next: c,
-    } = time_from(s, b)
-    else {
-        return Stamping::NoStamp;
-    };
+    let (Date { year, month, day }, a) = date_from(s, at)?;
+    let b = either_from(s, a, b'T', b't')?;
+    let (
+        Clock {
+            hour,
+            minute,
+            second,
+        },
+        c,
+    ) = time_from(s, b)?;
     let t = DateTime {
         year,
         month,
@@ -365,62 +292,47 @@ pub fn full_from(s: &[u8], at: usize) -> Stamping
 }
 
 // Form (c), and RFC 5424's timestamp.
-pub fn rfc3339_from(s: &[u8], at: usize) -> Stamping
+pub fn rfc3339_from(s: &[u8], at: usize) -> Option<(Option<Timestamp>, usize)>
     requires { at ≤ length s.now }
     ensures { result ≡ rfc3339_from s.now at }
 {
     if base::is_at(s, at, b'-') {
-        return Stamping::IsStamp(Stamp::Unstamped, at + 1);
+        return Some((None, at + 1));
     }
     full_from(s, at)
 }
 
 // Month name, blanks, day, blanks.
-pub fn day_from(s: &[u8], at: usize) -> Day
+pub fn day_from(s: &[u8], at: usize) -> Option<(Day, usize)>
     requires { at ≤ length s.now }
     ensures { result ≡ day_from s.now at }
 {
-    let Num::IsNum(month, a) = month_from(s, at) else {
-        return Day::NoDay;
-    };
-    let Pos::IsPos(b) = parsers::some_blanks_from(s, a) else {
-        return Day::NoDay;
-    };
-    let Num::IsNum(day, c) = parsers::number_from(s, b) else {
-        return Day::NoDay;
-    };
-    let Pos::IsPos(d) = parsers::some_blanks_from(s, c) else {
-        return Day::NoDay;
-    };
-    Day::IsDay {
-        month,
-        day,
-        next: d,
-    }
+    let (month, a) = month_from(s, at)?;
+    let b = parsers::some_blanks_from(s, a)?;
+    let (day, c) = parsers::number_from(s, b)?;
+    let d = parsers::some_blanks_from(s, c)?;
+    Some((Day { month, day }, d))
 }
 
 // Form (a): local time, in the given year and at the given offset.
-pub fn without_year(s: &[u8], at: usize, year: u32, offset: i32) -> Stamping
+pub fn without_year(
+    s: &[u8],
+    at: usize,
+    year: u32,
+    offset: i32,
+) -> Option<(Option<Timestamp>, usize)>
     requires { at ≤ length s.now }
     ensures { result ≡ without_year year offset s.now at }
 {
-    let Day::IsDay {
-        month,
-        day,
-        next: a,
-    } = day_from(s, at)
-    else {
-        return Stamping::NoStamp;
-    };
-    let Clock::IsClock {
-        hour,
-        minute,
-        second,
-        next: b,
-    } = clock_from(s, a)
-    else {
-        return Stamping::NoStamp;
-    };
+    let (Day { month, day }, a) = day_from(s, at)?;
+    let (
+        Clock {
+            hour,
+            minute,
+            second,
+        },
+        b,
+    ) = clock_from(s, a)?;
     let t = DateTime {
         year,
         month,
@@ -433,55 +345,43 @@ pub fn without_year(s: &[u8], at: usize, year: u32, offset: i32) -> Stamping
 }
 
 // The instant of a date and a clock in UTC, shown at the offset, where they are valid and the year shown is one of 0 to 9999.
-fn utc_if(t: DateTime, offset: i32, next: usize) -> Stamping
+fn utc_if(t: DateTime, offset: i32, next: usize) -> Option<(Option<Timestamp>, usize)>
     ensures { result ≡ utc_if t offset next }
 {
     if !calendar::is_valid(t) {
-        return Stamping::NoStamp;
+        return None;
     }
     let seconds = calendar::seconds_of(t, 0);
     if !calendar::is_shown(calendar::shown_at(seconds, offset)) {
-        return Stamping::NoStamp;
+        return None;
     }
-    Stamping::IsStamp(
-        Stamp::Stamped(Timestamp {
+    Some((
+        Some(Timestamp {
             seconds,
             nanos: 0,
             digits: 0,
             offset,
         }),
         next,
-    )
+    ))
 }
 
 // Form (b): the year stands after the day, and the clock is UTC's.
-pub fn with_year(s: &[u8], at: usize, offset: i32) -> Stamping
+pub fn with_year(s: &[u8], at: usize, offset: i32) -> Option<(Option<Timestamp>, usize)>
     requires { at ≤ length s.now }
     ensures { result ≡ with_year offset s.now at }
 {
-    let Day::IsDay {
-        month,
-        day,
-        next: a,
-    } = day_from(s, at)
-    else {
-        return Stamping::NoStamp;
-    };
-    let Num::IsNum(year, b) = parsers::number_from(s, a) else {
-        return Stamping::NoStamp;
-    };
-    let Pos::IsPos(c) = parsers::some_blanks_from(s, b) else {
-        return Stamping::NoStamp;
-    };
-    let Clock::IsClock {
-        hour,
-        minute,
-        second,
-        next: d,
-    } = clock_from(s, c)
-    else {
-        return Stamping::NoStamp;
-    };
+    let (Day { month, day }, a) = day_from(s, at)?;
+    let (year, b) = parsers::number_from(s, a)?;
+    let c = parsers::some_blanks_from(s, b)?;
+    let (
+        Clock {
+            hour,
+            minute,
+            second,
+        },
+        d,
+    ) = clock_from(s, c)?;
     let t = DateTime {
         year,
         month,
@@ -494,17 +394,16 @@ pub fn with_year(s: &[u8], at: usize, offset: i32) -> Stamping
 }
 
 // RFC 3164's timestamp: the first of the three forms that is a reading.
-pub fn rfc3164_from(s: &[u8], at: usize, year: u32, offset: i32) -> Stamping
+pub fn rfc3164_from(
+    s: &[u8],
+    at: usize,
+    year: u32,
+    offset: i32,
+) -> Option<(Option<Timestamp>, usize)>
     requires { at ≤ length s.now }
     ensures { result ≡ rfc3164_from year offset s.now at }
 {
-    let a = without_year(s, at, year, offset);
-    let Stamping::NoStamp = a else {
-        return a;
-    };
-    let b = with_year(s, at, offset);
-    let Stamping::NoStamp = b else {
-        return b;
-    };
-    rfc3339_from(s, at)
+    without_year(s, at, year, offset)
+        .or_else(|| with_year(s, at, offset))
+        .or_else(|| rfc3339_from(s, at))
 }

@@ -1,4 +1,5 @@
 -- What the functions that do not name the parameter table say at their returns.
+use Rattle.std.specs.Prelude.{Option, None, Ok, Err}
 use Prim.Native.Nat.{ℕ, ◌≤◌, ◌<◌}
 use mathlib.Core.Path.{◌≡◌, refl, ap}
 use mathlib.Core.Bool.{Bool, true, false, not}
@@ -11,10 +12,7 @@ use Rattle.base.specs.Texts.{all_different}
 use Rattle.record.specs.Limits.{line_limit}
 use Rattle.record.specs.declared.Param.{Param}
 use Rattle.record.specs.declared.Place.{Place}
-use Rattle.record.specs.declared.Stamp.{Stamp}
 use Rattle.record.specs.declared.Protocol.TheVariants.{Rfc5424}
-use Rattle.record.specs.declared.Level.TheVariants.{Unset}
-use Rattle.record.specs.declared.Written.TheVariants.{Done, Refused}
 use Rattle.record.specs.declared.Refusal.TheVariants.{Unwritable, LineTooLong, OutputShort}
 use Rattle.suits.specs.Suits.{elements_suit}
 use Rattle.output.specs.Fits.{Fits}
@@ -26,12 +24,13 @@ use Rattle.ids.specs.Ids.{ids_in, ids_fit}
 use Rattle.writer_data.specs.declared.Walk.{Walk}
 use Rattle.writer_data.specs.Walks.{first_text, step_text, stopped_at, Puts, Measures}
 use Rattle.writer.specs.Steps.{Rows, Begins, Named, settled, Opens, answer_of}
+use Rattle.record.specs.declared.Timestamp.{Timestamp}
 
-pub record_is : (h : Handed) (t : Stamp) (a b c d : Place) → t ≡ stamp_in h → a ≡ place_in h.host → b ≡ place_in h.app → c ≡ place_in h.procid → d ≡ place_in h.msgid
+pub record_is : (h : Handed) (t : Option Timestamp) (a b c d : Place) → t ≡ stamp_in h → a ≡ place_in h.host → b ≡ place_in h.app → c ≡ place_in h.procid → d ≡ place_in h.msgid
     → record {
       protocol = Rfc5424 h.version;
-      facility = Unset;
-      severity = Unset;
+      facility = None;
+      severity = None;
       timestamp = t;
       host = a;
       app = b;
@@ -44,18 +43,18 @@ record_is h t a b c d e p q r s = rw (e, p, q, r, s)
 -- ---- the answer
 
 module _ (w : Walk) (room : ℕ) where
-  pub answer_unfit : not w.fits ≡ true → Refused Unwritable ≡ answer_of w room
+  pub answer_unfit : not w.fits ≡ true → Err Unwritable ≡ answer_of w room
   answer_unfit q = rw q
 
   module _ (q : not w.fits ≡ false) where
-    pub answer_long : line_limit < w.at → Refused LineTooLong ≡ answer_of w room
+    pub answer_long : line_limit < w.at → Err LineTooLong ≡ answer_of w room
     answer_long h = rw (q, lt-ltb line_limit w.at h)
 
     module _ (h : w.at ≤ line_limit) where
-      pub answer_short : room < w.at → Refused OutputShort ≡ answer_of w room
+      pub answer_short : room < w.at → Err OutputShort ≡ answer_of w room
       answer_short k = rw (q, le-ltb line_limit w.at h, lt-ltb room w.at k)
 
-      pub answer_done : w.at ≤ room → Done w.at ≡ answer_of w room
+      pub answer_done : w.at ≤ room → Ok w.at ≡ answer_of w room
       answer_done k = rw (q, le-ltb line_limit w.at h, le-ltb room w.at k)
 
 pub ruleset answer_laws = (answer_unfit, answer_long, answer_short, answer_done)

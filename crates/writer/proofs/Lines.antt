@@ -1,4 +1,5 @@
 -- The line as it is written: the front, the opening of the first element, and what is left then.
+use Rattle.std.specs.Prelude.{Option, Some, None}
 use Prim.Native.Nat.{ℕ, zero, suc, ◌/◌, ◌%◌}
 use mathlib.Core.Path.{◌≡◌, refl, ap, ◌∙◌}
 use mathlib.Core.Bool.{true}
@@ -7,8 +8,6 @@ use native.Mathlib.Omega.{arith}
 use lib.IntN.{ℤ, pos, negsuc}
 use lib.ListN.{take}
 use borrow.Author.Tests.{ne_eqb}
-use Rattle.record.specs.declared.Stamp.{Stamp}
-use Rattle.record.specs.declared.Stamp.TheVariants.{Unstamped, Stamped}
 use Rattle.output.specs.Numerals.{fixed, numeral}
 use Rattle.suits.specs.Suits.{stamp_suits, record_suits}
 use Rattle.suits.proofs.Suited.{stamp_in_lem, record_in_lem}
@@ -22,6 +21,7 @@ use Rattle.writes.specs.Writes.{part_in, stamp_in, record_in, fields_in}
 use Rattle.writer_header.specs.Fronts.{front_text}
 use Rattle.writer_data.specs.Walks.{first_text}
 use Rattle.writer.proofs.Lefts.{left_then, first_text_lem}
+use Rattle.record.specs.declared.Timestamp.{Timestamp}
 
 -- ---- the timestamp
 
@@ -43,10 +43,10 @@ unfolding offset_text
 zone_then_lem (pos n) r = append_assoc (43 ∷ fixed 2 (n / 60)) (58 ∷ fixed 2 (n % 60)) r
 zone_then_lem (negsuc n) r = append_assoc (45 ∷ fixed 2 (suc n / 60)) (58 ∷ fixed 2 (suc n % 60)) r
 
-stamp_then : (t : Stamp) → stamp_suits t ≡ true → (r : List ℕ) → stamp_text t ++ r ≡ timestamp_then (timestamp_of t) r
+stamp_then : (t : Option Timestamp) → stamp_suits t ≡ true → (r : List ℕ) → stamp_text t ++ r ≡ timestamp_then (timestamp_of t) r
 unfolding clock_text date_text time_text
-stamp_then Unstamped h r = refl
-stamp_then (Stamped t) h r =
+stamp_then None h r = refl
+stamp_then (Some t) h r =
     let c = (stamp_in_lem t h).clock in
     let tail = offset_text t.offset ++ r in
     rw (stamp_in_lem t h).shows
@@ -74,7 +74,7 @@ start_then p v t r =
 front_then : (s a b r : List ℕ) → (s ++ a ++ b) ++ r ≡ s ++ (a ++ (b ++ r))
 front_then s a b r = append_assoc (s ++ a) b r ∙ append_assoc s a (b ++ r)
 
-line_then_lem : (p v : List ℕ) (t : Stamp) → stamp_suits t ≡ true → (a b c d r : List ℕ)
+line_then_lem : (p v : List ℕ) (t : Option Timestamp) → stamp_suits t ≡ true → (a b c d r : List ℕ)
     → ((((60 ∷ p) ++ (62 ∷ []) ++ v ++ (32 ∷ [])) ++ stamp_text t ++ (32 ∷ [])) ++ ((a ++ (32 ∷ [])) ++ (b ++ (32 ∷ []))) ++ ((c ++ (32 ∷ [])) ++ (d ++ (32 ∷ [])))) ++ r
     ≡ 60 ∷ (p ++ (62 ∷ (v ++ (32 ∷ timestamp_then (timestamp_of t) (32 ∷ (a ++ (32 ∷ (b ++ (32 ∷ (c ++ (32 ∷ (d ++ (32 ∷ r)))))))))))))
 line_then_lem p v t h a b c d r =

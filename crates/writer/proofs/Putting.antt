@@ -1,4 +1,5 @@
 -- The line written in one walk over both tables, and the answers.
+use Rattle.std.specs.Prelude.{Result, Ok, Err}
 use Prim.Native.Nat.{ℕ, ◌≤◌, ◌<◌}
 use mathlib.Core.Path.{◌≡◌, refl, sym, ap, ◌∙◌}
 use mathlib.Core.Bool.{Bool, true, false, ◌&&◌}
@@ -14,8 +15,6 @@ use Rattle.record.specs.Answers.{output_answer_of}
 use Rattle.record.specs.declared.Param.{Param}
 use Rattle.record.specs.declared.Record.{Record}
 use Rattle.record.specs.declared.OutputAnswer.{OutputAnswer}
-use Rattle.record.specs.declared.Written.{Written}
-use Rattle.record.specs.declared.Written.TheVariants.{Done, Refused}
 use Rattle.record.specs.declared.Refusal.TheVariants.{Unsuitable}
 use Rattle.suits.specs.Suits.{suits}
 use Rattle.output.specs.Fits.{Fits}
@@ -35,6 +34,7 @@ use Rattle.writer.specs.Steps.{Opens, is_written, answer_of, Measured}
 use Rattle.writer.proofs.Lefts.{left_then, led, led_leads, Entered, step_text_lem, step_less, step_to, distance, left_none}
 use Rattle.writer.proofs.Lines.{line_is}
 use Rattle.writer.proofs.Walks.{record_suited, ids_long, ids, all, tail}
+use Rattle.record.specs.declared.Refusal.{Refusal}
 
 -- The walk, begun at `at` of `o`.
 pub record Putting (text : List ℕ) (h : Handed) (elements params : List (List ℕ)) (o : List ℕ) (at : ℕ) (out : List ℕ) (w : Walk) : Type 0 where
@@ -112,7 +112,7 @@ pub suits_as : (text : List ℕ) (h : Handed) (elements params : List (List ℕ)
 suits_as text h elements params r e b q c t = rw (← e) (sym q ∙ t)
 
 module _ (text : List ℕ) (h : Handed) (elements params : List (List ℕ)) (o : List ℕ) where
-  pub write_unsuited : suits text (record_in h) h.element_count h.param_count elements params ≡ false → Writes text h elements params o (Refused Unsuitable) o
+  pub write_unsuited : suits text (record_in h) h.element_count h.param_count elements params ≡ false → Writes text h elements params o (Err Unsuitable) o
   unfolding answered
   write_unsuited s = record { answer = rw s; output = refl }
 
@@ -148,17 +148,17 @@ module _ (text : List ℕ) (h : Handed) (elements params : List (List ℕ)) (o :
         pub write_fits : Fits o 0 (written (fields_in text h elements params))
         write_fits = record { fits = omega (arith, size, leb-true w.at (length o) tests.1) }
 
-        done : answer_of w (length o) ≡ Done w.at
+        done : answer_of w (length o) ≡ Ok w.at
         done = rw (fit.0, le-ltb line_limit w.at (leb-true w.at line_limit fit.1), le-ltb (length o) w.at (leb-true w.at (length o) tests.1))
 
-        pub write_done : (n : ℕ) (x : List ℕ) → Wrote o 0 (written (fields_in text h elements params)) n x → (r : Written) → r ≡ answer_of w (length o) → Writes text h elements params o r x
+        pub write_done : (n : ℕ) (x : List ℕ) → Wrote o 0 (written (fields_in text h elements params)) n x → (r : Result ℕ Refusal) → r ≡ answer_of w (length o) → Writes text h elements params o r x
         write_done n x u r z =
             record {
               answer = z ∙ answer_is;
-              output = u.holds ∙ written_front o (written (fields_in text h elements params)) ∙ sym (ap (λ (a : Written). output_after a (written (fields_in text h elements params)) o) (z ∙ done));
+              output = u.holds ∙ written_front o (written (fields_in text h elements params)) ∙ sym (ap (λ (a : Result ℕ Refusal). output_after a (written (fields_in text h elements params)) o) (z ∙ done));
             }
 
-      pub write_refused : b ≡ false → (r : Written) → r ≡ answer_of w (length o) → Writes text h elements params o r o
+      pub write_refused : b ≡ false → (r : Result ℕ Refusal) → r ≡ answer_of w (length o) → Writes text h elements params o r o
       write_refused q r z = record { answer = z ∙ answer_is; output = kept w.fits (dec_le w.at line_limit) (dec_le w.at (length o)) refl }
         where
           kept : (f : Bool) → Dec (w.at ≤ line_limit) → Dec (w.at ≤ length o) → w.fits ≡ f → o ≡ output_after r (written (fields_in text h elements params)) o
@@ -168,12 +168,12 @@ module _ (text : List ℕ) (h : Handed) (elements params : List (List ℕ)) (o :
           kept true (yes x) (yes y) g = clash (sym (e ∙ rw (g, le-leb w.at line_limit x, le-leb w.at (length o) y)) ∙ q)
 
 -- over the C boundary
-pub serves : (text : List ℕ) (h : Handed) (elements params : List (List ℕ)) (o : List ℕ) (r : Written) (x : List ℕ) → Writes text h elements params o r x → (a : OutputAnswer) → a ≡ output_answer_of r
+pub serves : (text : List ℕ) (h : Handed) (elements params : List (List ℕ)) (o : List ℕ) (r : Result ℕ Refusal) (x : List ℕ) → Writes text h elements params o r x → (a : OutputAnswer) → a ≡ output_answer_of r
     → ServesWrite text h elements params o a x
 serves text h elements params o r x w a e =
     record {
       answer = e ∙ ap output_answer_of w.answer;
-      output = w.output ∙ ap (λ (v : Written). output_after v (written (fields_in text h elements params)) o) w.answer;
+      output = w.output ∙ ap (λ (v : Result ℕ Refusal). output_after v (written (fields_in text h elements params)) o) w.answer;
     }
 
 pub one_answer : OneAnswer

@@ -1,11 +1,9 @@
 -- For private contracts alone: how the walks begin and end, and what is answered.
-use Rattle.std.specs.Prelude.{ℕ, ◌+◌, ◌≤◌, ◌≡◌, Bool, true, false, not, ◌&&◌, List, ltb, leb, length, get_or, take, if◌then◌else◌}
+use Rattle.std.specs.Prelude.{ℕ, ◌+◌, ◌≤◌, ◌≡◌, Bool, true, false, not, ◌&&◌, List, ltb, leb, length, get_or, take, if◌then◌else◌, Result, Ok, Err}
 use Rattle.base.specs.Texts.{all_different}
 use Rattle.record.specs.Limits.{line_limit}
 use Rattle.record.specs.Params.{blank}
 use Rattle.record.specs.declared.Param.{Param}
-use Rattle.record.specs.declared.Written.{Written}
-use Rattle.record.specs.declared.Written.TheVariants.{Done, Refused}
 use Rattle.record.specs.declared.Refusal.TheVariants.{Unwritable, LineTooLong, OutputShort}
 use Rattle.suits.specs.Suits.{elements_suit}
 use Rattle.output.specs.Output.{Wrote}
@@ -20,6 +18,7 @@ use Rattle.writer_header.specs.Fronts.{front_text}
 use Rattle.writer_data.specs.declared.Walk.{Walk}
 use Rattle.writer_data.specs.Sizes.{Capped}
 use Rattle.writer_data.specs.Walks.{first_text, id_fits, stopped_at}
+use Rattle.record.specs.declared.Refusal.{Refusal}
 
 -- the rows that count are in their table, and name places in the text
 pub record Rows (text : List ℕ) (count : ℕ) (elements : List (List ℕ)) : Type 0 where
@@ -62,12 +61,12 @@ abbrev pub entry_or : List Param → ℕ → ℕ → Param
 entry_or params i count = if ltb i count then get_or params i blank else blank
 
 -- refusals 17, 1 and 8, or the length
-abbrev pub answer_of : Walk → ℕ → Written
+abbrev pub answer_of : Walk → ℕ → Result ℕ Refusal
 answer_of w room =
-    if not w.fits then Refused Unwritable
-    else if ltb line_limit w.at then Refused LineTooLong
-    else if ltb room w.at then Refused OutputShort
-    else Done w.at
+    if not w.fits then Err Unwritable
+    else if ltb line_limit w.at then Err LineTooLong
+    else if ltb room w.at then Err OutputShort
+    else Ok w.at
 
 abbrev pub is_written : Walk → ℕ → Bool
 is_written w room = w.fits && leb w.at line_limit && leb w.at room

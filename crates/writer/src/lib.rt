@@ -16,7 +16,7 @@ ghost use Rattle.writer_data.specs.Walks.{first_text, step_text, Puts, Measures}
 ghost use Rattle.writer.specs.Serves.{ServesWrite};
 ghost use Rattle.writer.specs.Steps.{Rows, Entry, Begins, Named, settled, Opens, entry_or, is_written, answer_of, Measured};
 
-use record::{Level, OutputAnswer, Param, Place, Protocol, Record, Refusal, Span, Written};
+use record::{OutputAnswer, Param, Place, Protocol, Record, Refusal, Span};
 use writer_data::Walk;
 use writes::{Handed, Part};
 
@@ -40,8 +40,8 @@ fn record_in(h: Handed) -> Record
     let msgid = h.msgid;
     Record {
         protocol: Protocol::Rfc5424(h.version),
-        facility: Level::Unset,
-        severity: Level::Unset,
+        facility: None,
+        severity: None,
         timestamp: fitting::stamp_in(h),
         host: place_in(host),
         app: place_in(app),
@@ -191,19 +191,19 @@ fn put_end(out: &mut [u8], w: Walk, text: &[u8], h: Handed) -> usize
 }
 
 // Refusals 17, 1 and 8, or the length.
-fn answer(w: Walk, room: usize) -> Written
+fn answer(w: Walk, room: usize) -> Result<usize, Refusal>
     ensures { result ≡ answer_of w room }
 {
     if !w.fits {
-        return Written::Refused(Refusal::Unwritable);
+        return Err(Refusal::Unwritable);
     }
     if record::LINE_LIMIT < w.at {
-        return Written::Refused(Refusal::LineTooLong);
+        return Err(Refusal::LineTooLong);
     }
     if room < w.at {
-        return Written::Refused(Refusal::OutputShort);
+        return Err(Refusal::OutputShort);
     }
-    Written::Done(w.at)
+    Ok(w.at)
 }
 
 fn is_written(w: Walk, room: usize) -> bool
@@ -271,7 +271,7 @@ pub fn write<'a>(
     elements: &'a [[usize; 2]],
     params: &[Param],
     output: &mut [u8],
-) -> Written
+) -> Result<usize, Refusal>
     ensures { Writes text.now h elements.now (rows params.now) output.old result output.new }
 {
     let r = record_in(h);

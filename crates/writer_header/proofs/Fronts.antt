@@ -1,4 +1,5 @@
 -- The front of the line: its lengths, and what its tests say at their returns.
+use Rattle.std.specs.Prelude.{Option}
 use Prim.Native.Nat.{ℕ, ◌+◌, ◌≤◌}
 use mathlib.Core.Path.{◌≡◌, refl, sym, ap, ◌∙◌}
 use mathlib.Core.Bool.{true, ◌&&◌}
@@ -11,7 +12,6 @@ use Rattle.base.specs.Texts.{text_at}
 use Rattle.base.proofs.Tests.{both}
 use Rattle.suits.specs.Suits.{record_suits, stamp_suits}
 use Rattle.suits.proofs.Suited.{record_in_lem}
-use Rattle.record.specs.declared.Stamp.{Stamp}
 use Rattle.output.specs.Fits.{Sized}
 use Rattle.output.specs.Numerals.{width, numeral}
 use Rattle.output.proofs.Numerals.{length_fixed, width_le}
@@ -25,6 +25,7 @@ use Rattle.writes.specs.Writes.{part_in, stamp_in, record_in}
 use Rattle.writes.proofs.Fits.{text_sound}
 use Rattle.fitting.specs.Heads.{numbers_fit, names_fit, head_fits}
 use Rattle.writer_header.specs.Fronts.{part_text, names_text, front_text}
+use Rattle.record.specs.declared.Timestamp.{Timestamp}
 
 -- ---- a text or `-`
 
@@ -86,7 +87,7 @@ pub ruleset names_fits = (host_fits, app_fits, procid_fits, msgid_fits)
 
 -- ---- the timestamp
 
-module _ (h : Handed) (t : Stamp) (e : t ≡ stamp_in h) where
+module _ (h : Handed) (t : Option Timestamp) (e : t ≡ stamp_in h) where
   pub stamp_suits_lem : (text : List ℕ) → record_suits text (record_in h) ≡ true → stamp_suits t ≡ true
   stamp_suits_lem text s = rw e (record_in_lem text (record_in h) s).timestamp_in
 

@@ -14,7 +14,7 @@ ghost use Rattle.fitting.specs.Heads.{head_fits};
 ghost use Rattle.writer_header.specs.Fronts.{part_text, field_text, pri_text, start_text, stamped_text, pair_text, names_text, front_text};
 
 use output::{put, put_number};
-use record::Stamp;
+use record::Timestamp;
 use writes::{Handed, Part};
 
 // How many bytes a text takes that fits, or `-`.
@@ -90,7 +90,7 @@ fn put_start(out: &mut [u8], h: Handed) -> usize
 }
 
 // The timestamp's printer gets the part of the output after the version's space.
-fn put_stamp_at(out: &mut [u8], at: usize, timestamp: Stamp) -> usize
+fn put_stamp_at(out: &mut [u8], at: usize, timestamp: Option<Timestamp>) -> usize
     requires { Fits out.old at (stamp_text timestamp) }
     ensures { Wrote out.old at (stamp_text timestamp) result out.new }
 {

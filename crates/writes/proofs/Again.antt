@@ -1,5 +1,7 @@
 -- What a line says, written again: the same texts, but for the form of the offset and needless backslashes.
-use Rattle.std.specs.Prelude.{if◌then◌else◌}
+use Rattle.std.specs.Prelude as std
+use Rattle.std.specs.Prelude.{if◌then◌else◌, Some, None}
+use Rattle.record.specs.declared.Timestamp as stamped
 use Prim.Native.Nat.{ℕ, zero, suc, ◌+◌, ◌-◌, ◌*◌, ◌/◌, ◌%◌, ◌^◌, ◌≤◌, ◌<◌}
 use mathlib.Core.Path.{◌≡◌, refl, sym, ap, ◌∙◌}
 use mathlib.Core.Bool.{Bool, false, ◌&&◌, and-true}
@@ -23,8 +25,6 @@ use Rattle.lookup.specs.Unescape.{is_escaped, unescaped_from, unescaped}
 use Rattle.grammar.specs.Abnf.{Repeat}
 use Rattle.grammar.specs.Line.{Param, Element, Offset, Timestamp, Division, line_text, zero_led, PrivalOk, VersionOk, SecfracOk, NumOffsetOk, OffsetOk, FullOk, TimestampOk, Each, Derives}
 use Rattle.grammar.specs.Reading.{offset_of, nanos_of, digits_of, stamp_of}
-use Rattle.record.specs.declared.Stamp.{Stamp}
-use Rattle.record.specs.declared.Stamp.TheVariants.{Unstamped, Stamped}
 use Rattle.writes.specs.Fields.{Fields}
 use Rattle.writes.specs.Written.{escape, escape_params, escape_elements, or_dash, zone_of, timestamp_of, division_of, written, OwnOffset, OwnTimestamp, OwnValue, Own}
 use Rattle.writes.specs.Written.OwnValue.{nothing, plain, pair}
@@ -124,9 +124,9 @@ zone_own : (o : ℤ) → nat_abs o ≤ 1439 → OwnOffset (zone_of o)
 zone_own (pos n) h = tt
 zone_own (negsuc n) h = λ e. omega (arith, zone_minutes (suc n) h)
 
-timestamp_own : (t : Stamp) → Suitable t → OwnTimestamp (timestamp_of t)
-timestamp_own Unstamped h = tt
-timestamp_own (Stamped m) h = zone_own m.offset h.offset_in
+timestamp_own : (t : std.Option stamped.Timestamp) → Suitable t → OwnTimestamp (timestamp_of t)
+timestamp_own None h = tt
+timestamp_own (Some m) h = zone_own m.offset h.offset_in
 
 pub written_own : (f : Fields) → Writable f → Own (division_of f)
 unfolding division_of

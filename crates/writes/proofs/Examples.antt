@@ -1,4 +1,6 @@
 -- Worked examples, computed from the definitions: fields and the lines that are written of them, and what is refused.
+use Rattle.std.specs.Prelude as std
+use Rattle.std.specs.Prelude.{Some, None, Result, Ok, Err}
 use Prim.Native.Nat.{ℕ}
 use mathlib.Core.Path.{◌≡◌, refl}
 use mathlib.Core.Bool.{true, false}
@@ -12,10 +14,6 @@ use Rattle.base.specs.Runs.{run}
 use Rattle.utf8.specs.Lead.{lead_of, utf8_from}
 use Rattle.calendar.specs.Calendar.{leap, month_days, year_days, days_before_year, days_of_months}
 use Rattle.calendar.specs.Instant.{span_from, year_of, month_of, clock_of, shown}
-use Rattle.record.specs.declared.Stamp.{Stamp}
-use Rattle.record.specs.declared.Stamp.TheVariants.{Unstamped, Stamped}
-use Rattle.record.specs.declared.Written.{Written}
-use Rattle.record.specs.declared.Written.TheVariants.{Done, Refused}
 use Rattle.record.specs.declared.Refusal.TheVariants.{Unsuitable, Unwritable, LineTooLong, OutputShort}
 use Rattle.digits.specs.Digits.{decimal_from}
 use Rattle.output.specs.Numerals.{fixed, width_from}
@@ -33,11 +31,13 @@ use Rattle.claims.specs.Claims.{claim_of}
 use Rattle.writes.specs.Told.{told_fields}
 use Rattle.writes.specs.Fits.{fields_fit}
 use Rattle.writes.specs.Writes.{place_in, fields_in, answered}
+use Rattle.record.specs.declared.Timestamp.{Timestamp}
+use Rattle.record.specs.declared.Refusal.{Refusal}
 
-abbrev stamp : ℤ → ℕ → ℕ → ℤ → Stamp
-stamp s n d o = Stamped (record { seconds = s; nanos = n; digits = d; offset = o })
+abbrev stamp : ℤ → ℕ → ℕ → ℤ → std.Option Timestamp
+stamp s n d o = Some (record { seconds = s; nanos = n; digits = d; offset = o })
 
-abbrev tap : Stamp → List ℕ → Option (List ℕ) → Fields
+abbrev tap : std.Option Timestamp → List ℕ → Option (List ℕ) → Fields
 tap t value m =
     record {
       priority = 34;
@@ -53,9 +53,9 @@ tap t value m =
 
 -- an absent and an empty message, NUL in a value, the digits of the count, an offset of 0, one and almost two hours east, one hour and the most west
 lines : map written
-    (tap Unstamped (bytes "212") (some (bytes "ok"))
-    ∷ tap Unstamped (bytes "a\"b\\c]d\\n") none
-    ∷ tap Unstamped (65 ∷ 0 ∷ 66 ∷ []) none
+    (tap None (bytes "212") (some (bytes "ok"))
+    ∷ tap None (bytes "a\"b\\c]d\\n") none
+    ∷ tap None (65 ∷ 0 ∷ 66 ∷ []) none
     ∷ tap (stamp (pos 1675587662) 500000000 6 (pos 60)) [] (some [])
     ∷ tap (stamp (pos 0) 0 1 (pos 0)) [] none
     ∷ tap (stamp (pos 0) 0 0 (pos 119)) [] none
@@ -80,7 +80,7 @@ pair =
     record {
       priority = 165;
       version = 12;
-      timestamp = Unstamped;
+      timestamp = None;
       host = none;
       app = some (bytes "a");
       procid = some (bytes "-7");
@@ -111,15 +111,15 @@ not_own f = f refl
 
 -- ---- what breaks the grammar: on each side of each limit
 
-abbrev bare : ℕ → ℕ → Stamp → Fields
+abbrev bare : ℕ → ℕ → std.Option Timestamp → Fields
 bare p v t = record { priority = p; version = v; timestamp = t; host = none; app = none; procid = none; msgid = none; elements = []; message = none }
 
 numbers : map fields_fit
-    (bare 191 1 Unstamped
-    ∷ bare 192 1 Unstamped
-    ∷ bare 0 0 Unstamped
-    ∷ bare 0 999 Unstamped
-    ∷ bare 0 1000 Unstamped
+    (bare 191 1 None
+    ∷ bare 192 1 None
+    ∷ bare 0 0 None
+    ∷ bare 0 999 None
+    ∷ bare 0 1000 None
     ∷ bare 0 1 (stamp (pos 0) 0 6 (pos 0))
     ∷ bare 0 1 (stamp (pos 0) 0 7 (pos 0))
     ∷ [])
@@ -128,7 +128,7 @@ unfolding fields_fit
 numbers = refl
 
 abbrev named : Option (List ℕ) → Option (List ℕ) → Option (List ℕ) → Option (List ℕ) → Fields
-named h a p m = record { priority = 0; version = 1; timestamp = Unstamped; host = h; app = a; procid = p; msgid = m; elements = []; message = none }
+named h a p m = record { priority = 0; version = 1; timestamp = None; host = h; app = a; procid = p; msgid = m; elements = []; message = none }
 
 texts : map fields_fit
     (named (some (replicate 255 33)) (some (replicate 48 126)) (some (replicate 128 33)) (some (replicate 32 126))
@@ -151,7 +151,7 @@ given ids name value m =
     record {
       priority = 0;
       version = 1;
-      timestamp = Unstamped;
+      timestamp = None;
       host = none;
       app = none;
       procid = none;
@@ -208,7 +208,7 @@ marks : map (λ (mark : ℕ). (place_in (part mark 3 4)).present) (0 ∷ 1 ∷ 2
 marks = refl
 
 -- over the text `ab`, with the element `a` and in it the parameter `b`, whose value is `ab`
-abbrev answers : Handed → ℕ → ℕ → Written
+abbrev answers : Handed → ℕ → ℕ → Result ℕ Refusal
 answers h number room = answered (bytes "ab") h ((0 ∷ 1 ∷ []) ∷ []) ((number ∷ 1 ∷ 1 ∷ 0 ∷ 2 ∷ []) ∷ []) room
 
 written_or_not :
@@ -222,21 +222,21 @@ written_or_not :
     ∷ answers (handed 1 (part 1 0 2) (part 0 0 0) 10) 0 51
     ∷ answers (handed 1 (part 1 0 2) (part 0 0 0) 7) 0 51
     ∷ []
-    ≡ Done 50
-    ∷ Done 51
-    ∷ Refused OutputShort
-    ∷ Refused Unwritable
-    ∷ Refused Unsuitable
-    ∷ Refused Unsuitable
-    ∷ Refused Unsuitable
-    ∷ Refused Unsuitable
-    ∷ Refused Unwritable
+    ≡ Ok 50
+    ∷ Ok 51
+    ∷ Err OutputShort
+    ∷ Err Unwritable
+    ∷ Err Unsuitable
+    ∷ Err Unsuitable
+    ∷ Err Unsuitable
+    ∷ Err Unsuitable
+    ∷ Err Unwritable
     ∷ []
 unfolding answered fields_in fields_fit suits record_suits tables_suit elements_suit params_suit run lead_of utf8_from escape division_of fixed width_from leap month_days year_days days_before_year days_of_months span_from year_of month_of clock_of shown
 written_or_not = refl
 
 -- a message of 8,175 bytes makes a line of 8,192 bytes, and one byte more makes one that is too long
-abbrev long : ℕ → Written
+abbrev long : ℕ → Result ℕ Refusal
 long n =
     answered (replicate 8176 97)
     (record {
@@ -257,6 +257,6 @@ long n =
     })
     [] [] 8192
 
-limit : long 8175 ∷ long 8176 ∷ [] ≡ Done 8192 ∷ Refused LineTooLong ∷ []
+limit : long 8175 ∷ long 8176 ∷ [] ≡ Ok 8192 ∷ Err LineTooLong ∷ []
 unfolding answered fields_in fields_fit suits record_suits tables_suit elements_suit params_suit run lead_of utf8_from escape division_of fixed width_from
 limit = refl

@@ -1,5 +1,6 @@
 -- The tests of refusals 7 and 17 say what the rules say.
-use Rattle.std.specs.Prelude.{if◌then◌else◌}
+use Rattle.std.specs.Prelude as std
+use Rattle.std.specs.Prelude.{if◌then◌else◌, Some, None}
 use Prim.Native.Nat.{ℕ, ◌-◌, ◌%◌, ◌^◌}
 use mathlib.Core.Path.{◌≡◌, refl, sym, ap, ◌∙◌}
 use mathlib.Core.Bool.{Bool, true, not, ◌&&◌}
@@ -22,8 +23,6 @@ use Rattle.utf8.specs.Rfc3629.{Utf8}
 use Rattle.utf8.specs.Lead.{is_utf8}
 use Rattle.utf8.proofs.Texts.{utf8_sound, utf8_complete}
 use Rattle.calendar.specs.Calendar.{offset_limit}
-use Rattle.record.specs.declared.Stamp.{Stamp}
-use Rattle.record.specs.declared.Stamp.TheVariants.{Unstamped, Stamped}
 use Rattle.suits.specs.Suits.{stamp_suits}
 use Rattle.suits.proofs.Suited.{stamp_in_lem}
 use Rattle.grammar.specs.Abnf.{print_us_ascii, sd_name_byte, Repeat}
@@ -33,6 +32,7 @@ use Rattle.writes.specs.Fields.{Fields}
 use Rattle.writes.specs.Fits.{digits_fit, class_fits, text_fits, param_fits, params_fit, elements_fit, message_fits, fields_fit}
 use Rattle.writes.proofs.Rules.{Suitable, FewDigits, TextOk, RawParamOk, RawElementOk, Writable}
 use Rattle.writes.proofs.Texts.{dash_is}
+use Rattle.record.specs.declared.Timestamp.{Timestamp}
 
 pub all_both : (a b : Bool) → a ≡ true → b ≡ true → (a && b) ≡ true
 all_both a b p q = rw (p, q)
@@ -72,13 +72,13 @@ message_complete (some m) h = message_test m h
 
 -- ---- the timestamp
 
-suits_sound : (t : Stamp) → stamp_suits t ≡ true → Suitable t
-suits_sound Unstamped h = tt
-suits_sound (Stamped t) h = stamp_in_lem t h
+suits_sound : (t : std.Option Timestamp) → stamp_suits t ≡ true → Suitable t
+suits_sound None h = tt
+suits_sound (Some t) h = stamp_in_lem t h
 
-suits_complete : (t : Stamp) → Suitable t → stamp_suits t ≡ true
-suits_complete Unstamped h = refl
-suits_complete (Stamped t) h =
+suits_complete : (t : std.Option Timestamp) → Suitable t → stamp_suits t ≡ true
+suits_complete None h = refl
+suits_complete (Some t) h =
     rw (
       le-leb t.nanos 999999999 h.nanos_in,
       le-leb t.digits 9 h.digits_in,
@@ -87,13 +87,13 @@ suits_complete (Stamped t) h =
       h.shows,
     )
 
-digits_sound : (t : Stamp) → digits_fit t ≡ true → FewDigits t
-digits_sound Unstamped h = tt
-digits_sound (Stamped m) h = leb-true m.digits 6 h
+digits_sound : (t : std.Option Timestamp) → digits_fit t ≡ true → FewDigits t
+digits_sound None h = tt
+digits_sound (Some m) h = leb-true m.digits 6 h
 
-digits_complete : (t : Stamp) → FewDigits t → digits_fit t ≡ true
-digits_complete Unstamped h = refl
-digits_complete (Stamped m) h = le-leb m.digits 6 h
+digits_complete : (t : std.Option Timestamp) → FewDigits t → digits_fit t ≡ true
+digits_complete None h = refl
+digits_complete (Some m) h = le-leb m.digits 6 h
 
 -- ---- texts and elements
 

@@ -1,5 +1,5 @@
 -- The laws of the writer, from its contract.
-use Rattle.std.specs.Prelude.{if◌then◌else◌}
+use Rattle.std.specs.Prelude.{if◌then◌else◌, Result, Ok, Err}
 use Prim.Native.Nat.{ℕ, suc, ◌+◌, ◌≤◌}
 use mathlib.Core.Path.{◌≡◌, refl, sym, ap, ◌∙◌, subst}
 use mathlib.Core.Bool.{Bool, true, false, not}
@@ -13,8 +13,6 @@ use borrow.Author.Tests.{le-ltb, ltb-false}
 use Rattle.base.proofs.Tests.{clash, both, by_test}
 use Rattle.record.specs.Limits.{line_limit}
 use Rattle.record.specs.declared.StrictReading.{StrictReading}
-use Rattle.record.specs.declared.Written.{Written}
-use Rattle.record.specs.declared.Written.TheVariants.{Done, Refused}
 use Rattle.record.specs.declared.Refusal.TheVariants.{Unsuitable, Unwritable, LineTooLong, OutputShort}
 use Rattle.output.specs.Output.{output_after}
 use Rattle.suits.specs.Suits.{stamp_suits, suits}
@@ -34,16 +32,17 @@ use Rattle.writes.proofs.Lines.{written_derives, written_said, division_is, said
 use Rattle.writes.proofs.Reading.{told_said, reader_tells}
 use Rattle.writes.proofs.Again.{written_again, written_own}
 use Rattle.writes.proofs.Fits.{fits_sound, fits_complete}
+use Rattle.record.specs.declared.Refusal.{Refusal}
 
 -- ---- what an answer went through
 
-abbrev is_done : Written → Bool
-is_done (Done n) = true
-is_done (Refused f) = false
+abbrev is_done : Result ℕ Refusal → Bool
+is_done (Ok n) = true
+is_done (Err f) = false
 
-abbrev len_of : Written → ℕ
-len_of (Done n) = n
-len_of (Refused f) = 0
+abbrev len_of : Result ℕ Refusal → ℕ
+len_of (Ok n) = n
+len_of (Err f) = 0
 
 record Passed (a b c d : Bool) (m n : ℕ) : Type 0 where
   pub suitable : a ≡ true
@@ -53,7 +52,7 @@ record Passed (a b c d : Bool) (m n : ℕ) : Type 0 where
   pub size : n ≡ m
 
 passed : (a b c d : Bool) (m n : ℕ)
-    → Done n ≡ (if not a then Refused Unsuitable else if not b then Refused Unwritable else if c then Refused LineTooLong else if d then Refused OutputShort else Done m)
+    → Ok n ≡ (if not a then Err Unsuitable else if not b then Err Unwritable else if c then Err LineTooLong else if d then Err OutputShort else Ok m)
     → Passed a b c d m n
 passed false b c d m n h = clash (ap is_done h)
 passed true false c d m n h = clash (ap is_done h)
@@ -97,7 +96,7 @@ module _ (text : List ℕ) (h : Handed) (elements params : List (List ℕ)) wher
     pub short : length (written handed) ≤ line_limit
     pub line : take n after ≡ written handed
 
-  module _ (before after : List ℕ) (n : ℕ) (w : Writes text h elements params before (Done n) after) where
+  module _ (before after : List ℕ) (n : ℕ) (w : Writes text h elements params before (Ok n) after) where
     wrote : Wrote before n after
     unfolding answered
     wrote =
@@ -117,7 +116,7 @@ module _ (text : List ℕ) (h : Handed) (elements params : List (List ℕ)) wher
     unfolding fields_in
     params_most = omega (arith, told_params_lem text 0 (take h.element_count elements) (take h.param_count params), length-take h.param_count params)
 
-    back : (e₀ p₀ : List (List ℕ)) (r : StrictReading) (e₁ p₁ : List (List ℕ)) → StrictReads (take n after) e₀ p₀ r e₁ p₁
+    back : (e₀ p₀ : List (List ℕ)) (r : Result StrictReading Refusal) (e₁ p₁ : List (List ℕ)) → StrictReads (take n after) e₀ p₀ r e₁ p₁
         → h.element_count ≤ length e₀ → h.param_count ≤ length p₀ → answer_told (take n after) r e₁ p₁ ≡ some handed
     back e₀ p₀ r e₁ p₁ s room space =
         let o = wrote in
@@ -131,9 +130,9 @@ module _ (text : List ℕ) (h : Handed) (elements params : List (List ℕ)) wher
         let q = division_is handed o.writable d (subst (λ (l : List ℕ). Derives l d) o.line s) in
         subst Own (sym q) (written_own handed o.writable)
 
-  nothing_else : (before : List ℕ) (w : Written) (after : List ℕ) → Writes text h elements params before w after
+  nothing_else : (before : List ℕ) (w : Result ℕ Refusal) (after : List ℕ) → Writes text h elements params before w after
       → suits text (record_in h) h.element_count h.param_count elements params ≡ true
-      → Writable handed → length (written handed) ≤ line_limit → length (written handed) ≤ length before → w ≡ Done (length (written handed))
+      → Writable handed → length (written handed) ≤ line_limit → length (written handed) ≤ length before → w ≡ Ok (length (written handed))
   unfolding answered
   nothing_else before w after u s f l r =
       u.answer ∙ rw (s, fits_complete handed f, le-ltb line_limit (length (written handed)) l, le-ltb (length before) (length (written handed)) r)
@@ -147,7 +146,7 @@ pub nothing_else_refused : NothingElseRefused
 nothing_else_refused text h elements params before w after u s line d k e l r =
     let q : written (fields_of d) ≡ written (fields_in text h elements params) = ap written e in
     let m : length (written (fields_of d)) ≡ length (written (fields_in text h elements params)) = ap length q in
-    nothing_else text h elements params before w after u s (subst Writable e (said_writable line d k)) (omega arith) (omega arith) ∙ ap Done (sym m)
+    nothing_else text h elements params before w after u s (subst Writable e (said_writable line d k)) (omega arith) (omega arith) ∙ ap Ok (sym m)
 
 pub reader_told : ReaderTells
 reader_told line d h = told_said line d h
@@ -164,4 +163,4 @@ own_form text h elements params before after n w d s = own text h elements param
 pub one_writing : OneWriting
 one_writing text h elements params before w v x y a b =
     let e : w ≡ v = a.answer ∙ sym b.answer in
-    (e, a.output ∙ ap (λ (r : Written). output_after r (written (fields_in text h elements params)) before) e ∙ sym b.output)
+    (e, a.output ∙ ap (λ (r : Result ℕ Refusal). output_after r (written (fields_in text h elements params)) before) e ∙ sym b.output)

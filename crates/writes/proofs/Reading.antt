@@ -1,5 +1,5 @@
 -- What a record and the rows tell of a line is what its division says; so the strict reader, on a line that was written, tells the fields handed in.
-use Rattle.std.specs.Prelude.{if◌then◌else◌}
+use Rattle.std.specs.Prelude.{if◌then◌else◌, Result, Ok}
 use Prim.Native.Nat.{ℕ, suc, ◌+◌, ◌*◌, ◌/◌, ◌%◌, ◌≤◌}
 use mathlib.Core.Path.{◌≡◌, refl, sym, ap, ap₂, ◌∙◌}
 use mathlib.Core.Bool.{◌&&◌}
@@ -16,7 +16,6 @@ use Rattle.base.proofs.Tests.{by_test}
 use Rattle.digits.specs.Digits.{decimal}
 use Rattle.record.specs.Places.{absent, place}
 use Rattle.record.specs.declared.StrictReading.{StrictReading}
-use Rattle.record.specs.declared.StrictReading.TheVariants.{Read}
 use Rattle.grammar.specs.Line.{Param, Element, param_then, Division, element_then, data_then, message_text, ElementOk, Each, Derives}
 use Rattle.grammar.specs.Reading.{place_of, message_span, message_flag, data_at, data_end, record_of, element_rows, rows_of_params, param_rows, param_count, StrictReads}
 use Rattle.grammar.specs.Reading.StrictReads.{too_long, underivable, elements_over, params_over, accepted}
@@ -30,6 +29,7 @@ use Rattle.claims.proofs.Places.{Here, here_next, here_text, here_as, laid}
 use Rattle.writes.proofs.Rules.{Writable}
 use Rattle.writes.proofs.Lines.{written_derives, written_said, division_is}
 use Rattle.writes.proofs.Rows.{elements_told}
+use Rattle.record.specs.declared.Refusal.{Refusal}
 
 pub text_told : (line : List ℕ) (at : ℕ) (t : List ℕ) → text_at line at (length t) ≡ t → told_text line (place_of at t) ≡ said_text t
 text_told line at t e =
@@ -82,7 +82,7 @@ front_rows n rows old e = take_at rows (drop (length rows) old) n e
 
 -- what is accepted tells what the division says
 pub accepted_told : (line : List ℕ) (d : Division) (e₀ p₀ : List (List ℕ)) → Derives line d
-    → answer_told line (Read (record_of d) (length d.elements) (param_count d.elements))
+    → answer_told line (Ok (record { reading = record_of d; elements = length d.elements; params = param_count d.elements }))
     (filled (element_rows (data_at d) d.elements) e₀) (filled (param_rows 0 (data_at d) d.elements) p₀)
     ≡ some (fields_of d)
 unfolding claim_of
@@ -115,7 +115,7 @@ module _ (f : Fields) (w : Writable f) (short : length (written f) ≤ line_limi
   unfolding division_of
   params_in_lem d h = ap (λ (x : Division). param_count x.elements) (division_is f w d h) ∙ count_written f.elements
 
-  pub reader_tells : (r : StrictReading) (e₁ p₁ : List (List ℕ)) → StrictReads (written f) e₀ p₀ r e₁ p₁ → answer_told (written f) r e₁ p₁ ≡ some f
+  pub reader_tells : (r : Result StrictReading Refusal) (e₁ p₁ : List (List ℕ)) → StrictReads (written f) e₀ p₀ r e₁ p₁ → answer_told (written f) r e₁ p₁ ≡ some f
   reader_tells r e₁ p₁ (too_long l a b c) = absurd (omega arith)
   reader_tells r e₁ p₁ (underivable l h a b c) = absurd (h (division_of f) (written_derives f w))
   reader_tells r e₁ p₁ (elements_over d l h m a b c) = absurd (omega (arith, elements_in_lem d h))

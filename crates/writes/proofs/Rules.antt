@@ -1,24 +1,25 @@
 -- The rules of the fields, as facts: refusal 7 for the timestamp, refusal 17 for the rest.
+use Rattle.std.specs.Prelude as std
+use Rattle.std.specs.Prelude.{Some, None}
 use Prim.Native.Nat.{ℕ, ◌≤◌}
 use mathlib.Core.Path.{◌≡◌}
 use mathlib.Core.List.{List, [], ◌∷◌}
 use mathlib.Core.Option.{Option, none, some}
 use Rattle.base.specs.Texts.{Distinct}
 use Rattle.utf8.specs.Rfc3629.{Utf8}
-use Rattle.record.specs.declared.Stamp.{Stamp}
-use Rattle.record.specs.declared.Stamp.TheVariants.{Unstamped, Stamped}
 use Rattle.suits.proofs.Suited.{StampIn}
 use Rattle.grammar.specs.Abnf.{print_us_ascii, sd_name_byte, Repeat}
 use Rattle.grammar.specs.Line.{Param, Element, Each, MessageOk, ids_of}
 use Rattle.writes.specs.Fields.{Fields}
+use Rattle.record.specs.declared.Timestamp.{Timestamp}
 
-abbrev pub Suitable : Stamp → Type 0
-Suitable Unstamped = Unit {0}
-Suitable (Stamped t) = StampIn t
+abbrev pub Suitable : std.Option Timestamp → Type 0
+Suitable None = Unit {0}
+Suitable (Some t) = StampIn t
 
-abbrev pub FewDigits : Stamp → Type 0
-FewDigits Unstamped = Unit {0}
-FewDigits (Stamped t) = t.digits ≤ 6
+abbrev pub FewDigits : std.Option Timestamp → Type 0
+FewDigits None = Unit {0}
+FewDigits (Some t) = t.digits ≤ 6
 
 pub record GivenOk (most : ℕ) (t : List ℕ) : Type 0 where
   pub bytes : Repeat 1 most print_us_ascii t

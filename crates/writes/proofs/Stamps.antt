@@ -1,4 +1,6 @@
 -- The timestamp: what is written of it is a timestamp of the grammar and says the same; and what a timestamp of the grammar says may be written.
+use Rattle.std.specs.Prelude as std
+use Rattle.std.specs.Prelude.{Some, None}
 use Prim.Native.Nat.{ℕ, suc, ◌≤◌}
 use mathlib.Core.Path.{◌≡◌, refl, ap}
 use mathlib.Core.Bool.{true}
@@ -8,8 +10,6 @@ use lib.IntN.{ℤ, pos, negsuc, neg_ℤ, nat_abs}
 use Rattle.calendar.specs.Calendar.{valid}
 use Rattle.calendar.specs.Instant.{shown}
 use Rattle.calendar.proofs.ThereAndBack.{back, shown_valid, shown_seconds}
-use Rattle.record.specs.declared.Stamp.{Stamp}
-use Rattle.record.specs.declared.Stamp.TheVariants.{Unstamped, Stamped}
 use Rattle.record.specs.declared.Timestamp as instant
 use Rattle.suits.proofs.Suited.{StampIn}
 use Rattle.grammar.specs.Line.{Timestamp, OffsetOk, FullOk, TimestampOk}
@@ -40,7 +40,7 @@ module _ (m : instant.Timestamp) (h : StampIn m) (few : m.digits ≤ 6) where
       rw h.shows
       (texts_ok h.clock clock_valid (secfrac_of m.digits m.nanos) (frac_ok m.digits m.nanos few) (zone_of m.offset) (zone_ok m.offset h.offset_in))
 
-  instant_said : stamp_of (timestamp_of (Stamped m)) ≡ Stamped m
+  instant_said : stamp_of (timestamp_of (Some m)) ≡ Some m
   instant_said =
       let c = h.clock in
       rw (
@@ -52,13 +52,13 @@ module _ (m : instant.Timestamp) (h : StampIn m) (few : m.digits ≤ 6) where
         shown_seconds m.seconds m.offset c h.shows,
       )
 
-pub timestamp_written : (t : Stamp) → Suitable t → FewDigits t → TimestampOk (timestamp_of t)
-timestamp_written Unstamped h f = tt
-timestamp_written (Stamped m) h f = instant_ok m h f
+pub timestamp_written : (t : std.Option instant.Timestamp) → Suitable t → FewDigits t → TimestampOk (timestamp_of t)
+timestamp_written None h f = tt
+timestamp_written (Some m) h f = instant_ok m h f
 
-pub timestamp_said : (t : Stamp) → Suitable t → FewDigits t → stamp_of (timestamp_of t) ≡ t
-timestamp_said Unstamped h f = refl
-timestamp_said (Stamped m) h f = instant_said m h f
+pub timestamp_said : (t : std.Option instant.Timestamp) → Suitable t → FewDigits t → stamp_of (timestamp_of t) ≡ t
+timestamp_said None h f = refl
+timestamp_said (Some m) h f = instant_said m h f
 
 -- ---- what a timestamp of the grammar says
 

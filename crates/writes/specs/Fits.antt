@@ -1,21 +1,21 @@
 -- Refusal 17: the fields that the grammar has a line for, apart from the timestamp's own rules (refusal 7).
-use Rattle.std.specs.Prelude.{ℕ, Bool, true, not, ◌&&◌, List, [], ◌∷◌, leb, eqb, length}
+use Rattle.std.specs.Prelude as std
+use Rattle.std.specs.Prelude.{ℕ, Bool, true, not, ◌&&◌, List, [], ◌∷◌, leb, eqb, length, Some, None}
 use Rattle.std.proofs.Math.Option.{Option, none, some}
 use Rattle.base.specs.Choose.{within, is_at}
 use Rattle.base.specs.Runs.{run}
 use Rattle.base.specs.Texts.{all_different}
 use Rattle.utf8.specs.Lead.{is_utf8}
-use Rattle.record.specs.declared.Stamp.{Stamp}
-use Rattle.record.specs.declared.Stamp.TheVariants.{Unstamped, Stamped}
 use Rattle.grammar.specs.Abnf.{print_us_ascii, sd_name_byte}
 use Rattle.grammar.specs.Line.{Param, Element, ids_of}
 use Rattle.grammar.specs.Parse.{is_message}
 use Rattle.writes.specs.Fields.{Fields}
+use Rattle.record.specs.declared.Timestamp.{Timestamp}
 
 -- the fraction has at most six digits
-abbrev pub digits_fit : Stamp → Bool
-digits_fit Unstamped = true
-digits_fit (Stamped t) = leb t.digits 6
+abbrev pub digits_fit : std.Option Timestamp → Bool
+digits_fit None = true
+digits_fit (Some t) = leb t.digits 6
 
 -- 1*most of a class
 abbrev pub class_fits : ℕ → (ℕ → Bool) → List ℕ → Bool

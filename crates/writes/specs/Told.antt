@@ -1,16 +1,16 @@
 -- The fields that a strict record and the rows of both tables tell of their line.
-use Rattle.std.specs.Prelude.{ℕ, ◌+◌, Bool, List, [], ◌∷◌, eqb, get_or, take, if◌then◌else◌}
+use Rattle.std.specs.Prelude.{ℕ, ◌+◌, Bool, List, [], ◌∷◌, eqb, get_or, take, if◌then◌else◌, Result, Ok, Err}
 use Rattle.std.proofs.Math.Option.{Option, none, some}
 use Rattle.base.specs.Texts.{text_at}
 use Rattle.record.specs.declared.Place.{Place}
 use Rattle.record.specs.declared.Span.{Span}
 use Rattle.record.specs.declared.StrictReading.{StrictReading}
-use Rattle.record.specs.declared.StrictReading.TheVariants.{Read, Refused}
 use Rattle.grammar.specs.Line.{Param, Element}
 use Rattle.claims.specs.Claims.{Claim}
 use Rattle.claims.specs.Texts.{version_of, priority_of}
 use Rattle.writes.specs.Fields.{Fields}
 use Rattle.writes.specs.Says.{said_elements}
+use Rattle.record.specs.declared.Refusal.{Refusal}
 
 abbrev pub told_text : List ℕ → Place → Option (List ℕ)
 told_text line p = if p.present then some (text_at line p.start p.len) else none
@@ -56,6 +56,6 @@ told_fields line c =
     }
 
 -- what an answer of the strict reader and the tables that it filled tell
-abbrev pub answer_told : List ℕ → StrictReading → List (List ℕ) → List (List ℕ) → Option Fields
-answer_told line (Refused f) elements params = none
-answer_told line (Read r e p) elements params = some (told_fields line (record { reading = r; elements = take e elements; params = take p params }))
+abbrev pub answer_told : List ℕ → Result StrictReading Refusal → List (List ℕ) → List (List ℕ) → Option Fields
+answer_told line (Err f) elements params = none
+answer_told line (Ok x) elements params = some (told_fields line (record { reading = x.reading; elements = take x.elements elements; params = take x.params params }))

@@ -1,10 +1,10 @@
 -- The line that is written. Each field's text, laid out as the grammar lays out a division.
-use Rattle.std.specs.Prelude.{ℕ, suc, ◌+◌, ◌*◌, ◌/◌, ◌%◌, ◌≡◌, true, false, List, [], ◌∷◌, ℤ, pos, negsuc, if◌then◌else◌}
+use Rattle.std.specs.Prelude as std
+use Rattle.std.specs.Prelude.{ℕ, suc, ◌+◌, ◌*◌, ◌/◌, ◌%◌, ◌≡◌, true, false, List, [], ◌∷◌, ℤ, pos, negsuc, if◌then◌else◌, Some, None}
+use Rattle.record.specs.declared.Timestamp as stamped
 use Rattle.std.proofs.Math.Option.{Option, none, some}
 use Rattle.digits.specs.Digits.{decimal}
 use Rattle.calendar.specs.Instant.{shown}
-use Rattle.record.specs.declared.Stamp.{Stamp}
-use Rattle.record.specs.declared.Stamp.TheVariants.{Unstamped, Stamped}
 use Rattle.output.specs.Numerals.{fixed, numeral}
 use Rattle.lookup.specs.Unescape.{is_escaped}
 use Rattle.claims.specs.Texts.{clock_in, secfrac_of, clock_texts}
@@ -35,9 +35,9 @@ zone_of (pos n) = Offset.east (fixed 2 (n / 60)) (fixed 2 (n % 60))
 zone_of (negsuc n) = Offset.west (fixed 2 (suc n / 60)) (fixed 2 (suc n % 60))
 
 -- the clock that the instant shows, exactly the count's digits, and with none no point
-abbrev pub timestamp_of : Stamp → Option Timestamp
-timestamp_of Unstamped = none
-timestamp_of (Stamped t) =
+abbrev pub timestamp_of : std.Option stamped.Timestamp → Option Timestamp
+timestamp_of None = none
+timestamp_of (Some t) =
     some (clock_texts (clock_in (shown t.seconds t.offset)) (secfrac_of t.digits t.nanos) (zone_of t.offset))
 
 -- the texts of the fields

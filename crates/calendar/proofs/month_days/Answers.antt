@@ -1,12 +1,5 @@
-use Rattle.std.proofs.Common.{arith}
-use Rattle.calendar.proofs.Dates.{row_index, month_at}
+use Rattle.calendar.proofs.Dates.{month_at}
 use Rattle.calendar.proofs.month_days.Goals as goal
-
-pub offset_bounds-l : goal.offset_bounds-l
-offset_bounds-l c = omega (arith, row_index c.args.y _ c.leap_row-l.ensures)
-
-pub bounds-l : goal.bounds-l
-bounds-l c = search row_index
 
 pub returns : goal.returns
 returns c = search month_at

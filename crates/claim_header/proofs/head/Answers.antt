@@ -1,39 +1,18 @@
-use Rattle.std.proofs.Common.{rules}
-use Rattle.claim_header.proofs.Heads.{head_laws}
+use Rattle.std.proofs.Common.{◌∙◌, rules}
+use Rattle.claim_header.proofs.Heads.{head_no_facility, head_no_severity, head_laws}
 use Rattle.claim_header.proofs.head.Goals as goal
 
-pub enum_known-facility : goal.enum_known-facility
-enum_known-facility c = search (head_laws, rules)
+pub returns-in_err-f : goal.returns-in_err-f
+returns-in_err-f c = c.from_residual.ensures ∙ head_no_facility _ _ _ _ c.in_err-f.was
+
+pub returns-in_err-s : goal.returns-in_err-s
+returns-in_err-s c = c.from_residual-in_err-s.ensures ∙ head_no_severity _ _ _ _ _ c.in_ok-f.was c.in_err-s.was
 
 pub returns-in_default : goal.returns-in_default
-returns-in_default c = search (head_laws, rules)
-
-pub enum_known-severity : goal.enum_known-severity
-enum_known-severity c = search (head_laws, rules)
-
-pub enum_told-in_default-severity : goal.enum_told-in_default-severity
-enum_told-in_default-severity c = search (head_laws, rules)
-
-pub returns-in_default-severity : goal.returns-in_default-severity
-returns-in_default-severity c = search (head_laws, rules)
-
-pub enum_known-protocol : goal.enum_known-protocol
-enum_known-protocol c = search (head_laws, rules)
-
-pub enum_told-in_default-protocol : goal.enum_told-in_default-protocol
-enum_told-in_default-protocol c = search (head_laws, rules)
-
-pub returns-in_default-protocol : goal.returns-in_default-protocol
-returns-in_default-protocol c = search (head_laws, rules)
+returns-in_default c = let f = c.in_ok-f.was in let s = c.in_ok-s.was in search (head_laws, rules)
 
 pub returns-then-not-f-s : goal.returns-then-not-f-s
-returns-then-not-f-s c = search (head_laws, rules)
-
-pub priority_of-requires : goal.priority_of-requires
-priority_of-requires c = search (head_laws, rules)
-
-pub numbers-requires : goal.numbers-requires
-numbers-requires c = search (head_laws, rules)
+returns-then-not-f-s c = let f = c.in_ok-f.was in let s = c.in_ok-s.was in search (head_laws, rules)
 
 pub returns : goal.returns
-returns c = search (head_laws, rules)
+returns c = let f = c.in_ok-f.was in let s = c.in_ok-s.was in search (head_laws, rules)

@@ -11,11 +11,11 @@ returns-then-d-eq0-clause-upper_bound c = search (done_laws, rules)
 pub returns-then-d-eq0-clause-out_len_unchanged : goal.returns-then-d-eq0-clause-out_len_unchanged
 returns-then-d-eq0-clause-out_len_unchanged c = search (done_laws, rules)
 
-pub returns-clause-wrote : goal.returns-clause-wrote
-returns-clause-wrote c = search (done_laws, rules)
+pub returns-else-d-eq0-clause-wrote : goal.returns-else-d-eq0-clause-wrote
+returns-else-d-eq0-clause-wrote c = search (done_laws, rules)
 
-pub returns-clause-upper_bound : goal.returns-clause-upper_bound
-returns-clause-upper_bound c = search (done_laws, rules)
+pub returns-else-d-eq0-clause-upper_bound : goal.returns-else-d-eq0-clause-upper_bound
+returns-else-d-eq0-clause-upper_bound c = search (done_laws, rules)
 
-pub returns-clause-out_len_unchanged : goal.returns-clause-out_len_unchanged
-returns-clause-out_len_unchanged c = search (done_laws, rules)
+pub returns-else-d-eq0-clause-out_len_unchanged : goal.returns-else-d-eq0-clause-out_len_unchanged
+returns-else-d-eq0-clause-out_len_unchanged c = search (done_laws, rules)

@@ -11,11 +11,11 @@ returns-then-is_odd-clause-upper_bound c = search (elements_laws, rules)
 pub returns-then-is_odd-clause-out_len_unchanged : goal.returns-then-is_odd-clause-out_len_unchanged
 returns-then-is_odd-clause-out_len_unchanged c = search (elements_laws, rules)
 
-pub returns-clause-wrote : goal.returns-clause-wrote
-returns-clause-wrote c = search (elements_laws, rules)
+pub returns-else-is_odd-clause-wrote : goal.returns-else-is_odd-clause-wrote
+returns-else-is_odd-clause-wrote c = search (elements_laws, rules)
 
-pub returns-clause-upper_bound : goal.returns-clause-upper_bound
-returns-clause-upper_bound c = search (elements_laws, rules)
+pub returns-else-is_odd-clause-upper_bound : goal.returns-else-is_odd-clause-upper_bound
+returns-else-is_odd-clause-upper_bound c = search (elements_laws, rules)
 
-pub returns-clause-out_len_unchanged : goal.returns-clause-out_len_unchanged
-returns-clause-out_len_unchanged c = search (elements_laws, rules)
+pub returns-else-is_odd-clause-out_len_unchanged : goal.returns-else-is_odd-clause-out_len_unchanged
+returns-else-is_odd-clause-out_len_unchanged c = search (elements_laws, rules)

@@ -11,11 +11,11 @@ returns-then-differs-clause-upper_bound c = search (name_laws, rules)
 pub returns-then-differs-clause-out_len_unchanged : goal.returns-then-differs-clause-out_len_unchanged
 returns-then-differs-clause-out_len_unchanged c = search (name_laws, rules)
 
-pub returns-clause-wrote : goal.returns-clause-wrote
-returns-clause-wrote c = search (name_laws, rules)
+pub returns-else-differs-clause-wrote : goal.returns-else-differs-clause-wrote
+returns-else-differs-clause-wrote c = search (name_laws, rules)
 
-pub returns-clause-upper_bound : goal.returns-clause-upper_bound
-returns-clause-upper_bound c = search (name_laws, rules)
+pub returns-else-differs-clause-upper_bound : goal.returns-else-differs-clause-upper_bound
+returns-else-differs-clause-upper_bound c = search (name_laws, rules)
 
-pub returns-clause-out_len_unchanged : goal.returns-clause-out_len_unchanged
-returns-clause-out_len_unchanged c = search (name_laws, rules)
+pub returns-else-differs-clause-out_len_unchanged : goal.returns-else-differs-clause-out_len_unchanged
+returns-else-differs-clause-out_len_unchanged c = search (name_laws, rules)

@@ -11,11 +11,11 @@ returns-then-number-eq0-clause-upper_bound c = search (pair_laws, rules)
 pub returns-then-number-eq0-clause-out_len_unchanged : goal.returns-then-number-eq0-clause-out_len_unchanged
 returns-then-number-eq0-clause-out_len_unchanged c = search (pair_laws, rules)
 
-pub returns-clause-wrote : goal.returns-clause-wrote
-returns-clause-wrote c = search (pair_laws, rules)
+pub returns-else-number-eq0-clause-wrote : goal.returns-else-number-eq0-clause-wrote
+returns-else-number-eq0-clause-wrote c = search (pair_laws, rules)
 
-pub returns-clause-upper_bound : goal.returns-clause-upper_bound
-returns-clause-upper_bound c = search (pair_laws, rules)
+pub returns-else-number-eq0-clause-upper_bound : goal.returns-else-number-eq0-clause-upper_bound
+returns-else-number-eq0-clause-upper_bound c = search (pair_laws, rules)
 
-pub returns-clause-out_len_unchanged : goal.returns-clause-out_len_unchanged
-returns-clause-out_len_unchanged c = search (pair_laws, rules)
+pub returns-else-number-eq0-clause-out_len_unchanged : goal.returns-else-number-eq0-clause-out_len_unchanged
+returns-else-number-eq0-clause-out_len_unchanged c = search (pair_laws, rules)

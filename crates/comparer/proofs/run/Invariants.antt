@@ -1,8 +1,14 @@
-use Rattle.comparer.proofs.Steps.{Running}
+use Rattle.std.proofs.Common.{◌≡◌, length}
+use Rattle.comparer.specs.Turns.{Within}
 use Rattle.comparer.proofs.run.Given as goal
 
-abbrev pub invariant-loop-settings : goal.invariant-loop-settings
-invariant-loop-settings l = Running l.initial.line1 l.initial.line2 l.initial.chunk l.initial.elements1 l.initial.elements2 l.line1 l.line2 l.chunk l.elements1 l.elements2 l.t
+abbrev pub invariant-loop-t : goal.invariant-loop-t
+invariant-loop-t l =
+    record {
+      first_same : length l.line1 ≡ length l.initial.line1;
+      second_same : length l.line2 ≡ length l.initial.line2;
+      inside : Within (length l.line1) (length l.line2) (length l.chunk) l.t;
+    }
 
-abbrev pub decreases-loop-settings : goal.decreases-loop-settings
-decreases-loop-settings l = l.t.state.left
+abbrev pub decreases-loop-t : goal.decreases-loop-t
+decreases-loop-t l = l.t.state.left

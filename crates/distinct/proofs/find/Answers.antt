@@ -1,39 +1,15 @@
 use Rattle.std.proofs.Common.{rules}
-use Rattle.distinct.proofs.Walks.{walk_laws}
+use Rattle.distinct.proofs.Walks.{walk_laws, walk_free, walk_on}
 use Rattle.distinct.proofs.find.Goals as goal
 
-pub id_of-requires : goal.id_of-requires
-id_of-requires c = search (walk_laws, rules)
+pub returns-in_err-slot : goal.returns-in_err-slot
+returns-in_err-slot c = search (walk_laws, rules)
 
-pub head_of-slot-requires : goal.head_of-slot-requires
-head_of-slot-requires c = search (walk_laws, rules)
+pub loop-j-smaller : goal.loop-j-smaller
+loop-j-smaller c = search (walk_laws, rules)
 
-pub loop-i-init : goal.loop-i-init
-loop-i-init c = search (walk_laws, rules)
+pub loop-j-preserved : goal.loop-j-preserved
+loop-j-preserved c = search (walk_on, c.in-Some.ensures, c.in_ok-slot.was, rules)
 
-pub offset_bounds-kids-slot : goal.offset_bounds-kids-slot
-offset_bounds-kids-slot c = search (walk_laws, rules)
-
-pub bounds-kids-slot : goal.bounds-kids-slot
-bounds-kids-slot c = search (walk_laws, rules)
-
-pub wide-k-requires : goal.wide-k-requires
-wide-k-requires c = search (walk_laws, rules)
-
-pub returns-then-k-eq0 : goal.returns-then-k-eq0
-returns-then-k-eq0 c = search (walk_laws, rules)
-
-pub overflow_sub-k : goal.overflow_sub-k
-overflow_sub-k c = search (walk_laws, rules)
-
-pub meet-t-requires : goal.meet-t-requires
-meet-t-requires c = search (walk_laws, rules)
-
-pub returns-then-t : goal.returns-then-t
-returns-then-t c = search (walk_laws, rules)
-
-pub loop-i-smaller : goal.loop-i-smaller
-loop-i-smaller c = search (walk_laws, rules)
-
-pub loop-i-preserved : goal.loop-i-preserved
-loop-i-preserved c = search (walk_laws, rules)
+pub returns : goal.returns
+returns c = walk_free c.args.places c.args.tree c.args.i c.requires c.loop-j.slot c.loop-j.invariant c.in_default.ensures

@@ -1,30 +1,14 @@
-use Rattle.std.proofs.Common.{rules}
-use Rattle.distinct.proofs.Repeats.{compared_laws}
+use Rattle.std.proofs.Common.{◌≡◌, true, false, arith, rules}
+use Rattle.std.proofs.lemmas.Iterator.{cases_from_any, YieldsList-from_range}
+use borrow.Author.Tests.{tests}
+use Rattle.base.specs.Texts.{same_text}
+use Rattle.distinct.specs.Tree.{ids_of}
+use Rattle.distinct.proofs.Repeats.{of_any}
 use Rattle.distinct.proofs.occurs.Goals as goal
 
-pub loop-j-init : goal.loop-j-init
-loop-j-init c = search (compared_laws, rules)
-
-pub id_of-requires : goal.id_of-requires
-id_of-requires c = search (compared_laws, rules)
-
-pub id_of-requires-in-loop-j : goal.id_of-requires-in-loop-j
-id_of-requires-in-loop-j c = search (compared_laws, rules)
-
-pub same_text-requires : goal.same_text-requires
-same_text-requires c = search (compared_laws, rules)
-
-pub returns-then-same_text : goal.returns-then-same_text
-returns-then-same_text c = search (compared_laws, rules)
-
-pub overflow_add-j : goal.overflow_add-j
-overflow_add-j c = search (compared_laws, rules)
-
-pub loop-j-smaller : goal.loop-j-smaller
-loop-j-smaller c = search (compared_laws, rules)
-
-pub loop-j-preserved : goal.loop-j-preserved
-loop-j-preserved c = search (compared_laws, rules)
-
 pub returns : goal.returns
-returns c = search (compared_laws, rules)
+returns c =
+    let id = ids_of c.args.places in
+    let own = c.id-own.result.now in
+    of_any id c.args.i own c.id-own.ensures c.any.result
+    (cases_from_any _ _ _ (λ m. same_text own (id m) ≡ true) (λ m. same_text own (id m) ≡ false) c.any.ensures.ran (YieldsList-from_range 0 c.args.i c.args.i (cc) (omega arith)) (λ x q k. search (rules, tests)) (λ x q k. search (rules, tests)))

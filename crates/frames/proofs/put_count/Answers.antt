@@ -13,6 +13,3 @@ returns-clause-wrote c = search (count_laws, rules)
 
 pub returns-clause-upper_bound : goal.returns-clause-upper_bound
 returns-clause-upper_bound c = search (count_laws, rules)
-
-pub returns-clause-out_len_unchanged : goal.returns-clause-out_len_unchanged
-returns-clause-out_len_unchanged c = search (count_laws, rules)

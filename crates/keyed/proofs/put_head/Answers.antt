@@ -1,5 +1,5 @@
 use Rattle.std.proofs.Common.{rules}
-use Rattle.keyed.proofs.Texts.{head_laws}
+use Rattle.keyed.proofs.Pieces.{head_laws}
 use Rattle.keyed.proofs.put_head.Goals as goal
 
 pub put_short-next-requires : goal.put_short-next-requires

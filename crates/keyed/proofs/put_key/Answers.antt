@@ -1,5 +1,5 @@
 use Rattle.std.proofs.Common.{rules}
-use Rattle.keyed.proofs.Texts.{key_laws}
+use Rattle.keyed.proofs.Pieces.{key_laws}
 use Rattle.keyed.proofs.put_key.Goals as goal
 
 pub put_head-next-requires : goal.put_head-next-requires

@@ -1,5 +1,5 @@
 use Rattle.std.proofs.Common.{rules}
-use Rattle.keyed.proofs.Texts.{short_laws}
+use Rattle.keyed.proofs.Pieces.{short_laws}
 use Rattle.keyed.proofs.put_short.Goals as goal
 
 pub put-next-requires : goal.put-next-requires

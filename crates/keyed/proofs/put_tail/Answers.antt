@@ -1,5 +1,5 @@
 use Rattle.std.proofs.Common.{rules}
-use Rattle.keyed.proofs.Texts.{tail_laws}
+use Rattle.keyed.proofs.Pieces.{tail_laws}
 use Rattle.keyed.proofs.put_tail.Goals as goal
 
 pub put_text-next-requires : goal.put_text-next-requires

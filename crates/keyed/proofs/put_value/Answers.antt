@@ -1,5 +1,5 @@
 use Rattle.std.proofs.Common.{rules}
-use Rattle.keyed.proofs.Texts.{value_laws}
+use Rattle.keyed.proofs.Pieces.{value_laws}
 use Rattle.keyed.proofs.put_value.Goals as goal
 
 pub put_unescaped-requires : goal.put_unescaped-requires

@@ -1,23 +1,24 @@
-use Rattle.std.proofs.Common.{rules}
-use Rattle.layout.proofs.Fields.{record_laws, has_room, text_room, mark_room, strict_filled}
+use Rattle.std.proofs.Common.{◌≡◌, ◌∷◌, [], rules, arith, refl}
+use Rattle.layout.specs.Layout.{mark}
+use Rattle.layout.proofs.Words.{piece_room, piece_on, piece_last}
+use Rattle.layout.proofs.Fields.{strict_pieces, strict_filled}
 use Rattle.layout.proofs.put_strict.Goals as goal
 
-pub put_front-a-requires : goal.put_front-a-requires
-put_front-a-requires c = search (record_laws, has_room, rules)
+pub put_words-mark-requires : goal.put_words-mark-requires
+put_words-mark-requires c =
+    let text = piece_on (strict_pieces _ c.args.r c.args.e c.args.p c.requires) refl c.put_common-text.ensures in
+    (omega arith, piece_room text c.place_words.ensures)
 
-pub put_names-b-requires : goal.put_names-b-requires
-put_names-b-requires c = search (record_laws, has_room, rules)
-
-pub put_end-c-requires : goal.put_end-c-requires
-put_end-c-requires c = search (record_laws, has_room, rules)
-
-pub put_place-d-requires : goal.put_place-d-requires
-put_place-d-requires c = text_room _ c.args.r c.args.e c.args.p c.requires _ _ c.put_front-a.ensures _ _ c.put_names-b.ensures _ _ c.put_end-c.ensures
-
-pub put_word-requires : goal.put_word-requires
-put_word-requires c = mark_room _ c.args.r c.args.e c.args.p c.requires _ _ c.put_front-a.ensures _ _ c.put_names-b.ensures _ _ c.put_end-c.ensures
-    _ _ c.put_place-d.ensures _ c.mark_of.ensures
+pub put_words-requires : goal.put_words-requires
+put_words-requires c =
+    let text = piece_on (strict_pieces _ c.args.r c.args.e c.args.p c.requires) refl c.put_common-text.ensures in
+    let has = piece_on text c.place_words.ensures c.put_words-mark.ensures in
+    let e : c.from.result ∷ [] ≡ mark c.args.r.has_message ∷ [] = search rules in
+    (omega arith, piece_room has e)
 
 pub returns : goal.returns
-returns c = strict_filled _ c.args.r c.args.e c.args.p c.requires _ _ c.put_front-a.ensures _ _ c.put_names-b.ensures _ _ c.put_end-c.ensures
-    _ _ c.put_place-d.ensures _ c.mark_of.ensures _ _ c.put_word.ensures
+returns c =
+    let text = piece_on (strict_pieces _ c.args.r c.args.e c.args.p c.requires) refl c.put_common-text.ensures in
+    let has = piece_on text c.place_words.ensures c.put_words-mark.ensures in
+    let e : c.from.result ∷ [] ≡ mark c.args.r.has_message ∷ [] = search rules in
+    strict_filled _ _ c.args.e c.args.p _ _ (piece_last has e c.put_words.ensures)

@@ -2,8 +2,5 @@ use Rattle.std.proofs.Common.{rules}
 use Rattle.lookup.proofs.Answers.{value_laws}
 use Rattle.lookup.proofs.put_value.Goals as goal
 
-pub returns-then-out-n : goal.returns-then-out-n
-returns-then-out-n c = search (value_laws, rules)
-
 pub returns : goal.returns
 returns c = search (value_laws, rules)

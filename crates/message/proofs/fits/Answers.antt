@@ -1,25 +1,23 @@
-use Rattle.std.proofs.Common.{◌<◌, length, arith, ap, ◌∙◌}
-use Rattle.record.specs.Params.{row_of, rows}
-use Rattle.record.proofs.Params.{rows_length, rows_get}
+use Rattle.std.proofs.Common.{arith, refl}
 use Rattle.message.proofs.Rooms.{measured_none, measured_on, measured_all}
-use Rattle.message.proofs.Answers.{record_suits_lem, elements_counted, params_counted, param_short, fits_is}
+use Rattle.message.proofs.Answers.{record_suits_lem, elements_counted, params_counted, front_length, front_row, param_short, fits_is}
 use Rattle.message.proofs.fits.Goals as goal
 
-pub loop-i-init : goal.loop-i-init
-loop-i-init c = measured_none c.args.room c.args.param_count (rows c.args.params.now) _ c.room_of-left.ensures
+pub slice_bounds-p-items-end : goal.slice_bounds-p-items-end
+slice_bounds-p-items-end c = front_length _ _ (params_counted _ _ _ _ _ _ c.requires.params_value)
 
-pub fetch-p-requires : goal.fetch-p-requires
-fetch-p-requires c = omega (arith, rows_length c.args.params.now, params_counted _ _ _ _ _ _ c.requires.params_value)
+pub loop-p-init : goal.loop-p-init
+loop-p-init c = measured_none c.args.room c.args.param_count _ _ refl
 
 pub param_room-left-requires : goal.param_room-left-requires
 param_room-left-requires c =
-    let b : c.loop-i.i < length c.args.params.now = omega (arith, rows_length c.args.params.now, params_counted _ _ _ _ _ _ c.requires.params_value) in
-    param_short _ _ _ _ _ _ c.requires.params_value c.requires.line_len_bound c.loop-i.i c.loop-i-test.true _ (ap row_of c.fetch-p.ensures ∙ rows_get c.args.params.now c.loop-i.i b)
+    let n = params_counted _ _ _ _ _ _ c.requires.params_value in
+    param_short _ _ _ _ _ _ c.requires.params_value c.requires.line_len_bound c.loop-p.p-index (omega (arith, front_length _ _ n)) _ (front_row _ _ n _ c.loop-p-test.true)
 
-pub loop-i-preserved : goal.loop-i-preserved
-loop-i-preserved c =
-    let b : c.loop-i.i < length c.args.params.now = omega (arith, rows_length c.args.params.now, params_counted _ _ _ _ _ _ c.requires.params_value) in
-    measured_on _ _ _ _ (params_counted _ _ _ _ _ _ c.requires.params_value) _ c.loop-i.invariant c.loop-i-test.true (row_of c.fetch-p.result) (ap row_of c.fetch-p.ensures ∙ rows_get c.args.params.now c.loop-i.i b) _ c.param_room-left.ensures
+pub loop-p-preserved : goal.loop-p-preserved
+loop-p-preserved c =
+    let n = params_counted _ _ _ _ _ _ c.requires.params_value in
+    measured_on _ _ _ _ n _ c.loop-p.invariant (omega (arith, front_length _ _ n)) _ (front_row _ _ n _ c.loop-p-test.true) _ c.param_room-left.ensures
 
 pub rest_fits-requires : goal.rest_fits-requires
 rest_fits-requires c =
@@ -31,6 +29,7 @@ rest_fits-requires c =
 
 pub returns : goal.returns
 returns c =
-    fits_is _ _ _ _ _ _ c.requires.params_value c.args.room c.loop-i.left
-    (measured_all _ _ _ _ (params_counted _ _ _ _ _ _ c.requires.params_value) _ c.loop-i.invariant c.loop-i-test.false)
+    let n = params_counted _ _ _ _ _ _ c.requires.params_value in
+    fits_is _ _ _ _ _ _ c.requires.params_value c.args.room c.loop-p.left
+    (measured_all _ _ _ _ n _ c.loop-p.invariant (omega (arith, front_length _ _ n)))
     _ c.rest_fits.ensures

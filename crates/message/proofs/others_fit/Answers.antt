@@ -1,3 +1,4 @@
+use Rattle.std.proofs.Common.{◌∙◌}
 use Rattle.message.proofs.Answers.{others_laws}
 use Rattle.message.proofs.others_fit.Goals as goal
 
@@ -7,8 +8,5 @@ overflow_add-size-2 c = search others_laws
 pub returns-in_default : goal.returns-in_default
 returns-in_default c = search others_laws
 
-pub returns-in_default-elements_room : goal.returns-in_default-elements_room
-returns-in_default-elements_room c = search others_laws
-
 pub returns : goal.returns
-returns c = search others_laws
+returns c = c.is_some.ensures ∙ search others_laws

@@ -1,9 +1,5 @@
-use Rattle.std.proofs.Common.{◌-◌, ◌≡◌, length}
-use Rattle.pairs.proofs.Counts.{Counts}
+use Rattle.pairs.specs.Odd.{Counted}
 use Rattle.pairs.proofs.count.Given as goal
 
-abbrev pub invariant-loop-i : goal.invariant-loop-i
-invariant-loop-i l = Counts l.classes l.from l.to l.counts l.i × (length l.counts ≡ length l.initial.counts)
-
-abbrev pub decreases-loop-i : goal.decreases-loop-i
-decreases-loop-i l = l.to - l.i
+abbrev pub invariant-loop-c : goal.invariant-loop-c
+invariant-loop-c l = Counted l.classes 0 l.c-index l.counts

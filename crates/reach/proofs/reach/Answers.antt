@@ -5,8 +5,8 @@ use Rattle.reach.proofs.reach.Goals as goal
 pub returns-then-line-gt-LINE_LIMIT : goal.returns-then-line-gt-LINE_LIMIT
 returns-then-line-gt-LINE_LIMIT c = search (report_laws, rules)
 
-pub returns-in-Past : goal.returns-in-Past
-returns-in-Past c = search (report_laws, rules)
+pub returns-in-Ok : goal.returns-in-Ok
+returns-in-Ok c = search (report_laws, rules)
 
-pub returns-in-Stuck : goal.returns-in-Stuck
-returns-in-Stuck c = search (report_laws, rules)
+pub returns-in-Err : goal.returns-in-Err
+returns-in-Err c = search (report_laws, rules)

@@ -4,6 +4,3 @@ use Rattle.reach_data.proofs.all_seen.Given as goal
 
 abbrev pub invariant-loop-c : goal.invariant-loop-c
 invariant-loop-c l = Looking l.seen l.c
-
-abbrev pub decreases-loop-c : goal.decreases-loop-c
-decreases-loop-c l = 127 - l.c

@@ -1,37 +1,16 @@
-use Rattle.std.proofs.Common.{rules}
-use Rattle.viable.proofs.Walks.{fits_laws}
-use Rattle.reach_data.proofs.Items.{params_laws}
+use Rattle.std.proofs.Common.{◌∙◌, refl, rules}
+use Rattle.viable.proofs.Walks.{went_err, fits_laws}
+use Rattle.reach_data.proofs.Items.{params_laws, params_stuck}
 use Rattle.reach_data.proofs.params.Goals as goal
 
-pub loop-w-init : goal.loop-w-init
-loop-w-init c = search (params_laws, fits_laws, rules)
+pub returns-in_err-i : goal.returns-in_err-i
+returns-in_err-i c = went_err _ _ c.from_residual.ensures ∙ params_stuck _ _ _ c.loop-i.invariant _ c.is_at.ensures c.loop-i-test.true _ c.in_err-i.ensures _ refl
 
-pub is_at-requires : goal.is_at-requires
-is_at-requires c = search (params_laws, fits_laws, rules)
+pub loop-i-smaller : goal.loop-i-smaller
+loop-i-smaller c = let e = c.in_ok-i.was in search (params_laws, rules)
 
-pub overflow_add-i : goal.overflow_add-i
-overflow_add-i c = search (params_laws, fits_laws, rules)
-
-pub param-w-requires : goal.param-w-requires
-param-w-requires c = search (params_laws, fits_laws, rules)
-
-pub enum_known-w : goal.enum_known-w
-enum_known-w c = search (params_laws, fits_laws, rules)
-
-pub enum_told-1 : goal.enum_told-1
-enum_told-1 c = search (params_laws, fits_laws, rules)
-
-pub returns-in_default : goal.returns-in_default
-returns-in_default c = search (params_laws, fits_laws, rules)
-
-pub loop-w-smaller : goal.loop-w-smaller
-loop-w-smaller c = search (params_laws, fits_laws, rules)
-
-pub loop-w-preserved : goal.loop-w-preserved
-loop-w-preserved c = search (params_laws, fits_laws, rules)
-
-pub bracket-requires : goal.bracket-requires
-bracket-requires c = search (params_laws, fits_laws, rules)
+pub loop-i-preserved : goal.loop-i-preserved
+loop-i-preserved c = let e = c.in_ok-i.was in search (params_laws, rules)
 
 pub returns : goal.returns
-returns c = search (params_laws, fits_laws, rules)
+returns c = search (params_laws, rules)

@@ -1,9 +1,10 @@
-use Rattle.std.proofs.Common.{rules}
+use Rattle.std.proofs.Common.{◌∙◌, refl}
+use Rattle.viable.proofs.Walks.{went_err}
 use Rattle.reach_header.proofs.Pieces.{ids_seq}
 use Rattle.reach_header.proofs.ids.Goals as goal
 
-pub returns-in_default : goal.returns-in_default
-returns-in_default c = search (ids_seq.stuck, ids_seq.on, rules)
+pub returns-in_err-n : goal.returns-in_err-n
+returns-in_err-n c = went_err _ _ c.from_residual.ensures ∙ ids_seq.stuck _ _ _ c.in_err-n.ensures _ refl
 
 pub returns : goal.returns
-returns c = search (ids_seq.stuck, ids_seq.on, rules)
+returns c = ids_seq.on _ _ _ c.in_ok-n.ensures _ refl _ c.field-2.ensures

@@ -1,9 +1,10 @@
-use Rattle.std.proofs.Common.{rules}
+use Rattle.std.proofs.Common.{◌∙◌, refl}
+use Rattle.viable.proofs.Walks.{went_err}
 use Rattle.reach_header.proofs.Pieces.{names_seq}
 use Rattle.reach_header.proofs.names.Goals as goal
 
-pub returns-in_default : goal.returns-in_default
-returns-in_default c = search (names_seq.stuck, names_seq.on, rules)
+pub returns-in_err-n : goal.returns-in_err-n
+returns-in_err-n c = went_err _ _ c.from_residual.ensures ∙ names_seq.stuck _ _ _ c.in_err-n.ensures _ refl
 
 pub returns : goal.returns
-returns c = search (names_seq.stuck, names_seq.on, rules)
+returns c = names_seq.on _ _ _ c.in_ok-n.ensures _ refl _ c.app.ensures

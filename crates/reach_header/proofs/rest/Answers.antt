@@ -1,9 +1,10 @@
-use Rattle.std.proofs.Common.{rules}
+use Rattle.std.proofs.Common.{◌∙◌, refl}
+use Rattle.viable.proofs.Walks.{went_err}
 use Rattle.reach_header.proofs.Pieces.{rest_seq}
 use Rattle.reach_header.proofs.rest.Goals as goal
 
-pub returns-in_default : goal.returns-in_default
-returns-in_default c = search (rest_seq.stuck, rest_seq.on, rules)
+pub returns-in_err-n : goal.returns-in_err-n
+returns-in_err-n c = went_err _ _ c.from_residual.ensures ∙ rest_seq.stuck _ _ _ c.in_err-n.ensures _ refl
 
 pub returns : goal.returns
-returns c = search (rest_seq.stuck, rest_seq.on, rules)
+returns c = rest_seq.on _ _ _ c.in_ok-n.ensures _ refl _ c.names.ensures

@@ -1,8 +1,8 @@
-use Rattle.std.proofs.Common.{◌-◌, ◌≤◌, length, ◌≡◌}
+use Rattle.std.proofs.Common.{◌≤◌, length}
 use Rattle.replay.proofs.replay_lines.Given as goal
 
-abbrev pub invariant-loop-t : goal.invariant-loop-t
-invariant-loop-t l = (l.at ≤ length l.text) × (l.t.used ≡ l.at)
+abbrev pub invariant-loop-len : goal.invariant-loop-len
+invariant-loop-len l = length l.rest ≤ length l.text
 
-abbrev pub decreases-loop-t : goal.decreases-loop-t
-decreases-loop-t l = length l.text - l.at
+abbrev pub decreases-loop-len : goal.decreases-loop-len
+decreases-loop-len l = length l.rest

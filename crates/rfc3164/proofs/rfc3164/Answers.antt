@@ -11,11 +11,11 @@ blanks_from-next-requires c = search (line_laws, rules)
 pub rfc3164_from-requires : goal.rfc3164_from-requires
 rfc3164_from-requires c = search (line_laws, rules)
 
-pub returns-in_default : goal.returns-in_default
-returns-in_default c = search (line_laws, rules)
+pub returns-in_err-stamp : goal.returns-in_err-stamp
+returns-in_err-stamp c = search (line_laws, rules)
 
 pub body_from-requires : goal.body_from-requires
-body_from-requires c = search (line_laws, rules)
+body_from-requires c = search (line_laws, c.in_ok-stamp.was, rules)
 
 pub returns : goal.returns
-returns c = search (line_laws, rules)
+returns c = search (line_laws, c.in_ok-stamp.was, rules)

@@ -5,8 +5,14 @@ use Rattle.settings.proofs.put_record.Goals as goal
 pub overflow_cast-version : goal.overflow_cast-version
 overflow_cast-version c = search (record_laws, version_byte, rules)
 
-pub overflow_cast-n : goal.overflow_cast-n
-overflow_cast-n c = search (record_laws, version_byte, rules)
+pub overflow_cast-len : goal.overflow_cast-len
+overflow_cast-len c = search (record_laws, version_byte, rules)
+
+pub overflow_cast-year : goal.overflow_cast-year
+overflow_cast-year c = search (record_laws, version_byte, rules)
+
+pub overflow_cast-gate : goal.overflow_cast-gate
+overflow_cast-gate c = search (record_laws, version_byte, rules)
 
 pub to_bits-requires : goal.to_bits-requires
 to_bits-requires c = search (record_laws, version_byte, rules)

@@ -17,5 +17,5 @@ returns-then-not-is_offset c = search (bad_laws, rules)
 pub returns-then-last_variant-w : goal.returns-then-last_variant-w
 returns-then-last_variant-w c = search (bad_laws, rules)
 
-pub returns : goal.returns
-returns c = search (bad_laws, rules)
+pub returns-else-last_variant-w : goal.returns-else-last_variant-w
+returns-else-last_variant-w c = search (bad_laws, rules)

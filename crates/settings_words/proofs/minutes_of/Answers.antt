@@ -1,9 +1,6 @@
-use Rattle.std.proofs.Common.{rules}
-use Rattle.settings_words.proofs.Numbers.{minutes_laws}
+use Rattle.std.proofs.Common.{◌∙◌}
+use Rattle.settings_words.proofs.Numbers.{minutes_are}
 use Rattle.settings_words.proofs.minutes_of.Goals as goal
 
-pub returns-then-n-gt-NO_OFFSET : goal.returns-then-n-gt-NO_OFFSET
-returns-then-n-gt-NO_OFFSET c = search (minutes_laws, rules)
-
-pub returns : goal.returns
-returns c = search (minutes_laws, rules)
+pub returns-clause-value : goal.returns-clause-value
+returns-clause-value c = c.min.ensures ∙ minutes_are c.args.text.now _ c.sign_len.ensures.value _ c.past.ensures _ c.number_of.ensures

@@ -1,9 +1,6 @@
-use Rattle.std.proofs.Common.{arith}
-use Rattle.stream.proofs.Amounts.{grown_sum, grown_over}
+use Rattle.std.proofs.Common.{arith, ◌≡◌, min}
+use Rattle.stream.proofs.Amounts.{grown_is}
 use Rattle.stream.proofs.grown.Goals as goal
 
-pub returns-then-k-room : goal.returns-then-k-room
-returns-then-k-room c = grown_sum c.args.n c.args.k (omega arith) (omega arith)
-
 pub returns : goal.returns
-returns c = grown_over c.args.n c.args.k (omega arith) (omega arith)
+returns c = let h : c.unwrap_or.result ≡ min c.args.k 4294967295 = grind arith in omega (arith, grown_is c.args.n c.args.k (omega arith))

@@ -8,11 +8,11 @@ returns-then-line-gt-LINE_LIMIT c = search (judge_laws, rules)
 pub returns-in_default : goal.returns-in_default
 returns-in_default c = search (judge_laws, rules)
 
-pub returns-then-e-n : goal.returns-then-e-n
-returns-then-e-n c = search (judge_laws, rules)
+pub returns-then-e-scan : goal.returns-then-e-scan
+returns-then-e-scan c = search (judge_laws, rules)
 
-pub returns-then-p-k : goal.returns-then-p-k
-returns-then-p-k c = search (judge_laws, rules)
+pub returns-then-p-scan : goal.returns-then-p-scan
+returns-then-p-scan c = search (judge_laws, rules)
 
 pub returns : goal.returns
 returns c = search (judge_laws, rules)

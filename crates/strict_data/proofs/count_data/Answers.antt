@@ -6,20 +6,14 @@ use Rattle.strict_data.proofs.count_data.Goals as goal
 pub returns-then-is_at : goal.returns-then-is_at
 returns-then-is_at c = search (data_laws, rules)
 
-pub returns-in_default : goal.returns-in_default
-returns-in_default c = search (data_laws, rules)
+pub returns-in_err-len : goal.returns-in_err-len
+returns-in_err-len c = search (data_laws, c.in_err-len.was, rules)
 
 pub returns-then-elements-eq0 : goal.returns-then-elements-eq0
-returns-then-elements-eq0 c = search (data_laws, rules)
-
-pub ids_differ-requires-clause-among : goal.ids_differ-requires-clause-among
-ids_differ-requires-clause-among c = search (among_all, rules)
-
-pub ids_differ-requires-clause-rowed : goal.ids_differ-requires-clause-rowed
-ids_differ-requires-clause-rowed c = search (rows_noted, rules)
+returns-then-elements-eq0 c = search (data_laws, c.in_ok-len.was, rules)
 
 pub returns-then-not-ids_differ : goal.returns-then-not-ids_differ
-returns-then-not-ids_differ c = search (data_laws, rules)
+returns-then-not-ids_differ c = search (data_laws, c.in_ok-len.was, rules)
 
 pub returns : goal.returns
-returns c = search (data_laws, rules)
+returns c = search (data_laws, c.in_ok-len.was, rules)

@@ -2,20 +2,20 @@ use Rattle.std.proofs.Common.{rules}
 use Rattle.strict_header.proofs.Stamps.{ending_laws}
 use Rattle.strict_header.proofs.ending.Goals as goal
 
-pub returns-in_default : goal.returns-in_default
-returns-in_default c = search (ending_laws, rules)
+pub returns-in_err-nanos : goal.returns-in_err-nanos
+returns-in_err-nanos c = search (ending_laws, c.in_err-nanos.was, rules)
 
 pub past-requires : goal.past-requires
-past-requires c = search (ending_laws, rules)
+past-requires c = search (ending_laws, c.in_ok-nanos.was, rules)
 
-pub returns-in_default-offset : goal.returns-in_default-offset
-returns-in_default-offset c = search (ending_laws, rules)
+pub returns-in_err-minutes : goal.returns-in_err-minutes
+returns-in_err-minutes c = search (ending_laws, c.in_ok-nanos.was, c.in_err-minutes.was, rules)
 
 pub after_point-requires : goal.after_point-requires
-after_point-requires c = search (ending_laws, rules)
+after_point-requires c = search (ending_laws, c.in_ok-nanos.was, c.in_ok-minutes.was, rules)
 
 pub overflow_add-result : goal.overflow_add-result
-overflow_add-result c = search (ending_laws, rules)
+overflow_add-result c = search (ending_laws, c.in_ok-nanos.was, c.in_ok-minutes.was, rules)
 
 pub returns : goal.returns
-returns c = search (ending_laws, rules)
+returns c = search (ending_laws, c.in_ok-nanos.was, c.in_ok-minutes.was, rules)

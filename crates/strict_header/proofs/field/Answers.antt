@@ -8,11 +8,5 @@ returns-then-not-n-most c = search (field_laws, rules)
 pub returns-then-not-is_at : goal.returns-then-not-is_at
 returns-then-not-is_at c = search (field_laws, rules)
 
-pub overflow_add-len : goal.overflow_add-len
-overflow_add-len c = search (field_laws, rules)
-
-pub place_of-requires : goal.place_of-requires
-place_of-requires c = search (field_laws, rules)
-
 pub returns : goal.returns
 returns c = search (field_laws, rules)

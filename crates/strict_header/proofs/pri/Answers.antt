@@ -5,17 +5,11 @@ use Rattle.strict_header.proofs.pri.Goals as goal
 pub returns-then-not-is_at : goal.returns-then-not-is_at
 returns-then-not-is_at c = search (pri_laws, rules)
 
-pub past-t-requires : goal.past-t-requires
-past-t-requires c = search (pri_laws, rules)
-
-pub returns-in_default : goal.returns-in_default
-returns-in_default c = search (pri_laws, rules)
+pub returns-in_err-value : goal.returns-in_err-value
+returns-in_err-value c = search (pri_laws, c.in_err-value.was, rules)
 
 pub returns-then-not-is_at-2 : goal.returns-then-not-is_at-2
-returns-then-not-is_at-2 c = search (pri_laws, rules)
-
-pub overflow_add-result : goal.overflow_add-result
-overflow_add-result c = search (pri_laws, rules)
+returns-then-not-is_at-2 c = search (pri_laws, c.in_ok-value.was, rules)
 
 pub returns : goal.returns
-returns c = search (pri_laws, rules)
+returns c = search (pri_laws, c.in_ok-value.was, rules)

@@ -5,11 +5,8 @@ use Rattle.strict_header.proofs.secfrac.Goals as goal
 pub returns-then-not-is_at : goal.returns-then-not-is_at
 returns-then-not-is_at c = search (secfrac_laws, rules)
 
-pub past-requires : goal.past-requires
-past-requires c = search (secfrac_laws, rules)
-
-pub returns-in_default : goal.returns-in_default
-returns-in_default c = search (secfrac_laws, rules)
+pub returns-in_err-value : goal.returns-in_err-value
+returns-in_err-value c = search (secfrac_laws, rules)
 
 pub overflow_add-result : goal.overflow_add-result
 overflow_add-result c = search (secfrac_laws, rules)

@@ -5,17 +5,14 @@ use Rattle.structured_data.proofs.param_at.Goals as goal
 pub returns-then-name-eq0 : goal.returns-then-name-eq0
 returns-then-name-eq0 c = search (param_laws, rules)
 
-pub returns-then-not-is_at : goal.returns-then-not-is_at
-returns-then-not-is_at c = search (param_laws, rules)
-
 pub overflow_add-name : goal.overflow_add-name
 overflow_add-name c = search (param_laws, rules)
 
 pub blanks_from-quote-requires : goal.blanks_from-quote-requires
 blanks_from-quote-requires c = search (param_laws, rules)
 
-pub returns-in_default : goal.returns-in_default
-returns-in_default c = search (param_laws, rules)
+pub returns-in_err-end : goal.returns-in_err-end
+returns-in_err-end c = search (param_laws, rules)
 
 pub overflow_add-value : goal.overflow_add-value
 overflow_add-value c = search (param_laws, rules)

@@ -5,29 +5,14 @@ use Rattle.tallier.proofs.put_row.Goals as goal
 pub loop-j-init : goal.loop-j-init
 loop-j-init c = search (row_laws, rules)
 
-pub count_at-n-requires : goal.count_at-n-requires
-count_at-n-requires c = search (row_laws, rules)
-
 pub put_cell-next-requires : goal.put_cell-next-requires
 put_cell-next-requires c = search (row_laws, rules)
 
-pub overflow_add-j : goal.overflow_add-j
-overflow_add-j c = search (row_laws, rules)
-
-pub loop-j-smaller : goal.loop-j-smaller
-loop-j-smaller c = search (row_laws, rules)
-
 pub loop-j-preserved : goal.loop-j-preserved
 loop-j-preserved c = search (row_laws, rules)
-
-pub shape_of-out : goal.shape_of-out
-shape_of-out c = search (row_laws, rules)
 
 pub returns-clause-wrote : goal.returns-clause-wrote
 returns-clause-wrote c = search (row_laws, rules)
 
 pub returns-clause-upper_bound : goal.returns-clause-upper_bound
 returns-clause-upper_bound c = search (row_laws, rules)
-
-pub returns-clause-out_len_unchanged : goal.returns-clause-out_len_unchanged
-returns-clause-out_len_unchanged c = search (row_laws, rules)

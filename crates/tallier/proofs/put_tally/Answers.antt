@@ -5,17 +5,14 @@ use Rattle.tallier.proofs.put_tally.Goals as goal
 pub loop-i-init : goal.loop-i-init
 loop-i-init c = search (tally_laws, rules)
 
-pub put_row-next-requires : goal.put_row-next-requires
-put_row-next-requires c = search (tally_laws, rules)
-
-pub overflow_add-i : goal.overflow_add-i
-overflow_add-i c = search (tally_laws, rules)
-
-pub loop-i-smaller : goal.loop-i-smaller
-loop-i-smaller c = search (tally_laws, rules)
+pub put_row-next-requires-clause-at_in_bounds : goal.put_row-next-requires-clause-at_in_bounds
+put_row-next-requires-clause-at_in_bounds c = search (tally_laws, rules)
 
 pub loop-i-preserved : goal.loop-i-preserved
 loop-i-preserved c = search (tally_laws, rules)
 
-pub returns : goal.returns
-returns c = search (tally_laws, rules)
+pub returns-clause-wrote : goal.returns-clause-wrote
+returns-clause-wrote c = search (tally_laws, rules)
+
+pub returns-clause-upper_bound : goal.returns-clause-upper_bound
+returns-clause-upper_bound c = search (tally_laws, rules)

@@ -1,48 +1,13 @@
-use Rattle.std.proofs.Common.{rules}
-use Rattle.tally.proofs.Calls.{add_laws}
+use Rattle.std.proofs.Common.{sym, ◌∙◌, arith}
+use Rattle.std.proofs.lemmas.Result.{err_from_is_err_and}
+use Rattle.tally.proofs.Calls.{add_refused, add_full, add_done}
 use Rattle.tally.proofs.add_at.Goals as goal
 
-pub returns-then-i-gt-NO_FACILITY : goal.returns-then-i-gt-NO_FACILITY
-returns-then-i-gt-NO_FACILITY c = search (add_laws, rules)
+pub returns-in_err-demand : goal.returns-in_err-demand
+returns-in_err-demand c = let p = err_from_is_err_and c.from_residual.result c.from_residual.ensures.1 in rw (p.1, p.2) (add_refused c.args.rows.now c.args.i c.args.j _ (sym c.demand.ensures ∙ c.in_err-demand.was))
 
-pub returns-then-j-gt-NO_SEVERITY : goal.returns-then-j-gt-NO_SEVERITY
-returns-then-j-gt-NO_SEVERITY c = search (add_laws, rules)
-
-pub returns-then-rows-le-NO_FACILITY : goal.returns-then-rows-le-NO_FACILITY
-returns-then-rows-le-NO_FACILITY c = search (add_laws, rules)
-
-pub offset_bounds-rows-i : goal.offset_bounds-rows-i
-offset_bounds-rows-i c = search (add_laws, rules)
-
-pub offset_bounds-rows-j : goal.offset_bounds-rows-j
-offset_bounds-rows-j c = search (add_laws, rules)
-
-pub bounds-rows-i : goal.bounds-rows-i
-bounds-rows-i c = search (add_laws, rules)
-
-pub bounds-rows-j : goal.bounds-rows-j
-bounds-rows-j c = search (add_laws, rules)
-
-pub returns-then-n : goal.returns-then-n
-returns-then-n c = search (add_laws, rules)
-
-pub one_more-requires : goal.one_more-requires
-one_more-requires c = search (add_laws, rules)
-
-pub offset_bounds-rows-i-2 : goal.offset_bounds-rows-i-2
-offset_bounds-rows-i-2 c = search (add_laws, rules)
-
-pub offset_bounds-rows-j-2 : goal.offset_bounds-rows-j-2
-offset_bounds-rows-j-2 c = search (add_laws, rules)
-
-pub bounds-rows-i-else-n : goal.bounds-rows-i-else-n
-bounds-rows-i-else-n c = search (add_laws, rules)
-
-pub bounds-rows-j-else-n : goal.bounds-rows-j-else-n
-bounds-rows-j-else-n c = search (add_laws, rules)
-
-pub shape_of-rows : goal.shape_of-rows
-shape_of-rows c = search (add_laws, rules)
+pub returns-in_err-rows : goal.returns-in_err-rows
+returns-in_err-rows c = let p = err_from_is_err_and c.from_residual-in_err-rows.result c.from_residual-in_err-rows.ensures.1 in rw (p.1, p.2) (add_full c.args.rows.now c.args.i c.args.j (sym c.demand.ensures ∙ c.in_ok-demand.was) _ c.checked_add.ensures _ (omega arith) (sym c.ok_or.ensures.value ∙ c.in_err-rows.was))
 
 pub returns : goal.returns
-returns c = search (add_laws, rules)
+returns c = add_done c.args.rows.now c.args.i c.args.j (sym c.demand.ensures ∙ c.in_ok-demand.was) _ c.checked_add.ensures _ (sym c.ok_or.ensures.value ∙ c.in_ok-rows.was)

@@ -1,9 +1,6 @@
 use Rattle.std.proofs.Common.{rules}
-use Rattle.tally.proofs.Calls.{whole_laws}
+use Rattle.tally.proofs.Calls.{cell_whole}
 use Rattle.tally.proofs.cell.Goals as goal
 
-pub cell_at-requires : goal.cell_at-requires
-cell_at-requires c = search (whole_laws, rules)
-
 pub returns : goal.returns
-returns c = search (whole_laws, rules)
+returns c = search (cell_whole, rules)

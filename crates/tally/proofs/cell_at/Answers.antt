@@ -1,27 +1,10 @@
-use Rattle.std.proofs.Common.{rules}
-use Rattle.tally.proofs.Calls.{cell_laws}
+use Rattle.std.proofs.Common.{rules, sym, ◌∙◌}
+use Rattle.std.proofs.lemmas.Result.{err_from_is_err_and}
+use Rattle.tally.proofs.Calls.{cell_refused, cell_is}
 use Rattle.tally.proofs.cell_at.Goals as goal
 
-pub returns-then-i-gt-NO_FACILITY : goal.returns-then-i-gt-NO_FACILITY
-returns-then-i-gt-NO_FACILITY c = search (cell_laws, rules)
-
-pub returns-then-j-gt-NO_SEVERITY : goal.returns-then-j-gt-NO_SEVERITY
-returns-then-j-gt-NO_SEVERITY c = search (cell_laws, rules)
-
-pub returns-then-rows-le-NO_FACILITY : goal.returns-then-rows-le-NO_FACILITY
-returns-then-rows-le-NO_FACILITY c = search (cell_laws, rules)
-
-pub offset_bounds-rows-i : goal.offset_bounds-rows-i
-offset_bounds-rows-i c = search (cell_laws, rules)
-
-pub offset_bounds-rows-j : goal.offset_bounds-rows-j
-offset_bounds-rows-j c = search (cell_laws, rules)
-
-pub bounds-rows-i : goal.bounds-rows-i
-bounds-rows-i c = search (cell_laws, rules)
-
-pub bounds-rows-j : goal.bounds-rows-j
-bounds-rows-j c = search (cell_laws, rules)
+pub returns-in_err-demand : goal.returns-in_err-demand
+returns-in_err-demand c = let p = err_from_is_err_and c.from_residual.result c.from_residual.ensures.1 in rw (p.1, p.2) (cell_refused c.args.rows.now c.args.i c.args.j _ (sym c.demand.ensures ∙ c.in_err-demand.was))
 
 pub returns : goal.returns
-returns c = search (cell_laws, rules)
+returns c = search (cell_is, rules)

@@ -1,15 +1,9 @@
 use Rattle.std.proofs.Common.{rules}
-use Rattle.tally.proofs.Calls.{column_laws}
+use Rattle.tally.proofs.Calls.{column_refused, column_is}
 use Rattle.tally.proofs.column_at.Goals as goal
 
-pub returns-then-j-gt-NO_SEVERITY : goal.returns-then-j-gt-NO_SEVERITY
-returns-then-j-gt-NO_SEVERITY c = search (column_laws, rules)
-
-pub returns-then-rows-le-NO_FACILITY : goal.returns-then-rows-le-NO_FACILITY
-returns-then-rows-le-NO_FACILITY c = search (column_laws, rules)
-
-pub column_sum-requires : goal.column_sum-requires
-column_sum-requires c = search (column_laws, rules)
+pub returns-in_err-demand : goal.returns-in_err-demand
+returns-in_err-demand c = search (column_refused, rules)
 
 pub returns : goal.returns
-returns c = search (column_laws, rules)
+returns c = search (column_is, rules)

@@ -1,24 +1,12 @@
-use Rattle.std.proofs.Common.{rules}
-use Rattle.tally.proofs.Calls.{sum_one, sum_laws}
+use Rattle.std.proofs.Common.{rules, arith, ap, ◌∙◌, get_or, get_or-take, length-take-le, ◌<◌}
+use Rattle.tally.proofs.Calls.{sum_none, sum_one, sum_all}
 use Rattle.tally.proofs.column_sum.Goals as goal
 
-pub loop-i-init : goal.loop-i-init
-loop-i-init c = search (sum_laws, rules)
+pub loop-row-init : goal.loop-row-init
+loop-row-init c = search (sum_none, rules)
 
-pub count_at-sum-requires : goal.count_at-sum-requires
-count_at-sum-requires c = search (sum_laws, rules)
-
-pub overflow_add-sum : goal.overflow_add-sum
-overflow_add-sum c = search (sum_laws, rules)
-
-pub overflow_add-i : goal.overflow_add-i
-overflow_add-i c = search (sum_laws, rules)
-
-pub loop-i-smaller : goal.loop-i-smaller
-loop-i-smaller c = search (sum_laws, rules)
-
-pub loop-i-preserved : goal.loop-i-preserved
-loop-i-preserved c = sum_one _ _ _ _ _ c.loop-i.invariant (search rules) c.count_at-sum.ensures.value c.count_at-sum.ensures.upper_bound
+pub loop-row-preserved : goal.loop-row-preserved
+loop-row-preserved c = let l : c.loop-row.row-index < 25 = omega (arith, length-take-le 25 c.args.rows.now (omega arith)) in sum_one _ _ _ _ _ c.loop-row.invariant l (c.from-sum.ensures ∙ ap (λ r. get_or r c.args.j 0) (rw get_or-take)) (omega arith)
 
 pub returns : goal.returns
-returns c = search (sum_laws, rules)
+returns c = sum_all _ _ _ _ c.loop-row.invariant (omega (arith, length-take-le 25 c.args.rows.now (omega arith)))

@@ -1,15 +1,9 @@
 use Rattle.std.proofs.Common.{rules}
-use Rattle.tally.proofs.Calls.{row_laws}
+use Rattle.tally.proofs.Calls.{row_refused, row_is}
 use Rattle.tally.proofs.row_at.Goals as goal
 
-pub returns-then-i-gt-NO_FACILITY : goal.returns-then-i-gt-NO_FACILITY
-returns-then-i-gt-NO_FACILITY c = search (row_laws, rules)
-
-pub returns-then-rows-le-NO_FACILITY : goal.returns-then-rows-le-NO_FACILITY
-returns-then-rows-le-NO_FACILITY c = search (row_laws, rules)
-
-pub row_sum-requires : goal.row_sum-requires
-row_sum-requires c = search (row_laws, rules)
+pub returns-in_err-demand : goal.returns-in_err-demand
+returns-in_err-demand c = search (row_refused, rules)
 
 pub returns : goal.returns
-returns c = search (row_laws, rules)
+returns c = search (row_is, rules)

@@ -1,10 +1,7 @@
-use Rattle.std.proofs.Common.{ℕ, ◌-◌}
-use Rattle.tally.specs.Tally.{cell, column_count}
+use Rattle.std.proofs.Common.{ℕ, get_or}
+use Rattle.tally.specs.Tally.{column_count}
 use Rattle.tally.proofs.Calls.{Summing}
 use Rattle.tally.proofs.row_sum.Given as goal
 
-abbrev pub invariant-loop-j : goal.invariant-loop-j
-invariant-loop-j l = Summing (λ (j : ℕ). cell l.rows l.i j) column_count l.j l.sum
-
-abbrev pub decreases-loop-j : goal.decreases-loop-j
-decreases-loop-j l = column_count - l.j
+abbrev pub invariant-loop-n : goal.invariant-loop-n
+invariant-loop-n l = Summing (λ (j : ℕ). get_or l.row j 0) column_count l.n-index l.sum

@@ -1,7 +1,7 @@
-use Rattle.std.proofs.Common.{sym, ◌∙◌}
 use Rattle.exports.proofs.Services.{served}
 use Rattle.text_calls.proofs.khamdoriem_lookup.Goals as goal
 
-pub returns-then-holds_record : goal.returns-then-holds_record
-returns-then-holds_record c =
-    served c.args.memory.now _ _ _ _ (sym c.holds_record.ensures ∙ c.if-holds_record.true) _ c.record_at-r.ensures _ c.element_count-e.ensures _ c.param_count-p.ensures _ _ c.lookup-w.ensures c.output_answer_of.ensures
+pub returns : goal.returns
+returns c =
+    let h = c.in-Some.ensures in
+    served c.args.memory.now _ _ _ _ h.0 _ h.1 _ h.2 _ h.3 _ _ c.lookup-w.ensures c.output_answer_of.ensures

@@ -1,28 +1,28 @@
-use Rattle.std.proofs.Common.{rules}
+use Rattle.std.proofs.Common.{◌∙◌, rules}
 use Rattle.parsers.proofs.Steps.{byte_within}
 use Rattle.timestamp.proofs.Triples.{dates, first_no, first_end, second_no, second_end, third_no, third_is}
 use Rattle.timestamp.proofs.date_from.Goals as goal
 
-pub returns-in_default : goal.returns-in_default
-returns-in_default c = search (first_no dates)
+pub returns-in_err-year : goal.returns-in_err-year
+returns-in_err-year c = search (first_no dates, rules)
 
-pub returns-in_default-byte_from : goal.returns-in_default-byte_from
-returns-in_default-byte_from c = search (first_end dates)
+pub returns-in_err-b : goal.returns-in_err-b
+returns-in_err-b c = search (first_end dates, c.in_ok-year.was, rules)
 
 pub two_from-requires : goal.two_from-requires
-two_from-requires c = search (byte_within, rules)
+two_from-requires c = search (byte_within, c.in_ok-year.was, c.in_ok-b.was, rules)
 
-pub returns-in_default-two_from : goal.returns-in_default-two_from
-returns-in_default-two_from c = search (second_no dates)
+pub returns-in_err-month : goal.returns-in_err-month
+returns-in_err-month c = search (second_no dates, c.in_ok-year.was, c.in_ok-b.was, rules)
 
-pub returns-in_default-byte_from-2 : goal.returns-in_default-byte_from-2
-returns-in_default-byte_from-2 c = search (second_end dates)
+pub returns-in_err-d : goal.returns-in_err-d
+returns-in_err-d c = c.from_residual-in_err-d.ensures ∙ second_end dates c.args.s.now c.args.at _ c.four_from.ensures _ _ c.in_ok-year.was _ c.byte_from.ensures _ c.in_ok-b.was _ c.two_from.ensures _ _ c.in_ok-month.was _ c.byte_from-2.ensures c.in_err-d.was
 
 pub two_from-requires-2 : goal.two_from-requires-2
-two_from-requires-2 c = search (byte_within, rules)
+two_from-requires-2 c = search (byte_within, c.in_ok-year.was, c.in_ok-b.was, c.in_ok-month.was, c.in_ok-d.was, rules)
 
-pub returns-in_default-two_from-2 : goal.returns-in_default-two_from-2
-returns-in_default-two_from-2 c = search (third_no dates)
+pub returns-in_err-day : goal.returns-in_err-day
+returns-in_err-day c = c.from_residual-in_err-day.ensures ∙ third_no dates c.args.s.now c.args.at _ c.four_from.ensures _ _ c.in_ok-year.was _ c.byte_from.ensures _ c.in_ok-b.was _ c.two_from.ensures _ _ c.in_ok-month.was _ c.byte_from-2.ensures _ c.in_ok-d.was _ c.two_from-2.ensures c.in_err-day.was
 
 pub returns : goal.returns
-returns c = search (third_is dates)
+returns c = third_is dates c.args.s.now c.args.at _ c.four_from.ensures _ _ c.in_ok-year.was _ c.byte_from.ensures _ c.in_ok-b.was _ c.two_from.ensures _ _ c.in_ok-month.was _ c.byte_from-2.ensures _ c.in_ok-d.was _ c.two_from-2.ensures _ _ c.in_ok-day.was

@@ -1,12 +1,7 @@
 use Rattle.std.proofs.Common.{rules}
-use Rattle.timestamp.proofs.Forms.{form_laws}
+use Rattle.timestamp.proofs.Forms.{forms}
 use Rattle.timestamp.proofs.rfc3164_from.Goals as goal
 
-pub returns-in_default : goal.returns-in_default
-returns-in_default c = search (form_laws, rules)
-
-pub returns-in_default-b : goal.returns-in_default-b
-returns-in_default-b c = search (form_laws, rules)
-
 pub returns : goal.returns
-returns c = search (form_laws, rules)
+returns c =
+    forms c.args.year c.args.offset c.ranges.offset c.args.s.now c.args.at c.without_year.result c.without_year.ensures c.or_else.result (search rules) c.or_else-2.result (search rules)

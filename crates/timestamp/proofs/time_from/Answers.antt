@@ -1,28 +1,28 @@
-use Rattle.std.proofs.Common.{rules}
+use Rattle.std.proofs.Common.{◌∙◌, rules}
 use Rattle.parsers.proofs.Steps.{byte_within}
 use Rattle.timestamp.proofs.Triples.{times, first_no, first_end, second_no, second_end, third_no, third_is}
 use Rattle.timestamp.proofs.time_from.Goals as goal
 
-pub returns-in_default : goal.returns-in_default
-returns-in_default c = search (first_no times)
+pub returns-in_err-hour : goal.returns-in_err-hour
+returns-in_err-hour c = search (first_no times, rules)
 
-pub returns-in_default-byte_from : goal.returns-in_default-byte_from
-returns-in_default-byte_from c = search (first_end times)
+pub returns-in_err-b : goal.returns-in_err-b
+returns-in_err-b c = search (first_end times, c.in_ok-hour.was, rules)
 
 pub two_from-requires-2 : goal.two_from-requires-2
-two_from-requires-2 c = search (byte_within, rules)
+two_from-requires-2 c = search (byte_within, c.in_ok-hour.was, c.in_ok-b.was, rules)
 
-pub returns-in_default-two_from : goal.returns-in_default-two_from
-returns-in_default-two_from c = search (second_no times)
+pub returns-in_err-minute : goal.returns-in_err-minute
+returns-in_err-minute c = search (second_no times, c.in_ok-hour.was, c.in_ok-b.was, rules)
 
-pub returns-in_default-byte_from-2 : goal.returns-in_default-byte_from-2
-returns-in_default-byte_from-2 c = search (second_end times)
+pub returns-in_err-d : goal.returns-in_err-d
+returns-in_err-d c = c.from_residual-in_err-d.ensures ∙ second_end times c.args.s.now c.args.at _ c.two_from.ensures _ _ c.in_ok-hour.was _ c.byte_from.ensures _ c.in_ok-b.was _ c.two_from-2.ensures _ _ c.in_ok-minute.was _ c.byte_from-2.ensures c.in_err-d.was
 
 pub two_from-requires-3 : goal.two_from-requires-3
-two_from-requires-3 c = search (byte_within, rules)
+two_from-requires-3 c = search (byte_within, c.in_ok-hour.was, c.in_ok-b.was, c.in_ok-minute.was, c.in_ok-d.was, rules)
 
-pub returns-in_default-two_from-2 : goal.returns-in_default-two_from-2
-returns-in_default-two_from-2 c = search (third_no times)
+pub returns-in_err-second : goal.returns-in_err-second
+returns-in_err-second c = c.from_residual-in_err-second.ensures ∙ third_no times c.args.s.now c.args.at _ c.two_from.ensures _ _ c.in_ok-hour.was _ c.byte_from.ensures _ c.in_ok-b.was _ c.two_from-2.ensures _ _ c.in_ok-minute.was _ c.byte_from-2.ensures _ c.in_ok-d.was _ c.two_from-3.ensures c.in_err-second.was
 
 pub returns : goal.returns
-returns c = search (third_is times)
+returns c = third_is times c.args.s.now c.args.at _ c.two_from.ensures _ _ c.in_ok-hour.was _ c.byte_from.ensures _ c.in_ok-b.was _ c.two_from-2.ensures _ _ c.in_ok-minute.was _ c.byte_from-2.ensures _ c.in_ok-d.was _ c.two_from-3.ensures _ _ c.in_ok-second.was

@@ -1,16 +1,16 @@
-use Rattle.std.proofs.Common.{rules, refl}
+use Rattle.std.proofs.Common.{arith, refl, None, Some, ◌∙◌}
 use Rattle.message.specs.Rooms.{element_size}
 use Rattle.message.proofs.Rooms.{rows_end, rows_short, rows_on, ids_step, ids_ended}
 use Rattle.message.proofs.elements.elements_room.Goals as goal
 
-pub loop-i-init : goal.loop-i-init
-loop-i-init c = (search rules, refl)
+pub returns-in_err-left : goal.returns-in_err-left
+returns-in_err-left c =
+    c.from_residual.ensures
+    ∙ rows_short element_size _ _ _ _ c.loop-row.invariant _ (ids_step _ c.loop-row.row-index (omega arith)) None c.in_err-left.ensures refl
 
-pub returns-in_default : goal.returns-in_default
-returns-in_default c = search (rows_short element_size, ids_step)
-
-pub loop-i-preserved : goal.loop-i-preserved
-loop-i-preserved c = (search rules, search (rows_on element_size, ids_step))
+pub loop-row-preserved : goal.loop-row-preserved
+loop-row-preserved c =
+    rows_on element_size _ _ _ _ c.loop-row.invariant _ (ids_step _ c.loop-row.row-index (omega arith)) (Some c.in_ok-left.left) c.in_ok-left.ensures _ refl
 
 pub returns : goal.returns
-returns c = search (rows_end element_size, ids_ended)
+returns c = rows_end element_size c.args.ids.now _ _ c.loop-row.row-index c.loop-row.invariant (ids_ended c.args.ids.now c.loop-row.row-index (omega arith))

@@ -4,4 +4,4 @@ use Rattle.message.proofs.elements.param_room.Goals as goal
 
 pub returns : goal.returns
 unfolding param_size
-returns c = search after_left
+returns c = after_left _ _ _ c.in_ok-left.was _ c.room_for.ensures

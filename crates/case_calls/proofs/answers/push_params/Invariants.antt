@@ -1,8 +1,0 @@
-use Rattle.std.proofs.Common.{◌-◌, length, ◌≡◌}
-use Rattle.case_calls.proofs.answers.push_params.Given as goal
-
-abbrev pub invariant-loop-i : goal.invariant-loop-i
-invariant-loop-i l = (length l.numbers ≡ length l.initial.numbers)
-
-abbrev pub decreases-loop-i : goal.decreases-loop-i
-decreases-loop-i l = l.count - l.i

@@ -1,6 +1,0 @@
-use Rattle.std.proofs.Common.{rules}
-use Rattle.compare.proofs.Answers.{judged_laws}
-use Rattle.compare.proofs.both_read.Goals as goal
-
-pub returns : goal.returns
-returns c = search (judged_laws, rules)

@@ -1,9 +1,0 @@
-use Rattle.std.proofs.Common.{rules}
-use Rattle.fitting.proofs.Tests.{stamp_laws}
-use Rattle.fitting.proofs.digits_fit.Goals as goal
-
-pub returns-then-h-eq0 : goal.returns-then-h-eq0
-returns-then-h-eq0 c = search (stamp_laws, rules)
-
-pub returns : goal.returns
-returns c = search (stamp_laws, rules)

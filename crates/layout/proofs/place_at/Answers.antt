@@ -1,4 +1,0 @@
-use Rattle.layout.proofs.place_at.Goals as goal
-
-pub returns : goal.returns
-returns c = cc

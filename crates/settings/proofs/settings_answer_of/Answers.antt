@@ -1,9 +1,0 @@
-use Rattle.std.proofs.Common.{rules}
-use Rattle.settings.proofs.Telling.{told_laws}
-use Rattle.settings.proofs.settings_answer_of.Goals as goal
-
-pub returns-in-Read : goal.returns-in-Read
-returns-in-Read c = search (told_laws, rules)
-
-pub returns-in-Refused : goal.returns-in-Refused
-returns-in-Refused c = search (told_laws, rules)

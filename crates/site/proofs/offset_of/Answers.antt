@@ -1,9 +1,0 @@
-use Rattle.std.proofs.Common.{rules}
-use Rattle.site.proofs.Answers.{offset_laws}
-use Rattle.site.proofs.offset_of.Goals as goal
-
-pub returns-in-Read : goal.returns-in-Read
-returns-in-Read c = search (offset_laws, rules)
-
-pub returns-in-Refused : goal.returns-in-Refused
-returns-in-Refused c = search (offset_laws, rules)

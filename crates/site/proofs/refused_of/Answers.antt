@@ -1,9 +1,0 @@
-use Rattle.std.proofs.Common.{rules}
-use Rattle.site.proofs.Answers.{refused_laws}
-use Rattle.site.proofs.refused_of.Goals as goal
-
-pub returns-in-Read : goal.returns-in-Read
-returns-in-Read c = search (refused_laws, rules)
-
-pub returns-in-Refused : goal.returns-in-Refused
-returns-in-Refused c = search (refused_laws, rules)

@@ -1,9 +1,0 @@
-use Rattle.std.proofs.Common.{rules}
-use Rattle.site.proofs.Answers.{by_laws}
-use Rattle.site.proofs.with_host.Goals as goal
-
-pub returns-in-Read : goal.returns-in-Read
-returns-in-Read c = search (by_laws, rules)
-
-pub returns-in-Refused : goal.returns-in-Refused
-returns-in-Refused c = search (by_laws, rules)

@@ -1,6 +1,0 @@
-use Rattle.std.proofs.Common.{rules}
-use Rattle.suits.proofs.Tests.{check_laws}
-use Rattle.suits.proofs.check_param.Goals as goal
-
-pub returns : goal.returns
-returns c = search (check_laws, rules)

@@ -1,4 +1,0 @@
-use Rattle.text_calls.proofs.unheld.Goals as goal
-
-pub returns : goal.returns
-returns c = cc
