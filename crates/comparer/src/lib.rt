@@ -2,7 +2,7 @@
 // refused, reading or writing fails, or a line is left without a second, that is said on standard error.
 #![tactic(auto)]
 
-ghost use Rattle.std.specs.Prelude.{◌≡◌, ◌+◌, ◌≤◌, ◌<◌, length};
+ghost use Rattle.std.specs.Prelude.{◌≡◌, ◌+◌, ◌≤◌, ◌<◌, length, IfSome};
 ghost use Rattle.output.specs.Output.{Wrote};
 ghost use Rattle.base.specs.Texts.{text_at};
 ghost use Rattle.comparer.specs.Text.{is_odd, shown_of, name_text, spaced, levels_text, places_text, ids_text, names_text, named_text, quoted_text, pair_text, elements_text, fields_text, refused_text, done_text, answer_text, line_text};
@@ -417,6 +417,7 @@ fn step(
     requires left_nonzero { 0 < t.state.left }
     ensures within_2 { Within (length line1.old) (length line2.old) (length chunk.old) result }
     ensures left_lt_left { result.state.left < t.state.left }
+    ensures no_pair_is_held { IfSome result.first (λ n. result.second ≡ None) }
 {
     let u = advance(process, line1, line2, chunk, t);
     let (Some(n), Some(m)) = (u.first, u.second) else {
