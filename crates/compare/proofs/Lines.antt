@@ -194,9 +194,9 @@ module _ (line : List ℕ) (variant year : ℕ) (o : ℤ) (f : SFits w32 o) (e�
 
   pub judged_known : (j : Judged) → Judges line variant year (to_z w32 (of_z w32 o)) (length e₀) (length p₀) j → is_read (reading_of j) ≡ true → (e₁ p₁ : List (List ℕ)) → FilledIn line j e₀ p₀ e₁ p₁ → Known j e₁ p₁
   judged_known (Settled x) c q e₁ p₁ g = absurd (settled_not x (here (Settled x) c).is.keeps q)
-  judged_known (Fitting rules end r at n m) c q e₁ p₁ g =
-      let reads = reads_filled (served line variant year o f e₀ p₀ (Fitting rules end r at n m) c) e₁ p₁ g in
-      let fits = (here (Fitting rules end r at n m) c).is in
+  judged_known (Fitting rules end at r n m) c q e₁ p₁ g =
+      let reads = reads_filled (served line variant year o f e₀ p₀ (Fitting rules end at r n m) c) e₁ p₁ g in
+      let fits = (here (Fitting rules end at r n m) c).is in
       record {
         reads = reads;
         readable = line_readable rules r end at n m fits e₁ p₁ reads;
