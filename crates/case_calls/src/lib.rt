@@ -1,10 +1,10 @@
 // The calls of a case over the C boundary, each over tables of its own.
 #![tactic(auto)]
 
-ghost use Rattle.std.specs.Prelude.{◌<◌};
+ghost use Rattle.std.specs.Prelude.{◌≡◌, length, take};
 
 use layout::{RECORD_SIZE, STRICT_SIZE};
-use record::{OutputAnswer, Param, Place, ReadAnswer, Record};
+use record::{OutputAnswer, Param, ReadAnswer};
 
 // Variant, year and offset.
 #[derive(Clone, Copy)]
@@ -18,7 +18,7 @@ pub struct Settings {
 #[derive(Clone, Copy)]
 pub struct Left<const SIZE: usize> {
     pub whole: u32,
-    memory: [u8; SIZE],
+    pub memory: [u8; SIZE],
     elements: [[usize; 2]; 64],
     params: [Param; 256],
 }
@@ -53,34 +53,18 @@ impl<const SIZE: usize> Left<SIZE> {
         }
     }
 
-    // The place that starts with word `i`.
-    pub fn place(&self, i: usize) -> Place
-        requires { i < 64 }
-    {
-        Place {
-            present: self.word(i) == 1,
-            start: self.word(i + 1) as usize,
-            len: self.word(i + 2) as usize,
-        }
-    }
-
-    // The record. (A reader leaves none that is not well formed.)
-    pub fn record(&self) -> Record {
-        if layout::holds_record(&self.memory) {
-            layout::record_at(&self.memory)
-        } else {
-            record::empty_record()
-        }
-    }
-
     // The elements that were read.
-    pub fn elements(&self) -> &[[usize; 2]] {
+    pub fn elements(&self) -> &[[usize; 2]]
+        ensures { result.now ≡ take (length result.now) self.now.elements }
+    {
         let count = self.word(layout::ELEMENTS_WORD) as usize;
         &self.elements[..count.min(64)]
     }
 
     // The parameters that were read.
-    pub fn params(&self) -> &[Param] {
+    pub fn params(&self) -> &[Param]
+        ensures { result.now ≡ take (length result.now) self.now.params }
+    {
         let count = self.word(layout::PARAMS_WORD) as usize;
         &self.params[..count.min(256)]
     }

@@ -1,5 +1,5 @@
 // A case is a line of text: a letter, and fields after one space each, numbers in decimal, bytes in hexadecimal, `-` for no bytes.
-ghost use Rattle.std.specs.Prelude.{◌≤◌, ◌<◌, length, IfOk};
+ghost use Rattle.std.specs.Prelude.{◌≡◌, ◌≤◌, ◌<◌, length, IfOk};
 
 use case_calls::Settings;
 
@@ -43,7 +43,8 @@ impl<'a> Fields<'a> {
 
     // Bytes, to the front of a lent buffer, and how many they are.
     pub fn bytes(&mut self, out: &mut [u8]) -> Result<usize, Differs>
-        ensures { IfOk result (λ n. n ≤ length out.new) }
+        ensures stored { IfOk result (λ n. n ≤ length out.new) }
+        ensures out_len_unchanged { length out.new ≡ length out.old }
     {
         let mut n = 0;
         loop {

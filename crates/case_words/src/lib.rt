@@ -72,6 +72,24 @@ fn show_message(process: &mut Process, line: &[u8], r: &Record) {
     say_text(process, b"  message ", line, r.message.start, r.message.len);
 }
 
+// The record. (A reader leaves none that is not well formed.)
+fn record_of(memory: &[u8]) -> Record {
+    if layout::holds_record(memory) {
+        layout::record_at(memory)
+    } else {
+        record::empty_record()
+    }
+}
+
+// The place of the timestamp's text.
+fn place_of<const SIZE: usize>(left: &Left<SIZE>) -> Place {
+    Place {
+        present: left.word(TEXT_WORD) == 1,
+        start: left.word(TEXT_WORD + 1) as usize,
+        len: left.word(TEXT_WORD + 2) as usize,
+    }
+}
+
 // The rows of both tables.
 fn show_data<const SIZE: usize>(process: &mut Process, line: &[u8], left: &Left<SIZE>) {
     for [start, len] in left.elements() {
@@ -101,7 +119,7 @@ fn show_refusal(process: &mut Process, number: u32) {
 pub fn show_reading(process: &mut Process, line: &[u8], s: Settings) {
     match reading(line, s, 64, 256) {
         Ok(left) => {
-            let r = left.record();
+            let r = record_of(&left.memory);
             if left.whole == 1 {
                 say(process, b"  whole\n");
             }
@@ -119,9 +137,9 @@ pub fn show_reading(process: &mut Process, line: &[u8], s: Settings) {
 pub fn show_strict(process: &mut Process, line: &[u8]) {
     match strict_reading(line) {
         Ok(left) => {
-            let r = left.record();
+            let r = record_of(&left.memory);
             show_front(process, &r);
-            say_place(process, b"  timestamp ", line, left.place(TEXT_WORD));
+            say_place(process, b"  timestamp ", line, place_of(&left));
             show_texts(process, line, &r);
             if left.word(MARK_WORD) == 1 {
                 show_message(process, line, &r);

@@ -28,15 +28,14 @@ use Rattle.differ.proofs.Parts.{blank_pair}
 use Rattle.compare.specs.Compare.{nothing, compared_of, seen_in, Compares}
 use Rattle.compare.specs.Numbers.{answer_of}
 use Rattle.compare.specs.Laws.{Alike, Formed, NothingWhereAlike, OneResult, OneAnswer, Calls}
-use Rattle.compare.specs.declared.Compared.{Compared}
-use Rattle.compare.specs.declared.Compared.TheVariants.{Refused, Done}
+use Rattle.compare.specs.declared.Refused.{Refused}
 use Rattle.compare.proofs.Alike.{alike_nothing, nothing_alike, same_nowhere, exchange_keeps, occurs_one}
 use Rattle.compare.proofs.Lines.{tables_suit_lem}
 use Rattle.record.specs.declared.Refusal.{Refusal}
 
 -- ---- one result
 
-module _ {line₁ line₂ : List ℕ} {variant year : ℕ} {offset : ℤ} {e₁ p₁ e₂ p₂ : List (List ℕ)} {c d : Compared} {e₁' p₁' e₂' p₂' e₁'' p₁'' e₂'' p₂'' : List (List ℕ)}
+module _ {line₁ line₂ : List ℕ} {variant year : ℕ} {offset : ℤ} {e₁ p₁ e₂ p₂ : List (List ℕ)} {c d : Result Differences Refused} {e₁' p₁' e₂' p₂' e₁'' p₁'' e₂'' p₂'' : List (List ℕ)}
     (x : Compares line₁ line₂ variant year offset e₁ p₁ e₂ p₂ c e₁' p₁' e₂' p₂') (y : Compares line₁ line₂ variant year offset e₁ p₁ e₂ p₂ d e₁'' p₁'' e₂'' p₂'') where
   same_answer : c ≡ d
   same_answer = x.answer ∙ sym y.answer
@@ -81,13 +80,13 @@ nothing_where_alike = record { alike = nothing_alike; nothing_differs = alike_no
 
 -- ---- a call that refuses no line
 
-abbrev is_done : Compared → Bool
-is_done (Done d) = true
-is_done (Refused k f) = false
+abbrev is_done : Result Differences Refused → Bool
+is_done (Ok d) = true
+is_done (Err x) = false
 
-abbrev of : Compared → Differences
-of (Done d) = d
-of (Refused k f) = nothing
+abbrev of : Result Differences Refused → Differences
+of (Ok d) = d
+of (Err x) = nothing
 
 -- both lines are read, and what differs is of their readings
 record Known (x y : Result Reading Refusal) (d D : Differences) : Type 0 where
@@ -97,7 +96,7 @@ record Known (x y : Result Reading Refusal) (d D : Differences) : Type 0 where
   is₁ : Ok (loose.Read read₁ ids₁ params₁) ≡ x
   is : d ≡ D
 
-done_known : (x y : Result Reading Refusal) (d D : Differences) → Done d ≡ compared_of x y D → Known x y d D
+done_known : (x y : Result Reading Refusal) (d D : Differences) → Ok d ≡ compared_of x y D → Known x y d D
 done_known (Err f) y d D h = clash (ap is_done h)
 done_known (Ok (loose.Whole r)) y d D h = clash (ap is_done h)
 done_known (Ok (loose.Read r m n)) (Err f) d D h = clash (ap is_done h)
@@ -105,7 +104,7 @@ done_known (Ok (loose.Read r m n)) (Ok (loose.Whole s)) d D h = clash (ap is_don
 done_known (Ok (loose.Read r m n)) (Ok (loose.Read s k l)) d D h = record { read₁ = r; ids₁ = m; params₁ = n; is₁ = refl; is = ap of h }
 
 module _ {line₁ line₂ : List ℕ} {variant year : ℕ} {offset : ℤ} {e₁ p₁ e₂ p₂ e₁' p₁' e₂' p₂' : List (List ℕ)} {d : Differences}
-    (h : Compares line₁ line₂ variant year offset e₁ p₁ e₂ p₂ (Done d) e₁' p₁' e₂' p₂') where
+    (h : Compares line₁ line₂ variant year offset e₁ p₁ e₂ p₂ (Ok d) e₁' p₁' e₂' p₂') where
   abbrev first : Seen
   first = seen_in line₁ (outcome_of line₁ variant year offset)
 
@@ -132,12 +131,12 @@ module _ {line₁ line₂ : List ℕ} {variant year : ℕ} {offset : ℤ} {e₁ 
   done_nothing a = done_is ∙ alike_nothing first second a
 
 module _ {line : List ℕ} {variant year : ℕ} {offset : ℤ} {e₁ p₁ e₂ p₂ e₁' p₁' e₂' p₂' : List (List ℕ)} {d : Differences}
-    (h : Compares line line variant year offset e₁ p₁ e₂ p₂ (Done d) e₁' p₁' e₂' p₂') where
+    (h : Compares line line variant year offset e₁ p₁ e₂ p₂ (Ok d) e₁' p₁' e₂' p₂') where
   with_itself : d ≡ nothing
   with_itself = done_is h ∙ same_nowhere (seen_in line (outcome_of line variant year offset))
 
 module _ {line₁ line₂ : List ℕ} {variant year : ℕ} {offset : ℤ} {e₁ p₁ e₂ p₂ e₁' p₁' e₂' p₂' e₁'' p₁'' e₂'' p₂'' : List (List ℕ)} {c d : Differences}
-    (h : Compares line₁ line₂ variant year offset e₁ p₁ e₂ p₂ (Done c) e₁' p₁' e₂' p₂') (g : Compares line₂ line₁ variant year offset e₂ p₂ e₁ p₁ (Done d) e₂'' p₂'' e₁'' p₁'') where
+    (h : Compares line₁ line₂ variant year offset e₁ p₁ e₂ p₂ (Ok c) e₁' p₁' e₂' p₂') (g : Compares line₂ line₁ variant year offset e₂ p₂ e₁ p₁ (Ok d) e₂'' p₂'' e₁'' p₁'') where
   exchanged_alike : (c.fields ≡ d.fields) × (c.position ≡ d.position)
   exchanged_alike =
       let x = exchange_keeps (seen_in line₁ (outcome_of line₁ variant year offset)) (seen_in line₂ (outcome_of line₂ variant year offset)) in (

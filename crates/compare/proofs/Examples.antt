@@ -1,4 +1,5 @@
 -- Worked examples: pairs of lines, and each refusal in its order, computed from the definitions.
+use Rattle.std.specs.Prelude.{Result, Ok, Err}
 use Prim.Native.Nat.{ℕ}
 use mathlib.Core.Path.{◌≡◌, refl}
 use mathlib.Core.List.{List, [], ◌∷◌, map}
@@ -24,24 +25,28 @@ use Rattle.structured_data.specs.Data.{item_from, elements_from, data_from}
 use Rattle.rfc3164.specs.Names.{split_at, split_of, host_and_tag}
 use Rattle.rfc3164.specs.Rfc3164.{spaced_host, spaced_tag, tag_end, header_from, body_from, rfc3164}
 use Rattle.rfc5424.specs.Rfc5424.{blank_host, blank_plain, start_from, four_from, body_from as body_from5424, rfc5424}
+use Rattle.record.specs.declared.Refusal.{Refusal}
 use Rattle.record.specs.declared.Refusal.TheVariants.{BadSetting, NotUtf8, NoReading, TooManyElements, TooManyParams, LineTooLong}
 use Rattle.loose.specs.Loose.{by_variant, outcome_of, answered}
 use Rattle.lookup.specs.Unescape.{unescaped_from}
+use Rattle.differ.specs.declared.Differences.{Differences}
 use Rattle.differ.specs.Differences.{occurs, before, differences_of}
 use Rattle.compare.specs.declared.CompareAnswer.{CompareAnswer}
-use Rattle.compare.specs.declared.Compared.{Compared}
-use Rattle.compare.specs.declared.Compared.TheVariants.{Refused, Done}
+use Rattle.compare.specs.declared.Refused.{Refused}
 use Rattle.compare.specs.Compare.{nothing, compared_of, seen_in, table_after}
 use Rattle.compare.specs.Numbers.{answer_of}
 
 -- what a comparison answers, in 2023 at +60, with tables of so many entries for each line
-abbrev compared : ℕ → ℕ → ℕ → ℕ → ℕ → List ℕ × List ℕ → Compared
+abbrev compared : ℕ → ℕ → ℕ → ℕ → ℕ → List ℕ × List ℕ → Result Differences Refused
 compared variant e₁ p₁ e₂ p₂ c =
     compared_of (answered c.0 variant 2023 (pos 60) e₁ p₁) (answered c.1 variant 2023 (pos 60) e₂ p₂)
     (differences_of (seen_in c.0 (outcome_of c.0 variant 2023 (pos 60))) (seen_in c.1 (outcome_of c.1 variant 2023 (pos 60))))
 
-abbrev done : ℕ → ℕ → ℕ → ℕ → Compared
-done fields position line entry = Done (record { fields = fields; position = position; pair_line = line; pair_entry = entry })
+abbrev done : ℕ → ℕ → ℕ → ℕ → Result Differences Refused
+done fields position line entry = Ok (record { fields = fields; position = position; pair_line = line; pair_entry = entry })
+
+abbrev refused : ℕ → Refusal → Result Differences Refused
+refused line f = Err (record { line = line; refusal = f })
 
 abbrev one : List ℕ
 one = bytes "<13>1 - h a p m [x a=\"1\"] t"
@@ -92,14 +97,14 @@ unfolding outcome_of by_variant utf8_from trimmed text_end white_from white_len 
 lines = refl
 
 -- nothing differs, field by field
-nothing_told : Done nothing ≡ done 0 0 0 0
+nothing_told : Ok nothing ≡ done 0 0 0 0
 nothing_told = refl
 
 -- The first line's refusal, whatever the second's is; then the second's. A line with no reading is refused with 4.
 refusals : (map (compared 0 2 2 2 2) ((no_text, no_text) ∷ (one, no_text) ∷ (bytes "hello", no_text) ∷ (bytes "hello", one) ∷ (one, bytes "hello") ∷ (one, one) ∷ [])
-    ≡ Refused 1 NotUtf8 ∷ Refused 2 NotUtf8 ∷ Refused 1 NoReading ∷ Refused 1 NoReading ∷ Refused 2 NoReading ∷ done 0 0 0 0 ∷ [])
+    ≡ refused 1 NotUtf8 ∷ refused 2 NotUtf8 ∷ refused 1 NoReading ∷ refused 1 NoReading ∷ refused 2 NoReading ∷ done 0 0 0 0 ∷ [])
     × (compared 3 2 2 2 2 (one, no_text) ∷ compared 0 0 0 0 0 (one, one) ∷ compared 0 1 0 0 0 (one, one) ∷ compared 0 1 1 0 0 (one, one) ∷ compared 0 1 1 1 0 (one, one) ∷ compared 0 1 1 1 1 (one, one) ∷ []
-    ≡ Refused 1 BadSetting ∷ Refused 1 TooManyElements ∷ Refused 1 TooManyParams ∷ Refused 2 TooManyElements ∷ Refused 2 TooManyParams ∷ done 0 0 0 0 ∷ [])
+    ≡ refused 1 BadSetting ∷ refused 1 TooManyElements ∷ refused 1 TooManyParams ∷ refused 2 TooManyElements ∷ refused 2 TooManyParams ∷ done 0 0 0 0 ∷ [])
 unfolding outcome_of by_variant utf8_from trimmed text_end white_from white_len code_point is_white char_len well_formed lead_of run field_len decimal_from number_at fixed_at fraction_at leap month_days valid_date valid_time valid year_days days_before_year days_of_months day_number local_seconds seconds_of span_from year_of month_of clock_of shown pri_at plain_at host_at tag_len tag_at some_blanks_from byte_from number_from plain_from host_from tag_from named_from month_number month_from clock_from fixed_from either_from date_from time_from nanos_from minutes_from zone_from end_from full_from rfc3339_from day_from without_year with_year rfc3164_from quoted_len param_at id_len more_params params_from element_from item_from elements_from data_from split_at split_of host_and_tag spaced_host spaced_tag tag_end header_from body_from rfc3164 blank_host blank_plain start_from four_from body_from5424 rfc5424 unescaped_from occurs before
 refusals = (refl, refl)
 
@@ -108,9 +113,9 @@ refusals = (refl, refl)
 abbrev told : ℕ → ℕ → ℕ → ℕ → ℕ → ℕ → CompareAnswer
 told number line fields pair-line position entry = record { number = number; line = line; fields = fields; pair_line = pair-line; position = position; pair_entry = entry }
 
-answers : map answer_of (Refused 1 LineTooLong ∷ Refused 2 NoReading ∷ done 0 0 0 0 ∷ done 257 3 2 5 ∷ []) ≡ told 1 1 0 0 0 0 ∷ told 4 2 0 0 0 0 ∷ told 0 0 0 0 0 0 ∷ told 0 0 257 2 3 5 ∷ []
+answers : map answer_of (refused 1 LineTooLong ∷ refused 2 NoReading ∷ done 0 0 0 0 ∷ done 257 3 2 5 ∷ []) ≡ told 1 1 0 0 0 0 ∷ told 4 2 0 0 0 0 ∷ told 0 0 0 0 0 0 ∷ told 0 0 257 2 3 5 ∷ []
 answers = refl
 
-tables : map (λ (c : Compared). table_after c ((7 ∷ []) ∷ []) ((8 ∷ []) ∷ (9 ∷ []) ∷ [])) (Refused 1 NotUtf8 ∷ Refused 2 NoReading ∷ done 0 0 0 0 ∷ [])
+tables : map (λ (c : Result Differences Refused). table_after c ((7 ∷ []) ∷ []) ((8 ∷ []) ∷ (9 ∷ []) ∷ [])) (refused 1 NotUtf8 ∷ refused 2 NoReading ∷ done 0 0 0 0 ∷ [])
     ≡ ((8 ∷ []) ∷ (9 ∷ []) ∷ []) ∷ ((8 ∷ []) ∷ (9 ∷ []) ∷ []) ∷ ((7 ∷ []) ∷ (9 ∷ []) ∷ []) ∷ []
 tables = refl

@@ -48,8 +48,7 @@ use Rattle.compare.specs.Compare.{nothing, compared_of, seen_in, table_after, Co
 use Rattle.compare.specs.Numbers.{answer_of, Answers}
 use Rattle.compare.specs.Steps.{is_read, line_of}
 use Rattle.compare.specs.declared.CompareAnswer.{CompareAnswer}
-use Rattle.compare.specs.declared.Compared.{Compared}
-use Rattle.compare.specs.declared.Compared.TheVariants.{Done}
+use Rattle.compare.specs.declared.Refused.{Refused}
 use Rattle.compare.proofs.Answers.{refused_any, refused_keeps}
 use Rattle.record.specs.declared.Refusal.{Refusal}
 
@@ -195,9 +194,9 @@ module _ (line : List ℕ) (variant year : ℕ) (o : ℤ) (f : SFits w32 o) (e�
 
   pub judged_known : (j : Judged) → Judges line variant year (to_z w32 (of_z w32 o)) (length e₀) (length p₀) j → is_read (reading_of j) ≡ true → (e₁ p₁ : List (List ℕ)) → FilledIn line j e₀ p₀ e₁ p₁ → Known j e₁ p₁
   judged_known (Settled x) c q e₁ p₁ g = absurd (settled_not x (here (Settled x) c).is.keeps q)
-  judged_known (Fitting rules end r at n m) c q e₁ p₁ g =
-      let reads = reads_filled (served line variant year o f e₀ p₀ (Fitting rules end r at n m) c) e₁ p₁ g in
-      let fits = (here (Fitting rules end r at n m) c).is in
+  judged_known (Fitting rules end at r n m) c q e₁ p₁ g =
+      let reads = reads_filled (served line variant year o f e₀ p₀ (Fitting rules end at r n m) c) e₁ p₁ g in
+      let fits = (here (Fitting rules end at r n m) c).is in
       record {
         reads = reads;
         readable = line_readable rules r end at n m fits e₁ p₁ reads;
@@ -211,7 +210,7 @@ read_table (Ok (loose.Read r n m)) q xs old = refl
 read_table (Ok (loose.Whole r)) q xs old = clash (sym q)
 read_table (Err g) q xs old = clash (sym q)
 
-both_done : (x y : Result Reading Refusal) (d : Differences) → is_read x ≡ true → is_read y ≡ true → Done d ≡ compared_of x y d
+both_done : (x y : Result Reading Refusal) (d : Differences) → is_read x ≡ true → is_read y ≡ true → Ok d ≡ compared_of x y d
 both_done (Ok (loose.Read r n m)) (Ok (loose.Read s k l)) d p q = refl
 both_done (Ok (loose.Read r n m)) (Ok (loose.Whole s)) d p q = clash (sym q)
 both_done (Ok (loose.Read r n m)) (Err g) d p q = clash (sym q)
@@ -225,7 +224,7 @@ module _ (line₁ line₂ : List ℕ) (variant year : ℕ) (o : ℤ) (f : SFits 
   answers d =
       ap₂ (λ (x y : Result Reading Refusal). compared_of x y d) (judged_answer line₁ variant year o f e₁ p₁ j₁ c₁) (judged_answer line₂ variant year o f e₂ p₂ j₂ c₂)
 
-  pub compared_refused : (is_read (reading_of j₁) && is_read (reading_of j₂)) ≡ false → (c : Compared) → c ≡ compared_of (reading_of j₁) (reading_of j₂) nothing
+  pub compared_refused : (is_read (reading_of j₁) && is_read (reading_of j₂)) ≡ false → (c : Result Differences Refused) → c ≡ compared_of (reading_of j₁) (reading_of j₂) nothing
       → Compares line₁ line₂ variant year o e₁ p₁ e₂ p₂ c e₁ p₁ e₂ p₂
   compared_refused h c q =
       let D = differences_of (seen_in line₁ (outcome_of line₁ variant year o)) (seen_in line₂ (outcome_of line₂ variant year o)) in
@@ -260,13 +259,13 @@ module _ (line₁ line₂ : List ℕ) (variant year : ℕ) (o : ℤ) (f : SFits 
         pub line_readable₂ : Readable line₂ b e₂'
         line_readable₂ = subst (λ (l : Line). Readable line₂ l e₂') (sym eb) known₂.readable
 
-        pub compared_done : (d : Differences) (e₁'' e₂'' : List (List ℕ)) → Differs line₁ a e₁' line₂ b e₂' d e₁'' e₂'' → (c : Compared) → c ≡ Done d → Compares line₁ line₂ variant year o e₁ p₁ e₂ p₂ c e₁'' p₁' e₂'' p₂'
+        pub compared_done : (d : Differences) (e₁'' e₂'' : List (List ℕ)) → Differs line₁ a e₁' line₂ b e₂' d e₁'' e₂'' → (c : Result Differences Refused) → c ≡ Ok d → Compares line₁ line₂ variant year o e₁ p₁ e₂ p₂ c e₁'' p₁' e₂'' p₂'
         compared_done d e₁'' e₂'' w c q =
             let D = differences_of (seen_in line₁ (outcome_of line₁ variant year o)) (seen_in line₂ (outcome_of line₂ variant year o)) in
             let same : d ≡ D = w.is ∙ sym (ap₂ differences_of (known₁.seen ∙ ap (λ (l : Line). seen_by line₁ l e₁') (sym ea)) (known₂.seen ∙ ap (λ (l : Line). seen_by line₂ l e₂') (sym eb))) in
             rw q
             (record {
-              answer = ap Done same ∙ both_done (reading_of j₁) (reading_of j₂) D read₁ read₂ ∙ answers D;
+              answer = ap Ok same ∙ both_done (reading_of j₁) (reading_of j₂) D read₁ read₂ ∙ answers D;
               elements₁ = w.kept₁ ∙ known₁.reads.elements ∙ read_table (reading_of j₁) read₁ _ e₁;
               params₁ = known₁.reads.params ∙ read_table (reading_of j₁) read₁ _ p₁;
               elements₂ = w.kept₂ ∙ known₂.reads.elements ∙ read_table (reading_of j₂) read₂ _ e₂;
@@ -275,7 +274,7 @@ module _ (line₁ line₂ : List ℕ) (variant year : ℕ) (o : ℤ) (f : SFits 
 
 -- ---- as C has it
 
-pub call_answers : (line₁ line₂ : List ℕ) (variant year : ℕ) (o : ℤ) → SFits w32 o → (e₁ p₁ e₂ p₂ : List (List ℕ)) (c : Compared) (e₁' p₁' e₂' p₂' : List (List ℕ))
+pub call_answers : (line₁ line₂ : List ℕ) (variant year : ℕ) (o : ℤ) → SFits w32 o → (e₁ p₁ e₂ p₂ : List (List ℕ)) (c : Result Differences Refused) (e₁' p₁' e₂' p₂' : List (List ℕ))
     → Compares line₁ line₂ variant year (to_z w32 (of_z w32 o)) e₁ p₁ e₂ p₂ c e₁' p₁' e₂' p₂' → (a : CompareAnswer) → a ≡ answer_of c
     → Answers line₁ line₂ variant year o e₁ p₁ e₂ p₂ a e₁' p₁' e₂' p₂'
 call_answers line₁ line₂ variant year o f e₁ p₁ e₂ p₂ c e₁' p₁' e₂' p₂' h a q = record { compared = c; compares = rw (to_z-of_z w32 o f) at h; is = q }

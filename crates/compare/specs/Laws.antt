@@ -1,9 +1,8 @@
 -- What a user would ask of a comparison: statements to be read without their proofs, which are in proofs/.
-use Rattle.std.specs.Prelude.{ℕ, ◌<◌, ◌≡◌, List, true, length, ℤ}
+use Rattle.std.specs.Prelude.{ℕ, ◌<◌, ◌≡◌, List, true, length, ℤ, Result, Ok}
 use Rattle.loose.specs.Loose.{outcome_of, settings_ok}
 use Rattle.differ.specs.declared.Differences.{Differences}
-use Rattle.compare.specs.declared.Compared.{Compared}
-use Rattle.compare.specs.declared.Compared.TheVariants.{Done}
+use Rattle.compare.specs.declared.Refused.{Refused}
 use Rattle.compare.specs.declared.CompareAnswer.{CompareAnswer}
 use Rattle.differ.specs.Seen.{Pair, Seen}
 use Rattle.differ.specs.Differences.{occurs, differences_of}
@@ -49,7 +48,7 @@ pub record NothingWhereAlike : Type 0 where
 
 -- any two results that the contract allows are equal
 pub record OneResult : Type 0 where
-  pub one : {line₁ line₂ : List ℕ} {variant year : ℕ} {offset : ℤ} {e₁ p₁ e₂ p₂ : List (List ℕ)} {c d : Compared} {e₁' p₁' e₂' p₂' e₁'' p₁'' e₂'' p₂'' : List (List ℕ)}
+  pub one : {line₁ line₂ : List ℕ} {variant year : ℕ} {offset : ℤ} {e₁ p₁ e₂ p₂ : List (List ℕ)} {c d : Result Differences Refused} {e₁' p₁' e₂' p₂' e₁'' p₁'' e₂'' p₂'' : List (List ℕ)}
       → Compares line₁ line₂ variant year offset e₁ p₁ e₂ p₂ c e₁' p₁' e₂' p₂'
       → Compares line₁ line₂ variant year offset e₁ p₁ e₂ p₂ d e₁'' p₁'' e₂'' p₂''
       → (c ≡ d) × (e₁' ≡ e₁'') × (p₁' ≡ p₁'') × (e₂' ≡ e₂'') × (p₂' ≡ p₂'')
@@ -65,16 +64,16 @@ pub record OneAnswer : Type 0 where
 pub record Calls : Type 0 where
   -- a line compared with itself differs in nothing,
   pub nowhere : {line : List ℕ} {variant year : ℕ} {offset : ℤ} {e₁ p₁ e₂ p₂ e₁' p₁' e₂' p₂' : List (List ℕ)} {d : Differences}
-      → Compares line line variant year offset e₁ p₁ e₂ p₂ (Done d) e₁' p₁' e₂' p₂' → d ≡ nothing
+      → Compares line line variant year offset e₁ p₁ e₂ p₂ (Ok d) e₁' p₁' e₂' p₂' → d ≡ nothing
   -- two lines differ in nothing exactly where their readings are alike,
   pub alike : {line₁ line₂ : List ℕ} {variant year : ℕ} {offset : ℤ} {e₁ p₁ e₂ p₂ e₁' p₁' e₂' p₂' : List (List ℕ)} {d : Differences}
-      → Compares line₁ line₂ variant year offset e₁ p₁ e₂ p₂ (Done d) e₁' p₁' e₂' p₂'
+      → Compares line₁ line₂ variant year offset e₁ p₁ e₂ p₂ (Ok d) e₁' p₁' e₂' p₂'
       → d.fields ≡ 0 → Alike (seen_in line₁ (outcome_of line₁ variant year offset)) (seen_in line₂ (outcome_of line₂ variant year offset))
   pub nothing_differs : {line₁ line₂ : List ℕ} {variant year : ℕ} {offset : ℤ} {e₁ p₁ e₂ p₂ e₁' p₁' e₂' p₂' : List (List ℕ)} {d : Differences}
-      → Compares line₁ line₂ variant year offset e₁ p₁ e₂ p₂ (Done d) e₁' p₁' e₂' p₂'
+      → Compares line₁ line₂ variant year offset e₁ p₁ e₂ p₂ (Ok d) e₁' p₁' e₂' p₂'
       → Alike (seen_in line₁ (outcome_of line₁ variant year offset)) (seen_in line₂ (outcome_of line₂ variant year offset)) → d ≡ nothing
   -- and two lines exchanged differ in the same fields and at the same position
   pub exchanged : {line₁ line₂ : List ℕ} {variant year : ℕ} {offset : ℤ} {e₁ p₁ e₂ p₂ e₁' p₁' e₂' p₂' e₁'' p₁'' e₂'' p₂'' : List (List ℕ)} {c d : Differences}
-      → Compares line₁ line₂ variant year offset e₁ p₁ e₂ p₂ (Done c) e₁' p₁' e₂' p₂'
-      → Compares line₂ line₁ variant year offset e₂ p₂ e₁ p₁ (Done d) e₂'' p₂'' e₁'' p₁''
+      → Compares line₁ line₂ variant year offset e₁ p₁ e₂ p₂ (Ok c) e₁' p₁' e₂' p₂'
+      → Compares line₂ line₁ variant year offset e₂ p₂ e₁ p₁ (Ok d) e₂'' p₂'' e₁'' p₁''
       → (c.fields ≡ d.fields) × (c.position ≡ d.position)

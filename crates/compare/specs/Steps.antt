@@ -22,4 +22,4 @@ refusal_of (Err f) = Some f
 
 abbrev pub line_of : Judged → Line
 line_of (Settled x) = record { read = empty_record; end = 0; ids = 0; params = 0 }
-line_of (Fitting rules end r at n m) = record { read = r; end = end; ids = n; params = m }
+line_of (Fitting rules end at r n m) = record { read = r; end = end; ids = n; params = m }

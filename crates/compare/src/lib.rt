@@ -11,11 +11,11 @@ use differ::{Differences, Line};
 use loose::Judged;
 use record::{Param, Reading, Refusal};
 
-// What a comparison answers: which line is refused, 1 or 2, and why; or what differs.
+// Which line was refused, 1 or 2, and why.
 #[derive(Clone, Copy)]
-pub enum Compared {
-    Refused(u32, Refusal),
-    Done(Differences),
+pub struct Refused {
+    pub line: u32,
+    pub refusal: Refusal,
 }
 
 // Why a line is refused, if it is: with 4 where it has no reading.
@@ -66,7 +66,7 @@ pub fn compare(
     params1: &mut [Param],
     elements2: &mut [[usize; 2]],
     params2: &mut [Param],
-) -> Compared
+) -> Result<Differences, Refused>
     ensures { Compares line1.now line2.now variant year offset elements1.old (rows params1.old) elements2.old (rows params2.old) result elements1.new (rows params1.new) elements2.new (rows params2.new) }
 {
     let e1 = elements1.len();
@@ -76,16 +76,16 @@ pub fn compare(
     let first = loose::judge(line1, variant, year, offset, e1, p1);
     let second = loose::judge(line2, variant, year, offset, e2, p2);
     if let Some(refusal) = refusal_of(loose::reading_of(first)) {
-        return Compared::Refused(1, refusal);
+        return Err(Refused { line: 1, refusal });
     }
     if let Some(refusal) = refusal_of(loose::reading_of(second)) {
-        return Compared::Refused(2, refusal);
+        return Err(Refused { line: 2, refusal });
     }
     loose::fill(line1, first, elements1, params1);
     loose::fill(line2, second, elements2, params2);
     let a = line_of(first);
     let b = line_of(second);
-    Compared::Done(differ::differ_in(line1, a, elements1, line2, b, elements2))
+    Ok(differ::differ_in(line1, a, elements1, line2, b, elements2))
 }
 
 // As a C caller gets it: the number of a refusal (0: none) and the line that is refused, 1 or 2; or what differs.
@@ -100,19 +100,19 @@ pub struct CompareAnswer {
     pub pair_entry: usize,
 }
 
-fn answer_of(c: Compared) -> CompareAnswer
+fn answer_of(c: Result<Differences, Refused>) -> CompareAnswer
     ensures { result ≡ answer_of c }
 {
     match c {
-        Compared::Refused(line, refusal) => CompareAnswer {
-            number: u32::from(refusal),
-            line,
+        Err(refused) => CompareAnswer {
+            number: u32::from(refused.refusal),
+            line: refused.line,
             fields: 0,
             pair_line: 0,
             position: 0,
             pair_entry: 0,
         },
-        Compared::Done(d) => CompareAnswer {
+        Ok(d) => CompareAnswer {
             number: 0,
             line: 0,
             fields: d.fields,

@@ -1,7 +1,7 @@
 -- Two lines, one behind the other: a turn stays within its buffers and its chunk, with a turn less.
-use Rattle.std.specs.Prelude.{Option, Some, None, IfSome}
+use Rattle.std.specs.Prelude.{IfSome}
 use Prim.Native.Nat.{ℕ, ◌≤◌}
-use mathlib.Core.Path.{◌≡◌, ◌∙◌}
+use mathlib.Core.Path.{◌≡◌}
 use mathlib.Core.List.{List}
 use native.Mathlib.Omega.{arith}
 use lib.ListN.{length, drop, length-take, length-drop}
@@ -9,8 +9,7 @@ use Rattle.base.specs.Texts.{text_at}
 use Rattle.frames.specs.declared.Task.{Task}
 use Rattle.frames.specs.declared.Task.TheVariants.{More, Read, Refuse, End, Cut, Failed}
 use Rattle.frames.specs.Tasks.{to_read}
-use Rattle.comparer.specs.declared.Turn.{Turn}
-use Rattle.comparer.specs.Turns.{line_of, Within}
+use Rattle.comparer.specs.Turns.{line_of}
 
 -- a line is within its buffer
 pub line_in : (t : Task) (room : ℕ) → to_read t ≤ room → IfSome (line_of t room) (λ n. n ≤ room)

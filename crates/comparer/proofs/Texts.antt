@@ -1,4 +1,5 @@
 -- The text of an answer, written piece by piece: each piece fits, and how far it goes.
+use Rattle.std.specs.Prelude.{Result, Ok, Err}
 use Prim.Native.Nat.{ℕ, ◌+◌, ◌/◌, ◌≤◌}
 use mathlib.Core.Path.{◌≡◌, ◌∙◌}
 use mathlib.Core.Bool.{Bool, true, false}
@@ -16,8 +17,7 @@ use Rattle.output.proofs.Numerals.{length_fixed, width_le}
 use Rattle.output.proofs.Writes.{wrote_then, wrote_length}
 use Rattle.output.proofs.Pieces.{unwritten}
 use Rattle.differ.specs.declared.Differences.{Differences}
-use Rattle.compare.specs.declared.Compared.{Compared}
-use Rattle.compare.specs.declared.Compared.TheVariants.{Refused, Done}
+use Rattle.compare.specs.declared.Refused.{Refused}
 use Rattle.comparer.specs.Text.{is_odd, shown_of, name_text, spaced, levels_text, places_text, ids_text, names_text, named_text, quoted_text, pair_text, elements_text, fields_text, refused_text, done_text, answer_text, line_text}
 
 -- ---- two pieces, and three, of which the first ones end in the output
@@ -223,12 +223,12 @@ module _ (o : List ℕ) (at line : ℕ) (f : Refusal) (room : at + 32 ≤ length
   unfolding refused_text
   refused_wrote b q v vb n en c r w = rw (← en) (three u (omega arith) v (omega (arith, up)) w)
 
-module _ (o : List ℕ) (name value : List ℕ) (c : Compared) (a : ℕ) (p : List ℕ) where
-  pub answer_refused : (k : ℕ) (f : Refusal) → c ≡ Refused k f → Wrote o 0 (refused_text k f) a p → Wrote o 0 (answer_text c name value) a p
+module _ (o : List ℕ) (name value : List ℕ) (c : Result Differences Refused) (a : ℕ) (p : List ℕ) where
+  pub answer_refused : (x : Refused) → c ≡ Err x → Wrote o 0 (refused_text x.line x.refusal) a p → Wrote o 0 (answer_text c name value) a p
   unfolding answer_text
-  answer_refused k f e w = rw e w
+  answer_refused x e w = rw e w
 
-  pub answer_done : (d : Differences) → c ≡ Done d → Wrote o 0 (done_text d name value) a p → Wrote o 0 (answer_text c name value) a p
+  pub answer_done : (d : Differences) → c ≡ Ok d → Wrote o 0 (done_text d name value) a p → Wrote o 0 (answer_text c name value) a p
   unfolding answer_text
   answer_done d e w = rw e w
 

@@ -1,12 +1,11 @@
 -- What the program writes of a pair of lines: each word and each number behind a blank (32). The first blank is not written.
-use Rattle.std.specs.Prelude.{ℕ, ◌/◌, ◌%◌, Bool, true, List, [], ◌∷◌, ◌++◌, eqb, if◌then◌else◌}
+use Rattle.std.specs.Prelude.{ℕ, ◌/◌, ◌%◌, Bool, true, List, [], ◌∷◌, ◌++◌, eqb, if◌then◌else◌, Result, Ok, Err}
 use Rattle.base.specs.Bytes.{bytes}
 use Rattle.record.specs.Refusals.{refusal_number}
 use Rattle.record.specs.declared.Refusal.{Refusal}
 use Rattle.output.specs.Numerals.{numeral}
 use Rattle.differ.specs.declared.Differences.{Differences}
-use Rattle.compare.specs.declared.Compared.{Compared}
-use Rattle.compare.specs.declared.Compared.TheVariants.{Refused, Done}
+use Rattle.compare.specs.declared.Refused.{Refused}
 
 abbrev pub is_odd : ℕ → Bool
 is_odd n = eqb (n % 2) 1
@@ -64,10 +63,10 @@ refused_text line f = name_text true (bytes "refuse") ++ (spaced line ++ spaced 
 unfoldable pub done_text : Differences → List ℕ → List ℕ → List ℕ
 done_text d name value = if eqb d.fields 0 then name_text true (bytes "same") else fields_text d name value
 
-unfoldable pub answer_text : Compared → List ℕ → List ℕ → List ℕ
-answer_text (Refused line f) name value = refused_text line f
-answer_text (Done d) name value = done_text d name value
+unfoldable pub answer_text : Result Differences Refused → List ℕ → List ℕ → List ℕ
+answer_text (Err x) name value = refused_text x.line x.refusal
+answer_text (Ok d) name value = done_text d name value
 
 -- with LF
-unfoldable pub line_text : Compared → List ℕ → List ℕ → List ℕ
+unfoldable pub line_text : Result Differences Refused → List ℕ → List ℕ → List ℕ
 line_text c name value = answer_text c name value ++ (10 ∷ [])

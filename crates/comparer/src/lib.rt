@@ -2,13 +2,13 @@
 // refused, reading or writing fails, or a line is left without a second, that is said on standard error.
 #![tactic(auto)]
 
-ghost use Rattle.std.specs.Prelude.{◌≡◌, ◌+◌, ◌≤◌, ◌<◌, length};
+ghost use Rattle.std.specs.Prelude.{◌≡◌, ◌+◌, ◌≤◌, ◌<◌, length, IfSome};
 ghost use Rattle.output.specs.Output.{Wrote};
 ghost use Rattle.base.specs.Texts.{text_at};
 ghost use Rattle.comparer.specs.Text.{is_odd, shown_of, name_text, spaced, levels_text, places_text, ids_text, names_text, named_text, quoted_text, pair_text, elements_text, fields_text, refused_text, done_text, answer_text, line_text};
 ghost use Rattle.comparer.specs.Turns.{line_of, sought, Within};
 
-use compare::Compared;
+use compare::Refused;
 use differ::Differences;
 use frames::{Options, State, Task};
 use program::{Process, Status, Takes};
@@ -258,7 +258,7 @@ fn put_done(out: &mut [u8], at: usize, d: Differences, name: &[u8], value: &[u8]
     }
 }
 
-fn put_answer(out: &mut [u8], c: Compared, name: &[u8], value: &[u8]) -> usize
+fn put_answer(out: &mut [u8], c: Result<Differences, Refused>, name: &[u8], value: &[u8]) -> usize
     requires in_bounds { 16522 ≤ length out.old }
     requires name_len_bound { length name.now ≤ 8193 }
     requires value_len_bound { length value.now ≤ 8193 }
@@ -267,13 +267,13 @@ fn put_answer(out: &mut [u8], c: Compared, name: &[u8], value: &[u8]) -> usize
     ensures out_len_unchanged { length out.new ≡ length out.old }
 {
     match c {
-        Compared::Refused(line, refusal) => put_refused(out, 0, line, refusal),
-        Compared::Done(d) => put_done(out, 0, d, name, value),
+        Err(refused) => put_refused(out, 0, refused.line, refused.refusal),
+        Ok(d) => put_done(out, 0, d, name, value),
     }
 }
 
 // The line of a pair of lines, with a blank before it.
-fn put_line(out: &mut [u8], c: Compared, name: &[u8], value: &[u8]) -> usize
+fn put_line(out: &mut [u8], c: Result<Differences, Refused>, name: &[u8], value: &[u8]) -> usize
     requires in_bounds { 16523 ≤ length out.old }
     requires name_len_bound { length name.now ≤ 8193 }
     requires value_len_bound { length value.now ≤ 8193 }
@@ -297,14 +297,14 @@ fn part(line: &[u8], start: usize, len: usize) -> &[u8]
 }
 
 // Whether the pair that an answer names stands in the second line.
-fn is_second(c: Compared) -> bool {
-    matches!(c, Compared::Done(d) if d.pair_line == 2)
+fn is_second(c: Result<Differences, Refused>) -> bool {
+    matches!(c, Ok(d) if d.pair_line == 2)
 }
 
 // Writes the line of a pair, which may name the parameter `p` of the first line or `q` of the second. Answers whether it could be written.
 fn write_line(
     process: &Process,
-    c: Compared,
+    c: Result<Differences, Refused>,
     line1: &[u8],
     p: Param,
     line2: &[u8],
@@ -322,7 +322,7 @@ fn write_line(
     )
 }
 
-fn write_text(process: &Process, c: Compared, name: &[u8], value: &[u8]) -> bool
+fn write_text(process: &Process, c: Result<Differences, Refused>, name: &[u8], value: &[u8]) -> bool
     requires name_len_bound { length name.now ≤ 8193 }
     requires value_len_bound { length value.now ≤ 8193 }
 {
@@ -332,11 +332,11 @@ fn write_text(process: &Process, c: Compared, name: &[u8], value: &[u8]) -> bool
 }
 
 // The entry of the pair that an answer names, in a table of 256 entries; the first one where it names none.
-fn entry_of(c: Compared) -> usize
+fn entry_of(c: Result<Differences, Refused>) -> usize
     ensures { result < 256 }
 {
     match c {
-        Compared::Done(d) if d.pair_entry < 256 => d.pair_entry,
+        Ok(d) if d.pair_entry < 256 => d.pair_entry,
         _ => 0,
     }
 }
@@ -417,6 +417,7 @@ fn step(
     requires left_nonzero { 0 < t.state.left }
     ensures within_2 { Within (length line1.old) (length line2.old) (length chunk.old) result }
     ensures left_lt_left { result.state.left < t.state.left }
+    ensures no_pair_is_held { IfSome result.first (λ n. result.second ≡ None) }
 {
     let u = advance(process, line1, line2, chunk, t);
     let (Some(n), Some(m)) = (u.first, u.second) else {

@@ -2,7 +2,7 @@
 use Prim.Native.Nat.{ℕ, ◌+◌, ◌*◌, ◌≤◌, ◌<◌}
 use mathlib.Core.Path.{◌≡◌, ap}
 use mathlib.Core.Bool.{true}
-use mathlib.Core.List.{List}
+use mathlib.Core.List.{List, [], ◌∷◌}
 use native.Mathlib.Omega.{arith}
 use lib.Dec.{leb}
 use lib.ListN.{length, get_or, drop, length-drop}
@@ -29,9 +29,25 @@ number_of_eight s h =
     let l : (i : ℕ) → i < 8 → number (drop i s) ≡ get_or s i 0 + 256 * number (drop (i + 1) s) = λ i k. number_on s i (omega arith) in
     omega (arith, l 0 (omega arith), l 1 (omega arith), l 2 (omega arith), l 3 (omega arith), l 4 (omega arith), l 5 (omega arith), l 6 (omega arith), l 7 (omega arith))
 
+eight_of : (s : List ℕ) (a : ℕ) → ((k : ℕ) → k < 8 → drop (a + k) s ≡ get_or s (a + k) 0 ∷ drop (a + (k + 1)) s)
+    → get_or s a 0 ∷ get_or s (a + 1) 0 ∷ get_or s (a + 2) 0 ∷ get_or s (a + 3) 0 ∷ get_or s (a + 4) 0 ∷ get_or s (a + 5) 0 ∷ get_or s (a + 6) 0 ∷ get_or s (a + 7) 0 ∷ [] ≡ text_at s a 8
+eight_of s a n =
+    let z : a + 0 ≡ a = omega arith in
+    let f : drop a s ≡ get_or s a 0 ∷ drop (a + 1) s = rw z at (n 0 (omega arith)) in
+    rw (f, n 1 (omega arith), n 2 (omega arith), n 3 (omega arith), n 4 (omega arith), n 5 (omega arith), n 6 (omega arith), n 7 (omega arith))
+
 pub word_held : (s : List ℕ) (i : ℕ) (bytes : List ℕ) → record_size ≤ length s → i < word_count → bytes ≡ text_at s (i * 8) 8 → from_le_bytes w64 bytes ≡ word_at s i
 unfolding word_at
 word_held s i bytes l h e = rw e (number_of_eight (text_at s (i * 8) 8) (length-take-le 8 (drop (i * 8) s) (simp length-drop (omega arith))))
+
+-- the eight bytes of a word, one by one
+pub word_is : (s : List ℕ) (i : ℕ) → record_size ≤ length s → i < word_count → from_le_bytes w64
+    (get_or s (i * 8) 0 ∷ get_or s (i * 8 + 1) 0 ∷ get_or s (i * 8 + 2) 0 ∷ get_or s (i * 8 + 3) 0 ∷ get_or s (i * 8 + 4) 0 ∷ get_or s (i * 8 + 5) 0 ∷ get_or s (i * 8 + 6) 0 ∷ get_or s (i * 8 + 7) 0 ∷ []) ≡ word_at s i
+word_is s i l h =
+    let n : (k : ℕ) → k < 8 → drop (i * 8 + k) s ≡ get_or s (i * 8 + k) 0 ∷ drop (i * 8 + k + 1) s = λ k m. step s (i * 8 + k) (omega arith) in
+    let z : i * 8 + 0 ≡ i * 8 = omega arith in
+    let a : (k : ℕ) → i * 8 + k + 1 ≡ i * 8 + (k + 1) = λ k. omega arith in
+    word_held s i _ l h (eight_of s (i * 8) (λ k m. rw (← a k) (n k m)))
 
 -- bytes that hold a record
 pub record Held (s : List ℕ) : Type 0 where

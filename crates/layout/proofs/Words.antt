@@ -1,17 +1,13 @@
 -- Words written one after the other, and a word by its eight bytes.
-use Prim.Native.Nat.{ℕ, zero, suc, ◌+◌, ◌-◌, ◌*◌, ◌/◌, ◌≤◌, ◌<◌}
+use Prim.Native.Nat.{ℕ, zero, suc, ◌+◌, ◌*◌, ◌/◌, ◌%◌, ◌≤◌, ◌<◌}
 use mathlib.Core.Path.{◌≡◌, refl, sym, ap, ◌∙◌}
 use mathlib.Core.List.{List, [], ◌∷◌, ◌++◌, append_assoc, append-nil}
 use native.Mathlib.Omega.{arith}
-use lib.ListN.{length, length-append}
+use lib.ListN.{length, set, length-append}
 use lib.ListN.{get_or, drop}
-use lib.Seq.{drop-drop}
-use mir.Syntax.{w64}
-use borrow.Rule.Slice.PartMut.{put_mid}
-use Rattle.std.specs.Int.{to_le_bytes}
 use Rattle.base.proofs.Parts.{step}
-use Rattle.output.specs.Output.{written, Wrote}
 use Rattle.output.proofs.Pieces.{Starts, starts_front, Midway, midway_all, midway_fits, midway_on, midway_last, midway_end}
+use Rattle.output.proofs.Writes.{Owes, owes_all, owes_more, owes_none}
 use Rattle.layout.specs.Layout.{little, words_bytes, Room, Puts}
 
 pub length_little : (k n : ℕ) → length (little k n) ≡ k
@@ -82,9 +78,25 @@ module _ {o words p : List ℕ} {a : ℕ} {x y : List ℕ} where
 
 -- ---- a word
 
-word_bytes_lem : (n : ℕ) → to_le_bytes w64 n ≡ words_bytes (n ∷ [])
-unfolding little words_bytes
-word_bytes_lem n =
+pub word_room : (o : List ℕ) (at n : ℕ) → Room o at (n ∷ []) → at + 8 ≤ length o
+word_room o at n f = omega (arith, f.fits.fits, words_length (n ∷ []))
+
+-- the bytes as the code computes them
+eight : ℕ → List ℕ
+eight n =
+    (n % 256)
+    ∷ (n / 256 % 256)
+    ∷ (n / 65536 % 256)
+    ∷ (n / 16777216 % 256)
+    ∷ (n / 4294967296 % 256)
+    ∷ (n / 1099511627776 % 256)
+    ∷ (n / 281474976710656 % 256)
+    ∷ (n / 72057594037927936 % 256)
+    ∷ []
+
+word_is : (n : ℕ) → eight n ≡ words_bytes (n ∷ [])
+unfolding eight little words_bytes
+word_is n =
     let a : n / 65536 ≡ n / 256 / 256 = omega arith in
     let b : n / 16777216 ≡ n / 65536 / 256 = omega arith in
     let c : n / 4294967296 ≡ n / 16777216 / 256 = omega arith in
@@ -93,17 +105,34 @@ word_bytes_lem n =
     let f : n / 72057594037927936 ≡ n / 281474976710656 / 256 = omega arith in
     rw (f, e, d, c, b, a)
 
-module _ {o : List ℕ} {at : ℕ} {words p : List ℕ} {a : ℕ} {i : ℕ} (f : Room o at words) (w : Putting o at words p a (drop i words)) (h : i < length words) where
-  pub next_room : a + 8 ≤ length p
-  next_room =
-      let r : Room p a (get_or words i 0 ∷ []) = putting_room f w (record { others = drop (i + 1) words; is = sym (step words i h) }) in
-      omega (arith, r.fits.fits, words_length (get_or words i 0 ∷ []))
+-- one byte more
+stored : (o : List ℕ) (at : ℕ) (text p : List ℕ) (i b : ℕ) (t : List ℕ) → Owes o at text p (at + i) (b ∷ t) → at + i < length o → Owes o at text (set p (at + i) b) (at + suc i) t
+stored o at text p i b t w h =
+    let e : at + i + 1 ≡ at + suc i = omega arith in
+    rw (← e) (owes_more o at text p (at + i) b t w (omega (arith, w.same)))
 
-  pub next_put : (bytes : List ℕ) → bytes ≡ to_le_bytes w64 (get_or words i 0) → Putting o at words (put_mid a (a + 8 - a) p bytes) (a + 8) (drop (i + 1) words)
-  unfolding written
-  next_put bytes e =
-      let b : bytes ≡ words_bytes (get_or words i 0 ∷ []) = e ∙ word_bytes_lem (get_or words i 0) in
-      let l : length (words_bytes (get_or words i 0 ∷ [])) ≡ 8 = words_length (get_or words i 0 ∷ []) in
-      let k : a + 8 - a ≡ 8 = omega arith in
-      let v : Wrote p a (words_bytes (get_or words i 0 ∷ [])) (a + 8) (put_mid a (a + 8 - a) p bytes) = record { behind = omega arith; holds = rw (b, l, k, drop-drop 8 a p) } in
-      putting_on f w _ (record { wrote = v }) (sym (step words i h))
+-- eight stores
+module _ (o : List ℕ) (at n : ℕ) (f : Room o at (n ∷ [])) where
+  pub word_wrote : Puts o at (n ∷ []) (at + 8)
+      (set (set (set (set (set (set (set (set o at (n % 256)) (at + 1) (n / 256 % 256)) (at + 2) (n / 65536 % 256)) (at + 3) (n / 16777216 % 256)) (at + 4) (n / 4294967296 % 256)) (at + 5) (n / 1099511627776 % 256)) (at + 6) (n / 281474976710656 % 256)) (at + 7) (n / 72057594037927936 % 256))
+  unfolding eight
+  word_wrote =
+      let z : at + 0 ≡ at = omega arith in
+      let l : at + 8 ≤ length o = word_room o at n f in
+      let all : Owes o at (eight n) o (at + 0) (eight n) = rw z (owes_all o at (eight n)) in
+      let a = stored o at (eight n) _ 0 _ _ all (omega arith) in
+      let b = stored o at (eight n) _ 1 _ _ a (omega arith) in
+      let c = stored o at (eight n) _ 2 _ _ b (omega arith) in
+      let d = stored o at (eight n) _ 3 _ _ c (omega arith) in
+      let e = stored o at (eight n) _ 4 _ _ d (omega arith) in
+      let g = stored o at (eight n) _ 5 _ _ e (omega arith) in
+      let h = stored o at (eight n) _ 6 _ _ g (omega arith) in
+      let k = stored o at (eight n) _ 7 _ _ h (omega arith) in
+      record { wrote = rw (← word_is n) (owes_none o at (eight n) _ (at + 8) (at + 8) (rw z at k) refl) }
+
+module _ {o : List ℕ} {at : ℕ} {words p : List ℕ} {a : ℕ} {i : ℕ} (f : Room o at words) (w : Putting o at words p a (drop i words)) (h : i < length words) where
+  pub next_room : Room p a (get_or words i 0 ∷ [])
+  next_room = putting_room f w (record { others = drop (i + 1) words; is = sym (step words i h) })
+
+  pub next_put : {n : ℕ} {q : List ℕ} → Puts p a (get_or words i 0 ∷ []) n q → Putting o at words q n (drop (i + 1) words)
+  next_put v = putting_on f w (drop (i + 1) words) v (sym (step words i h))

@@ -1,7 +1,7 @@
 // The record byte by byte, as docs/INTERFACE.md lays it out: into memory that was lent, and from memory that comes in.
 #![tactic(auto)]
 
-ghost use Rattle.std.specs.Prelude.{◌≡◌, true, ◌+◌, ◌≤◌, ◌<◌, length};
+ghost use Rattle.std.specs.Prelude.{◌≡◌, true, [], ◌∷◌, ◌+◌, ◌≤◌, ◌<◌, length};
 ghost use Rattle.base.specs.Fills.{filled};
 ghost use Rattle.layout.specs.Layout.{protocol_word, version_word, timestamp_word, seconds_word, nanos_word, digits_word, offset_word, message_word, word_count, record_size, strict_size, protocol_words, level_words, stamp_words, place_words, record_words, record_bytes, strict_bytes, Room, Puts};
 ghost use Rattle.layout.specs.Incoming.{word_at, signed, marked, narrow, stamped, front_held, marks_held, holds_record, protocol_at, level_at, stamp_at, place_at, span_at, record_at, element_count_at, param_count_at};
@@ -54,15 +54,30 @@ pub const STRICT_SIZE: usize = STRICT_WORD_COUNT * 8;
 
 // ---- into memory that was lent. Each answers the position after what it wrote.
 
-// Words, one after the other. A word's eight bytes are one store.
+// Eight stores, which the compiler makes one.
+fn put_word(out: &mut [u8], at: usize, n: u64) -> usize
+    requires { Room out.old at (n ∷ []) }
+    ensures { Puts out.old at (n ∷ []) result out.new }
+{
+    out[at] = (n % 256) as u8;
+    out[at + 1] = (n / 256 % 256) as u8;
+    out[at + 2] = (n / 65536 % 256) as u8;
+    out[at + 3] = (n / 16777216 % 256) as u8;
+    out[at + 4] = (n / 4294967296 % 256) as u8;
+    out[at + 5] = (n / 1099511627776 % 256) as u8;
+    out[at + 6] = (n / 281474976710656 % 256) as u8;
+    out[at + 7] = (n / 72057594037927936 % 256) as u8;
+    at + 8
+}
+
+// Words, one after the other.
 fn put_words<const N: usize>(out: &mut [u8], at: usize, words: [u64; N]) -> usize
     requires { Room out.old at words }
     ensures { Puts out.old at words.entry result out.new }
 {
     let mut next = at;
     for word in words {
-        out[next..next + 8].copy_from_slice(&word.to_le_bytes());
-        next += 8;
+        next = put_word(out, next, word);
     }
     next
 }
@@ -111,6 +126,7 @@ fn place_words(place: Place) -> [u64; 3]
 }
 
 // The fields that both readers have. A name is where the words of that field start.
+#[inline(always)]
 fn put_common(out: &mut [u8], r: &Record, e: usize, p: usize) -> usize
     requires { record_size ≤ length out.old }
     ensures { Puts out.old 0 (record_words r.now e p) result out.new }
@@ -161,7 +177,17 @@ pub fn word_at(s: &[u8], i: usize) -> u64
     requires i_lt_word_count { i < word_count }
     ensures { result ≡ word_at s.now i }
 {
-    u64::from_le_bytes(*s[i * 8..].first_chunk().unwrap())
+    let at = i * 8;
+    u64::from_le_bytes([
+        s[at],
+        s[at + 1],
+        s[at + 2],
+        s[at + 3],
+        s[at + 4],
+        s[at + 5],
+        s[at + 6],
+        s[at + 7],
+    ])
 }
 
 // An offset from its word, two's complement.

@@ -91,7 +91,7 @@ module _ (line : List ℕ) (variant year : ℕ) (o : ℤ) (f : SFits w32 o) (h :
         pub judged_params : y < m → Judges line variant year o x y (Settled (Err TooManyParams))
         judged_params l = refused TooManyParams (rw (drafts.is, ← drafts.elements_are, le-ltb x n k, ← drafts.params_are, lt-ltb y m l))
 
-        pub judged_fits : m ≤ y → Judges line variant year o x y (Fitting rules ends.end r at n m)
+        pub judged_fits : m ≤ y → Judges line variant year o x y (Fitting rules ends.end at r n m)
         judged_fits l = record { is = record { passes = h; inside = text_inside; drafts = drafts; elements_fit_lem = k; params_fit_lem = l } }
 
 pub ruleset judge_text_laws = (text_inside, text_starts, judged_none, judged_elements, judged_params, judged_fits)

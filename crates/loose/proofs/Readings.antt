@@ -41,7 +41,7 @@ module _ (j : Judged) where
     pub reading_settled : x ≡ reading_of j
     reading_settled = rw z
 
-  module _ (rules : Rules) (r : Record) (end at n m : ℕ) (z : j ≡ Fitting rules end r at n m) where
+  module _ (rules : Rules) (r : Record) (end at n m : ℕ) (z : j ≡ Fitting rules end at r n m) where
     pub fitting_read : true ≡ is_fitting j
     fitting_read = rw z
 
@@ -64,7 +64,7 @@ module _ (line : List ℕ) (variant year : ℕ) (o : ℤ) (f : SFits w32 o) (e p
   settles : (x : Result Reading Refusal) → j ≡ Settled x → Settles line variant year o e p x
   settles x z = rw z at here.is
 
-  module _ (rules : Rules) (r : Record) (end at n m : ℕ) (z : j ≡ Fitting rules end r at n m) where
+  module _ (rules : Rules) (r : Record) (end at n m : ℕ) (z : j ≡ Fitting rules end at r n m) where
     fits : Fits line variant year o e p rules r end at n m
     fits = rw z at here.is
 
@@ -77,7 +77,7 @@ module _ (line : List ℕ) (variant year : ℕ) (o : ℤ) (f : SFits w32 o) (e p
 pub answer_is : (line : List ℕ) (variant year : ℕ) (o : ℤ) → SFits w32 o → (e p : ℕ) (j : Judged) → Judges line variant year (to_z w32 (of_z w32 o)) e p j
     → (x : Result Reading Refusal) → x ≡ reading_of j → x ≡ answered line variant year o e p
 answer_is line variant year o f e p (Settled a) c x h = h ∙ (settles line variant year o f e p (Settled a) c a refl).answer
-answer_is line variant year o f e p (Fitting rules end r at n m) c x h = h ∙ answer_read line variant year o f e p (Fitting rules end r at n m) c rules r end at n m refl
+answer_is line variant year o f e p (Fitting rules end at r n m) c x h = h ∙ answer_read line variant year o f e p (Fitting rules end at r n m) c rules r end at n m refl
 
 -- and of the tables
 module _ (line : List ℕ) (variant year : ℕ) (o : ℤ) (f : SFits w32 o) (e₀ p₀ : List (List ℕ)) (j : Judged)
@@ -87,7 +87,7 @@ module _ (line : List ℕ) (variant year : ℕ) (o : ℤ) (f : SFits w32 o) (e�
       let s = settles line variant year o f (length e₀) (length p₀) j c x z in
       record { answer = s.answer; elements = s.keeps _ e₀; params = s.keeps _ p₀ }
 
-  module _ (rules : Rules) (r : Record) (end at n m : ℕ) (z : j ≡ Fitting rules end r at n m) where
+  module _ (rules : Rules) (r : Record) (end at n m : ℕ) (z : j ≡ Fitting rules end at r n m) where
     fitting : Fits line variant year o (length e₀) (length p₀) rules r end at n m
     fitting = fits line variant year o f (length e₀) (length p₀) j c rules r end at n m z
 
@@ -123,12 +123,12 @@ module _ (line : List ℕ) (variant year : ℕ) (o : ℤ) (f : SFits w32 o) (e�
   pub served : (j : Judged) → Judges line variant year (to_z w32 (of_z w32 o)) (length e₀) (length p₀) j → Served line variant year o e₀ p₀ (is_fitting j) (rules_of j) (data_of j) (reading_of j)
   served (Settled x) c =
       record { as_they_are = λ t. reads_settled line variant year o f e₀ p₀ (Settled x) c x refl; inside = λ t. clash (sym t); room = λ t. clash (sym t); filled_in = λ t. clash (sym t) }
-  served (Fitting rules end r at n m) c =
+  served (Fitting rules end at r n m) c =
       record {
         as_they_are = λ t. clash t;
-        inside = λ t. part_ends line variant year o f e₀ p₀ (Fitting rules end r at n m) c rules r end at n m refl;
-        room = λ t. tables_room line variant year o f e₀ p₀ (Fitting rules end r at n m) c rules r end at n m refl;
-        filled_in = λ t. reads_fitting line variant year o f e₀ p₀ (Fitting rules end r at n m) c rules r end at n m refl;
+        inside = λ t. part_ends line variant year o f e₀ p₀ (Fitting rules end at r n m) c rules r end at n m refl;
+        room = λ t. tables_room line variant year o f e₀ p₀ (Fitting rules end at r n m) c rules r end at n m refl;
+        filled_in = λ t. reads_fitting line variant year o f e₀ p₀ (Fitting rules end at r n m) c rules r end at n m refl;
       }
 
 -- what filling leaves

@@ -44,27 +44,27 @@ pub record Settles (line : List ℕ) (variant year : ℕ) (offset : ℤ) (e p : 
 
 abbrev pub JudgesOf : List ℕ → ℕ → ℕ → ℤ → ℕ → ℕ → Judged → Type 0
 JudgesOf line variant year offset e p (Settled x) = Settles line variant year offset e p x
-JudgesOf line variant year offset e p (Fitting rules end r at n m) = Fits line variant year offset e p rules r end at n m
+JudgesOf line variant year offset e p (Fitting rules end at r n m) = Fits line variant year offset e p rules r end at n m
 
 pub record Judges (line : List ℕ) (variant year : ℕ) (offset : ℤ) (e p : ℕ) (j : Judged) : Type 0 where
   pub is : JudgesOf line variant year offset e p j
 
 abbrev pub is_fitting : Judged → Bool
 is_fitting (Settled x) = false
-is_fitting (Fitting rules end r at n m) = true
+is_fitting (Fitting rules end at r n m) = true
 
 -- what the rows are stored by
 abbrev pub rules_of : Judged → Rules
 rules_of (Settled x) = Rfc3164Rules
-rules_of (Fitting rules end r at n m) = rules
+rules_of (Fitting rules end at r n m) = rules
 
 abbrev pub data_of : Judged → Data
 data_of (Settled x) = record { end = 0; at = 0; ids = 0; params = 0 }
-data_of (Fitting rules end r at n m) = record { end = end; at = at; ids = n; params = m }
+data_of (Fitting rules end at r n m) = record { end = end; at = at; ids = n; params = m }
 
 abbrev pub reading_of : Judged → Result Reading Refusal
 reading_of (Settled x) = x
-reading_of (Fitting rules end r at n m) = Ok (Read r n m)
+reading_of (Fitting rules end at r n m) = Ok (Read r n m)
 
 -- where the line is read, tables with room for its rows
 pub record Fillable (line : List ℕ) (j : Judged) (e₀ p₀ : List (List ℕ)) : Type 0 where

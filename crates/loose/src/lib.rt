@@ -19,8 +19,8 @@ pub enum Judged {
     Fitting {
         rules: Rules,
         end: usize,
-        read: Record,
         at: usize,
+        read: Record,
         elements: usize,
         params: usize,
     },

@@ -1,14 +1,37 @@
-use Rattle.std.proofs.Common.{◌∙◌, rules}
-use borrow.Author.Tests.{tests}
-use Rattle.std.proofs.lemmas.Iterator.{YieldsList-from_slice}
-use Rattle.std.proofs.lemmas.Iterator.Search.{YieldsList-from_take_while}
-use Rattle.std.proofs.lemmas.Iterator.Consumers.{count_from_yields_List}
-use Rattle.structured_data.specs.Param.{is_named}
-use Rattle.structured_data.proofs.Ids.{taken_run}
+use Rattle.std.proofs.Common.{rules}
+use Rattle.base.proofs.Runs.{runs_laws}
+use Rattle.structured_data.proofs.Ids.{name_letter}
 use Rattle.structured_data.proofs.name_run.Goals as goal
 
+pub loop-i-init : goal.loop-i-init
+loop-i-init c = search (name_letter, runs_laws, rules)
+
+pub bounds-s-i : goal.bounds-s-i
+bounds-s-i c = search (name_letter, runs_laws, rules)
+
+pub overflow_add-i : goal.overflow_add-i
+overflow_add-i c = search (name_letter, runs_laws, rules)
+
+pub loop-i-smaller-then-b-ge94 : goal.loop-i-smaller-then-b-ge94
+loop-i-smaller-then-b-ge94 c = search (name_letter, runs_laws, rules)
+
+pub loop-i-preserved-then-b-ge94 : goal.loop-i-preserved-then-b-ge94
+loop-i-preserved-then-b-ge94 c = search (name_letter, runs_laws, rules)
+
+pub is_named-requires : goal.is_named-requires
+is_named-requires c = search (name_letter, runs_laws, rules)
+
+pub returns-then-not-is_named : goal.returns-then-not-is_named
+returns-then-not-is_named c = search (name_letter, runs_laws, rules)
+
+pub overflow_add-i-else-b-ge94 : goal.overflow_add-i-else-b-ge94
+overflow_add-i-else-b-ge94 c = search (name_letter, runs_laws, rules)
+
+pub loop-i-smaller : goal.loop-i-smaller
+loop-i-smaller c = search (name_letter, runs_laws, rules)
+
+pub loop-i-preserved : goal.loop-i-preserved
+loop-i-preserved c = search (name_letter, runs_laws, rules)
+
 pub returns : goal.returns
-returns c =
-    count_from_yields_List c.take_while.result _ c.count.ensures.ran
-    (YieldsList-from_take_while _ is_named (YieldsList-from_slice c.args.s.now cc) c.take_while.ensures.closure c.take_while.ensures.done (λ x b q k. search (rules, tests)))
-    ∙ taken_run is_named c.args.s.now
+returns c = search (name_letter, runs_laws, rules)
