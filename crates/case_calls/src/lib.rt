@@ -1,7 +1,9 @@
 // The calls of a case over the C boundary, each over tables of its own.
 #![tactic(auto)]
 
-ghost use Rattle.std.specs.Prelude.{◌≡◌, length, take};
+ghost use Rattle.std.specs.Prelude.{◌≡◌, min, take};
+ghost use Rattle.layout.specs.Layout.{elements_word, params_word};
+ghost use Rattle.case_calls.specs.Words.{word_in};
 
 use layout::{RECORD_SIZE, STRICT_SIZE};
 use record::{OutputAnswer, Param, ReadAnswer};
@@ -46,7 +48,10 @@ impl<const SIZE: usize> Left<SIZE> {
     }
 
     // Word `i` of the record's bytes; 0 past the end.
-    pub fn word(&self, i: usize) -> u64 {
+    #[tactic(auto, using(crate::proofs::Words::eight_read), unfolding(layout::specs::Incoming::word_at))]
+    pub fn word(&self, i: usize) -> u64
+        ensures { result ≡ word_in self.now.memory i }
+    {
         match self.memory.chunks_exact(8).nth(i) {
             Some(&[a, b, c, d, e, f, g, h]) => u64::from_le_bytes([a, b, c, d, e, f, g, h]),
             _ => 0,
@@ -55,7 +60,7 @@ impl<const SIZE: usize> Left<SIZE> {
 
     // The elements that were read.
     pub fn elements(&self) -> &[[usize; 2]]
-        ensures { result.now ≡ take (length result.now) self.now.elements }
+        ensures { result.now ≡ take (min (word_in self.now.memory elements_word) 64) self.now.elements }
     {
         let count = self.word(layout::ELEMENTS_WORD) as usize;
         &self.elements[..count.min(64)]
@@ -63,7 +68,7 @@ impl<const SIZE: usize> Left<SIZE> {
 
     // The parameters that were read.
     pub fn params(&self) -> &[Param]
-        ensures { result.now ≡ take (length result.now) self.now.params }
+        ensures { result.now ≡ take (min (word_in self.now.memory params_word) 256) self.now.params }
     {
         let count = self.word(layout::PARAMS_WORD) as usize;
         &self.params[..count.min(256)]

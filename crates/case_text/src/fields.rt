@@ -1,5 +1,5 @@
 // A case is a line of text: a letter, and fields after one space each, numbers in decimal, bytes in hexadecimal, `-` for no bytes.
-ghost use Rattle.std.specs.Prelude.{◌≡◌, ◌≤◌, ◌<◌, length, IfOk};
+ghost use Rattle.std.specs.Prelude.{◌≡◌, ◌≤◌, ◌<◌, length, drop, IfOk};
 
 use case_calls::Settings;
 
@@ -15,7 +15,9 @@ pub struct Fields<'a> {
 
 impl<'a> Fields<'a> {
     // Those behind the letter of a case.
-    pub fn of(text: &'a [u8]) -> Fields<'a> {
+    pub fn of(text: &'a [u8]) -> Fields<'a>
+        ensures { result.rest.now ≡ drop 2 text.now }
+    {
         match text {
             [_, _, rest @ ..] => Fields { rest },
             _ => Fields { rest: &[] },

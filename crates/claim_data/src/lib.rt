@@ -268,7 +268,8 @@ fn tree_noted(
     distinct::first_repeat(line, starts, lens, n, depths, kids) == n
 }
 
-// The tables are on the stack and are cleared, so that each claim pays for a size that fits it.
+// The tables are on the stack and are cleared, so that each claim pays for a size that fits it: none is drawn into the caller.
+#[inline(never)]
 fn some_differ(line: &[u8], ids: &[[usize; 2]]) -> bool
     requires ids { Ids line.now ids.now }
     requires ids_len_bound { length ids.now ≤ 64 }
@@ -281,6 +282,7 @@ fn some_differ(line: &[u8], ids: &[[usize; 2]]) -> bool
     tree_noted(line, ids, &mut starts, &mut lens, &mut depths, &mut kids)
 }
 
+#[inline(never)]
 fn many_differ(line: &[u8], ids: &[[usize; 2]]) -> bool
     requires ids { Ids line.now ids.now }
     requires ids_len_bound { length ids.now ≤ 512 }
@@ -294,6 +296,7 @@ fn many_differ(line: &[u8], ids: &[[usize; 2]]) -> bool
 }
 
 // An element has three bytes or more: no line of 8,192 bytes has more than 2,730.
+#[inline(never)]
 fn most_differ(line: &[u8], ids: &[[usize; 2]]) -> bool
     requires { Ids line.now ids.now }
     ensures { result ≡ all_different (ids_at line.now ids.now) }
@@ -305,8 +308,7 @@ fn most_differ(line: &[u8], ids: &[[usize; 2]]) -> bool
     tree_noted(line, ids, &mut starts, &mut lens, &mut depths, &mut kids)
 }
 
-// Whether the ids differ. The first eight are compared first, and most lines have no more. (A function that calls itself is not drawn into its caller by the compiler,
-// nor large tables into it: only lines with many elements pay for them.)
+// Whether the ids differ. The first eight are compared first, and most lines have no more: only those with more elements pay for tables.
 pub fn ids_differ(line: &[u8], ids: &[[usize; 2]]) -> bool
     requires { Ids line.now ids.now }
     ensures { result ≡ all_different (ids_at line.now ids.now) }

@@ -6,7 +6,7 @@ ghost use Rattle.std.specs.Prelude.{◌≡◌, ◌+◌, ◌≤◌, ◌<◌, leng
 ghost use Rattle.output.specs.Output.{Wrote};
 ghost use Rattle.base.specs.Texts.{text_at};
 ghost use Rattle.comparer.specs.Text.{is_odd, shown_of, name_text, spaced, levels_text, places_text, ids_text, names_text, named_text, quoted_text, pair_text, elements_text, fields_text, refused_text, done_text, answer_text, line_text};
-ghost use Rattle.comparer.specs.Turns.{line_of, sought, Within};
+ghost use Rattle.comparer.specs.Turns.{line_of, sought, Within, Onward};
 
 use compare::Refused;
 use differ::Differences;
@@ -373,6 +373,17 @@ fn compare_pair(
     write_line(process, c, line1, p, line2, q)
 }
 
+// Behind a pair the first line of the next one is sought. Where its answer could not be written, all is done.
+fn answered(t: Turn, ok: bool) -> Turn
+    ensures { Onward t result }
+{
+    Turn {
+        state: frames::kept(t.state, ok),
+        first: None, // sought anew
+        second: None,
+    }
+}
+
 // At the beginning the first line of a pair is sought.
 fn begin() -> Turn
     ensures { Within 0 0 0 result }
@@ -400,7 +411,7 @@ fn ended(process: &Process, t: Turn) -> bool {
     t.state.ok
 }
 
-// A turn, and the answer where it has made a pair whole. Behind a pair the first line of the next one is sought; where its answer could not be written, all is done.
+// A turn, and the answer where it has made a pair whole.
 fn step(
     process: &mut Process,
     line1: &mut [u8],
@@ -431,11 +442,7 @@ fn step(
         elements1,
         elements2,
     );
-    Turn {
-        state: frames::kept(u.state, ok),
-        first: None,
-        second: None,
-    }
+    answered(u, ok)
 }
 
 // Compares all pairs of the input. Answers whether nothing failed.
