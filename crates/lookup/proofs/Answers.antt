@@ -5,7 +5,9 @@ use mathlib.Core.Path.{◌≡◌, refl, sym, ◌∙◌}
 use mathlib.Core.Bool.{Bool}
 use mathlib.Core.List.{List}
 use lib.ListN.{length}
+use native.Mathlib.Omega.{arith}
 use borrow.Author.Tests.{lt-ltb, le-ltb}
+use Rattle.output.specs.Fits.{Fits}
 use Rattle.output.specs.Output.{Wrote}
 use Rattle.output.proofs.Writes.{written_front}
 use Rattle.record.specs.declared.Record.{Record}
@@ -13,17 +15,27 @@ use Rattle.record.specs.declared.Refusal.TheVariants.{OutputShort}
 use Rattle.lookup.specs.Unescape.{unescaped}
 use Rattle.lookup.specs.Lookup.{Found, Looks}
 use Rattle.lookup.specs.Steps.{Gives}
+use Rattle.lookup.proofs.Unescaping.{unescaped_le}
 use Rattle.record.specs.declared.Refusal.{Refusal}
 
 -- the value is known
-module _ (loose : Bool) (v out : List ℕ) (n : ℕ) (e : n ≡ length (unescaped loose v)) where
-  pub value_short : length out < n → Gives loose (Found.value v) out (Err OutputShort) out
-  value_short h = record { answer = rw (← e, lt-ltb (length out) n h); output = refl }
+module _ (loose : Bool) (v out : List ℕ) where
+  pub value_short : (n : ℕ) → n ≡ length (unescaped loose v) → length out < n → Gives loose (Found.value v) out (Err OutputShort) out
+  value_short n e h = record { answer = rw (← e, lt-ltb (length out) n h); output = refl }
 
-  pub value_done : n ≤ length out → (k : ℕ) (after : List ℕ) → Wrote out 0 (unescaped loose v) k after → Gives loose (Found.value v) out (Ok n) after
-  value_done h k after w = record { answer = rw (← e, le-ltb (length out) n h); output = w.holds ∙ written_front out (unescaped loose v) }
+  -- an output as long as the value has room for what is unescaped, and so has one as long as that
+  pub room_of_value : length v ≤ length out → Fits out 0 (unescaped loose v)
+  room_of_value h = record { fits = omega (arith, unescaped_le loose v) }
 
-pub ruleset value_laws = (value_short, value_done)
+  pub room_of_length : (n : ℕ) → n ≡ length (unescaped loose v) → n ≤ length out → Fits out 0 (unescaped loose v)
+  room_of_length n e h = record { fits = omega arith }
+
+  pub value_done : Fits out 0 (unescaped loose v) → (n : ℕ) (after : List ℕ) → Wrote out 0 (unescaped loose v) n after → Gives loose (Found.value v) out (Ok n) after
+  value_done f n after w =
+      let q : n ≡ length (unescaped loose v) = omega (arith, w.behind) in
+      record { answer = rw (q, le-ltb (length out) (length (unescaped loose v)) (omega (arith, f.fits))); output = w.holds ∙ written_front out (unescaped loose v) }
+
+pub ruleset value_laws = (value_short, room_of_value, room_of_length, value_done)
 
 -- the contract leaves one answer and one output
 pub looks_one : {line : List ℕ} {r : Record} {e p : ℕ} {elements params : List (List ℕ)} {id name : List ℕ} {kind : ℕ} {out : List ℕ} {w w' : (Result ℕ Refusal)} {after after' : List ℕ}

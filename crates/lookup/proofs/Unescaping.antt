@@ -55,6 +55,24 @@ module _ (added : Added) where
 
 pub ruleset added_laws = (added_none, added_fits, added_one, added_pair, two_laws)
 
+-- a byte that adds nothing is a backslash, and takes the next
+taken_next : (loose taken : Bool) (x : ℕ) → eqb (length (adds loose taken x)) 0 ≡ (not taken && eqb x 92)
+taken_next loose true x = pair (is_escaped x) (loose && eqb x 110)
+  where
+    pair : (e n : Bool) → eqb (length (if e then x ∷ [] else if n then 10 ∷ [] else 92 ∷ x ∷ [])) 0 ≡ false
+    pair true n = refl
+    pair false true = refl
+    pair false false = refl
+taken_next loose false x = plain (eqb x 92)
+  where
+    plain : (e : Bool) → eqb (length (if e then [] else x ∷ [])) 0 ≡ e
+    plain true = refl
+    plain false = refl
+
+pub takes_next : (loose taken : Bool) (x : ℕ) (b : Added) → bytes_of b ≡ adds loose taken x → (next : Bool) → next ≡ eqb (length (bytes_of b)) 0
+    → next ≡ (not taken && eqb x 92)
+takes_next loose taken x b eb next e = e ∙ ap (λ (l : List ℕ). eqb (length l) 0) eb ∙ taken_next loose taken x
+
 -- a byte adds at most itself, and a backslash that was kept back for it
 abbrev kept : Bool → ℕ
 kept taken = if taken then 1 else 0
@@ -101,11 +119,11 @@ module _ (v : List ℕ) (loose taken : Bool) (n i : ℕ) (inv : n + length (unes
   count y d = omega (arith, ap length d.is, length-append (bytes_of b) y)
 
   module _ (h : i < length v) (eb : bytes_of b ≡ adds loose taken (get_or v i 0)) where
-    pub len_more : n + m + length (unescaped_from loose (not taken && eqb (get_or v i 0) 92) (drop (i + 1) v)) ≡ length (unescaped loose v)
-    len_more = count _ (next_two v loose taken i b h eb)
+    pub len_more : (next : Bool) → next ≡ (not taken && eqb (get_or v i 0) 92) → n + m + length (unescaped_from loose next (drop (i + 1) v)) ≡ length (unescaped loose v)
+    len_more next en = rw en (count _ (next_two v loose taken i b h eb))
 
     pub len_fits : length v < 2 ^ 64 → val.Fits w64 (n + m)
-    len_fits l = record { fits = omega (arith, len_more, unescaped_le loose v) }
+    len_fits l = record { fits = omega (arith, len_more _ refl, unescaped_le loose v) }
 
   module _ (h : length v ≤ i) (eb : bytes_of b ≡ unescaped_from loose taken []) where
     pub len_all : n + m ≡ length (unescaped loose v)
@@ -114,7 +132,7 @@ module _ (v : List ℕ) (loose taken : Bool) (n i : ℕ) (inv : n + length (unes
     pub len_all_fits : length v < 2 ^ 64 → val.Fits w64 (n + m)
     len_all_fits l = record { fits = omega (arith, len_all, unescaped_le loose v) }
 
-pub ruleset len_laws = (len_more, len_fits, len_all, len_all_fits)
+pub ruleset len_laws = (takes_next, len_more, len_fits, len_all, len_all_fits)
 
 -- a text that is due from `at` on in `o`: with `t` from `a` on, where it fits, `p` holds it
 pub record Due (o : List ℕ) (at : ℕ) (text p : List ℕ) (a : ℕ) (t : List ℕ) : Type 0 where
@@ -162,4 +180,4 @@ module _ (v : List ℕ) (loose taken : Bool) (i : ℕ) (o : List ℕ) (at : ℕ)
     pub put_all : (n : ℕ) (q : List ℕ) → Wrote p a (bytes_of b) n q → Wrote o at (unescaped loose v) n q
     put_all n q e = due_none o at _ q n (due_rest o at _ p a _ _ _ w (tail_two v loose taken i b h eb) n q e)
 
-pub ruleset put_laws = (due_all, put_fits, put_more, put_all_fits, put_all)
+pub ruleset put_laws = (due_all, takes_next, put_fits, put_more, put_all_fits, put_all)

@@ -1,7 +1,7 @@
 // Lookup: the unescaped value of the first parameter with a given element id and name.
 #![tactic(auto)]
 
-ghost use Rattle.std.specs.Prelude.{◌≡◌, true, [], ◌+◌, ◌≤◌, length, take, MatchOption};
+ghost use Rattle.std.specs.Prelude.{◌≡◌, true, [], ◌+◌, ◌≤◌, eqb, length, take, MatchOption};
 ghost use Rattle.record.specs.Params.{rows};
 ghost use Rattle.base.specs.Texts.{text_at, same_text};
 ghost use Rattle.output.specs.Fits.{Fits};
@@ -68,16 +68,16 @@ enum Added {
     Pair(u8),
 }
 
-// `taken`: the byte before is a backslash that takes this one.
+// `taken`: the byte before is a backslash that takes this one. The three bytes by `|`, since a pattern of them takes longer.
 fn turn(loose: bool, taken: bool, b: u8) -> Added
     ensures { bytes_of result ≡ adds loose taken b }
 {
-    match b {
-        b'\\' if !taken => Added::Nothing,
-        _ if !taken => Added::One(b),
-        b'"' | b'\\' | b']' => Added::One(b),
-        b'n' if loose => Added::One(b'\n'),
-        _ => Added::Pair(b),
+    match (taken, b) {
+        (false, b'\\') => Added::Nothing,
+        (false, _) => Added::One(b),
+        (true, _) if (b == b'"') | (b == b'\\') | (b == b']') => Added::One(b),
+        (true, b'n') if loose => Added::One(b'\n'),
+        (true, _) => Added::Pair(b),
     }
 }
 
@@ -117,15 +117,23 @@ fn put_added(out: &mut [u8], at: usize, added: Added) -> usize
     }
 }
 
+// Whether the byte that adds this takes the next: it adds nothing itself.
+fn takes_next(added: Added) -> bool
+    ensures { result ≡ eqb (length (bytes_of added)) 0 }
+{
+    matches!(added, Added::Nothing)
+}
+
 // The length of the value unescaped.
 fn unescaped_len(v: &[u8], loose: bool) -> usize
     ensures { result ≡ length (unescaped loose v.now) }
 {
     let mut n = 0;
     let mut taken = false;
-    for b in v {
-        n += added_len(turn(loose, taken, *b));
-        taken = !taken & (*b == b'\\');
+    for &b in v {
+        let added = turn(loose, taken, b);
+        n += added_len(added);
+        taken = takes_next(added);
     }
     n + added_len(tail(loose, taken))
 }
@@ -137,23 +145,22 @@ pub fn put_unescaped(out: &mut [u8], at: usize, v: &[u8], loose: bool) -> usize
 {
     let mut next = at;
     let mut taken = false;
-    for b in v {
-        next = put_added(out, next, turn(loose, taken, *b));
-        taken = !taken & (*b == b'\\');
+    for &b in v {
+        let added = turn(loose, taken, b);
+        next = put_added(out, next, added);
+        taken = takes_next(added);
     }
     put_added(out, next, tail(loose, taken))
 }
 
-// Refusal 8, or the value unescaped.
+// Refusal 8, or the value unescaped. That is no longer than the value, so its length is asked for only where the output is shorter.
 fn put_value(v: &[u8], loose: bool, out: &mut [u8]) -> Result<usize, Refusal>
     ensures { Gives loose (Found.value v.now) out.old result out.new }
 {
-    let n = unescaped_len(v, loose);
-    if out.len() < n {
+    if out.len() < v.len() && out.len() < unescaped_len(v, loose) {
         return Err(Refusal::OutputShort);
     }
-    put_unescaped(out, 0, v, loose);
-    Ok(n)
+    Ok(put_unescaped(out, 0, v, loose))
 }
 
 // The service: the unescaped value of the first parameter with that id and that name, into `out`.
